@@ -1,0 +1,243 @@
+/* The steps of a lone column in plain C, in place, with the refusals of document 01: what crates/column is measured beside.
+ * Standard input is a step's letter and a number of laps, as for crates/timing; the number printed must be the same. */
+#include <stdbool.h>
+#include <stdint.h>
+#include <stdio.h>
+
+struct tree {
+    size_t columns;
+    size_t root;
+    size_t up[16];
+};
+
+struct column {
+    bool running;
+    uint16_t number;
+    uint64_t doors;
+    uint16_t send, awaited, owed, noted;
+    bool whole;
+};
+
+struct packet {
+    uint8_t kind; /* 0: none, 1: message, 2: acknowledgement */
+    uint8_t from, to;
+    uint16_t number;
+    uint64_t doors;
+};
+
+struct answer {
+    uint8_t refusal;
+    bool left;
+    struct packet put;
+};
+
+static bool has(uint16_t set, size_t i) { return i < 16 && (set >> i & 1); }
+
+static bool within(uint16_t set, size_t n) { return n >= 16 || set >> n == 0; }
+
+static uint8_t tree_refusal(const struct tree *t) {
+    size_t n = t->columns;
+    if (n == 0 || n > 16)
+        return 2;
+    if (t->root >= n)
+        return 3;
+    for (size_t c = 0; c < n; c++)
+        if (t->up[c] >= n)
+            return 3;
+    if (t->up[t->root] != t->root)
+        return 3;
+    for (size_t c = 0; c < n; c++) {
+        size_t at = c, budget = n;
+        while (budget > 0 && at != t->root) {
+            at = t->up[at];
+            budget--;
+        }
+        if (budget == 0)
+            return 3;
+    }
+    return 0;
+}
+
+static uint8_t standing(const struct tree *t, size_t i, const struct column *c) {
+    uint8_t refusal = tree_refusal(t);
+    if (refusal)
+        return refusal;
+    if (i >= t->columns || !within(c->send | c->awaited | c->owed | c->noted, t->columns) || has(c->owed, i)
+        || (i == t->root && !c->whole))
+        return 4;
+    return 0;
+}
+
+static uint16_t children(const struct tree *t, size_t c) {
+    uint16_t set = 0;
+    for (size_t j = 0; j < t->columns; j++)
+        if (t->up[j] == c && j != t->root)
+            set |= 1u << j;
+    return set;
+}
+
+static size_t lowest(uint16_t set) { return (size_t)__builtin_ctz(set); }
+
+static struct answer refused(uint8_t number) { return (struct answer){.refusal = number}; }
+
+static struct answer order(const struct tree *t, size_t i, struct column *c, uint64_t doors) {
+    uint8_t refusal = standing(t, i, c);
+    if (refusal)
+        return refused(refusal);
+    if (i != t->root)
+        return refused(4);
+    if (!c->running)
+        return refused(5);
+    if (c->send || c->awaited)
+        return refused(7);
+    if (c->number == 65535)
+        return refused(8);
+    c->number++;
+    c->doors = doors;
+    c->send = children(t, i);
+    return refused(0);
+}
+
+static struct answer send(const struct tree *t, size_t i, struct column *c) {
+    uint8_t refusal = standing(t, i, c);
+    if (refusal)
+        return refused(refusal);
+    if (!c->running)
+        return refused(5);
+    if (!c->send)
+        return refused(6);
+    size_t k = lowest(c->send);
+    c->send &= ~(1u << k);
+    if (k == i)
+        return refused(0);
+    if (has(c->noted, k)) {
+        c->send |= children(t, k);
+        return refused(0);
+    }
+    c->awaited |= 1u << k;
+    return (struct answer){.put = {1, (uint8_t)i, (uint8_t)k, c->number, c->doors}};
+}
+
+static struct packet to_lowest(size_t i, struct column *c) {
+    size_t k = lowest(c->owed);
+    c->owed &= ~(1u << k);
+    return (struct packet){2, (uint8_t)i, (uint8_t)k, c->number, 0};
+}
+
+static struct answer take(const struct tree *t, size_t i, struct column *c, struct packet p) {
+    uint8_t refusal = standing(t, i, c);
+    if (refusal)
+        return refused(refusal);
+    if (p.from >= t->columns || p.to >= t->columns || p.from == p.to || (p.kind == 1 && p.to == t->root) || p.to != i)
+        return refused(4);
+    if (!c->running)
+        return refused(5);
+    if (p.kind == 2) {
+        if (p.number == c->number)
+            c->awaited &= ~(1u << p.from);
+        return refused(0);
+    }
+    if (p.number == c->number) {
+        c->owed |= 1u << p.from;
+        return refused(0);
+    }
+    if (p.number < c->number)
+        return (struct answer){.put = {2, (uint8_t)i, p.from, p.number, 0}};
+    if (c->owed)
+        return (struct answer){.left = true, .put = to_lowest(i, c)};
+    c->number = p.number;
+    c->doors = p.doors;
+    c->send = children(t, i);
+    c->awaited = 0;
+    c->owed = 1u << p.from;
+    c->whole = false;
+    return refused(0);
+}
+
+static struct answer ack(const struct tree *t, size_t i, struct column *c) {
+    uint8_t refusal = standing(t, i, c);
+    if (refusal)
+        return refused(refusal);
+    if (!c->running)
+        return refused(5);
+    if (!c->owed || (!c->whole && (c->send || c->awaited)))
+        return refused(6);
+    return (struct answer){.put = to_lowest(i, c)};
+}
+
+static struct answer all(const struct tree *t, size_t i, struct column *c) {
+    uint8_t refusal = standing(t, i, c);
+    if (refusal)
+        return refused(refusal);
+    if (!c->running)
+        return refused(5);
+    if (i == t->root || !has(c->noted, t->root) || c->whole || c->send || c->awaited)
+        return refused(6);
+    c->whole = true;
+    c->send = 1u << t->root;
+    return refused(0);
+}
+
+static struct answer note(const struct tree *t, size_t i, struct column *c, size_t j) {
+    uint8_t refusal = standing(t, i, c);
+    if (refusal)
+        return refused(refusal);
+    if (j >= t->columns)
+        return refused(4);
+    if (!c->running)
+        return refused(5);
+    if (j == i || has(c->noted, j))
+        return refused(6);
+    c->noted |= 1u << j;
+    if (has(c->awaited, j)) {
+        c->awaited &= ~(1u << j);
+        c->send |= children(t, j);
+    }
+    return refused(0);
+}
+
+static struct answer halt(const struct tree *t, size_t i, struct column *c) {
+    uint8_t refusal = standing(t, i, c);
+    if (refusal)
+        return refused(refusal);
+    if (!c->running)
+        return refused(5);
+    c->running = false;
+    return refused(0);
+}
+
+static struct column column(uint64_t lap, bool whole) {
+    return (struct column){.running = true, .number = lap % 1000, .doors = lap, .whole = whole};
+}
+
+static struct column lap_of(char letter, uint64_t lap) {
+    struct tree t = {16, 0, {0, 0, 0, 1, 1, 2, 2, 3, 3, 4, 4, 5, 5, 6, 6, 6 + lap % 2}};
+    struct column c = column(lap, letter == 'o' || letter == 's' || letter == 'e' || letter == 'n' || letter == 'r');
+    switch (letter) {
+    case 'o': order(&t, 0, &c, lap); break;
+    case 's': c.send = 6; send(&t, 0, &c); break;
+    case 'm': take(&t, 1, &c, (struct packet){1, 0, 1, 1000, lap}); break;
+    case 'e': c.awaited = 6; take(&t, 0, &c, (struct packet){2, 2, 0, c.number, 0}); break;
+    case 'a': c.owed = 9; ack(&t, 2, &c); break;
+    case 'l': c.noted = 1; all(&t, 3, &c); break;
+    case 'n': c.awaited = 6; note(&t, 0, &c, 1); break;
+    case 'h': halt(&t, 5, &c); break;
+    default: send(&t, 0, &c); break;
+    }
+    return c;
+}
+
+int main(void) {
+    char letter;
+    unsigned long long laps;
+    if (scanf(" %c %llu", &letter, &laps) != 2)
+        return 1;
+    uint64_t sum = 0;
+    for (uint64_t lap = 0; lap < laps; lap++) {
+        struct column c = lap_of(letter, lap);
+        uint64_t sets = (uint64_t)c.send + c.awaited + c.owed + c.noted;
+        sum = (sum % 16777216 * 31 + c.number + sets + c.running) % 16777216;
+    }
+    printf("%llu\n", (unsigned long long)sum);
+    return 0;
+}

@@ -1,0 +1,97 @@
+use borrow.Author.Needs.{needs}
+use mathlib.Core.Path.{_≡_, sym, _∙_}
+use mathlib.Core.Bool.{true, not}
+use mathlib.Core.List.{[], _∷_}
+use borrow.Author.Tests.{eq-eqb, ne-eqb, lt-ltb, le-ltb, lt-leb, le-leb, not-true, not-false}
+use lib.Dec.{eqb}
+use Rattle.column.specs.Refusals.{first}
+use Rattle.column.specs.Trees.{parent, every, parentBelow, climbsIn, treeRefusal}
+use Rattle.column.proofs.tree.tree_refusal.Statement.{statement}
+use Rattle.column.proofs.tree.tree_refusal.Tie as tie
+
+-- what is left to test where the root is below
+past-root : (c : tie.Else3)
+    → let t = c .before .before .before .args .t in
+    treeRefusal t
+    ≡ first
+    ((3, not (every (parentBelow t) (t .columns)))
+    ∷ (3, not (eqb (parent t (t .root)) (t .root)))
+    ∷ (3, not (every (climbsIn t (t .columns)) (t .columns)))
+    ∷ [])
+unfolding treeRefusal
+past-root c =
+    let e2 = c .before in
+    simp (ne-eqb _ _ (e2 .before .if1 .left), le-ltb _ _ (e2 .if2 .left), lt-leb _ _ (c .if3 .left))
+
+parents-hold : (c : tie.Else4)
+    → let t = c .before .before .before .before .before .before .before .args .t in
+    every (parentBelow t) (t .columns) ≡ true
+parents-hold c = sym (c .before .parents-below .ensures) ∙ not-false _ (c .if4 .left)
+
+-- what is left to test where the root is its own parent
+past-own : (c : tie.Else5)
+    → let t = c .before .before .before .before .before .before .before .before .args .t in
+    treeRefusal t ≡ first ((3, not (every (climbsIn t (t .columns)) (t .columns))) ∷ [])
+past-own c =
+    let e4 = c .before in
+    let e3 = e4 .before .before .before .before in
+    let t = e3 .before .before .before .args .t in
+    past-root e3 ∙ simp (parents-hold e4, eq-eqb (parent t (t .root)) (t .root) (c .if5 .left))
+
+returns : tie.Need-returns
+unfolding treeRefusal
+returns c = simp (eq-eqb _ _ (c .if1 .taken))
+
+returns-2 : tie.Need-returns-2
+unfolding treeRefusal
+returns-2 c = simp (ne-eqb _ _ (c .before .if1 .left), lt-ltb _ _ (c .if2 .taken))
+
+returns-3 : tie.Need-returns-3
+unfolding treeRefusal
+returns-3 c =
+    let e2 = c .before in
+    simp (ne-eqb _ _ (e2 .before .if1 .left), le-ltb _ _ (e2 .if2 .left), le-leb _ _ (c .if3 .taken))
+
+parents-below-requires : tie.Need-parents-below-requires
+parents-below-requires c κs = search needs
+
+returns-4 : tie.Need-returns-4
+returns-4 c = rw (past-root (c .before .before .before .before), sym (c .before .parents-below .ensures) ∙ not-true _ (c .if4 .taken))
+
+mul-if5 : tie.Need-mul-if5
+mul-if5 c = search needs
+
+array-read-if5 : tie.Need-array-read-if5
+array-read-if5 c = search needs
+
+returns-5 : tie.Need-returns-5
+returns-5 c =
+    let e4 = c .before in
+    let e3 = e4 .before .before .before .before in
+    let t = e3 .before .before .before .args .t in
+    rw (past-root e3) (simp (parents-hold e4, ne-eqb (parent t (t .root)) (t .root) (c .if5 .taken)))
+
+climbs-end-requires : tie.Need-climbs-end-requires
+climbs-end-requires c κs = (search needs, parents-hold (c .before .before))
+
+returns-6 : tie.Need-returns-6
+returns-6 c = rw (past-own (c .before .before .before), sym (c .before .climbs-end .ensures) ∙ not-true _ (c .if6 .taken))
+
+returns-7 : tie.Need-returns-7
+returns-7 c = rw (past-own (c .before .before .before), sym (c .before .climbs-end .ensures) ∙ not-false _ (c .if6 .left))
+
+pub tree-refusal-spec : {M : Type 1} → statement M
+tree-refusal-spec =
+    tie.close
+    (tie.spec
+    returns
+    returns-2
+    returns-3
+    parents-below-requires
+    returns-4
+    mul-if5
+    array-read-if5
+    returns-5
+    climbs-end-requires
+    returns-6
+    returns-7)

@@ -1,0 +1,65 @@
+-- What a column holds, after document 01, "What a column holds", and what row 4 asks of it.
+use Prim.Native.Nat.{ℕ}
+use mathlib.Core.Bool.{Bool, true, not, _&&_}
+use mathlib.Core.List.{List, [], _∷_}
+use lib.Dec.{eqb, leb}
+use Rattle.column.specs.Refusals.{first, earlier, Given, given, refused, givenUnless}
+use Rattle.column.specs.Sets.{has, within}
+use Rattle.column.specs.Trees.{treeRefusal, columnRefusal}
+use Rattle.column.specs.declared.tree.Tree.{Tree}
+use Rattle.column.specs.declared.state.Column.{Column}
+use Rattle.column.specs.declared.state.FreshColumn.{FreshColumn}
+use Rattle.column.specs.declared.state.FreshColumn.the-variants.{Is, Refused}
+
+-- "order number (16 bits, 0 to 65,535)"
+abbrev pub highest : ℕ
+highest = 65535
+
+-- "Fresh: all columns run, number 0, doors clear, sets empty, goal own subtree; the root's goal is always the whole bank."
+abbrev pub fresh : Tree → ℕ → Column
+fresh t i = record { running = true; number = 0; doors = 0; send = 0; awaited = 0; owed = 0; noted = 0; whole = eqb i (t .root) }
+
+-- the values of each case of `FreshColumn`
+abbrev pub freshMeant : FreshColumn → Given Column
+freshMeant (Is c) = given c
+freshMeant (Refused n) = refused n
+
+abbrev pub freshGiven : Tree → ℕ → Given Column
+freshGiven t i = givenUnless (columnRefusal t i) (fresh t i)
+
+-- "4 meets a column number or set member not below columns, a column owing itself, a root with a goal other than the whole bank"
+abbrev pub stateConditions : Tree → ℕ → Column → List (ℕ × Bool)
+stateConditions t i c =
+    (4, leb (t .columns) i)
+    ∷ (4, not (within (c .send) (t .columns)))
+    ∷ (4, not (within (c .awaited) (t .columns)))
+    ∷ (4, not (within (c .owed) (t .columns)))
+    ∷ (4, not (within (c .noted) (t .columns)))
+    ∷ (4, has (c .owed) i)
+    ∷ (4, eqb i (t .root) && not (c .whole))
+    ∷ []
+
+unfoldable pub stateRefusal : Tree → ℕ → Column → ℕ
+stateRefusal t i c = first (stateConditions t i c)
+
+-- "Before all else a tree that breaks row 2 or 3 gives that number. Next, 4"
+abbrev pub standing : Tree → ℕ → Column → ℕ
+standing t i c = earlier (treeRefusal t) (stateRefusal t i c)
+
+-- "neither sends nor awaits"
+abbrev pub idle : Column → Bool
+idle c = eqb (c .send) 0 && eqb (c .awaited) 0
+
+-- the column with other sets to send to, to await, and to owe
+abbrev pub withSets : Column → ℕ → ℕ → ℕ → Column
+withSets c s a o =
+    record {
+      running = c .running;
+      number = c .number;
+      doors = c .doors;
+      send = s;
+      awaited = a;
+      owed = o;
+      noted = c .noted;
+      whole = c .whole;
+    }

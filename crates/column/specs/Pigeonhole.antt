@@ -1,0 +1,80 @@
+-- Any n + 1 numbers below n have two equal ones among them. Assumes nothing.
+use Prim.Native.Nat.{ℕ, zero, suc, _≤_, _<_}
+use mathlib.Core.Path.{_≡_, sym, ap, _∙_}
+use mathlib.Core.Bool.{cond}
+use mathlib.Core.Logic.{_⊎_, inl, inr}
+use native.Mathlib.Omega.{arith}
+use lib.Dec.{eqb}
+use borrow.Author.Tests.{eq-eqb, ne-eqb}
+use Rattle.column.specs.Cases.{equal-cases}
+
+-- two equal values of f, at places up to n
+pub record Twice (f : ℕ → ℕ) (n : ℕ) : Type 0 where
+  pub one : ℕ
+  pub other : ℕ
+  pub before : one < other
+  pub within : other ≤ n
+  pub equal : f one ≡ f other
+
+-- v is a value of f below n, or it is none
+abbrev Found : (ℕ → ℕ) → ℕ → ℕ → Type 0
+Found f v n = ((i : ℕ) × (i < n) × (f i ≡ v)) ⊎ ((i : ℕ) → i < n → f i ≡ v → ⊥)
+
+search-below : (f : ℕ → ℕ) (v n : ℕ) → Found f v n
+search-below f v zero = inr (λ i l e. omega arith)
+search-below f v (suc n) = go (search-below f v n) (equal-cases (f n) v)
+  where
+    go : Found f v n → (f n ≡ v) ⊎ (f n ≡ v → ⊥) → Found f v (suc n)
+    go (inl r) q = inl (r .0, omega arith, r .2)
+    go (inr none) (inl e) = inl (n, omega arith, e)
+    go (inr none) (inr ne) = inr (λ i l e. last i e l (equal-cases i n))
+      where
+        last : (i : ℕ) → f i ≡ v → i < suc n → (i ≡ n) ⊎ (i ≡ n → ⊥) → ⊥
+        last i e l (inl p) = ne (ap f (sym p) ∙ e)
+        last i e l (inr p) = none i (omega arith) e
+
+-- where the last value v is met nowhere before, the value n can give way to it
+module _ (f : ℕ → ℕ) (n v : ℕ) where
+  swapped : ℕ → ℕ
+  swapped i = cond (eqb (f i) n) v (f i)
+
+  swapped-lt : (i : ℕ) → f i < suc n → v < suc n → (f i ≡ v → ⊥) → swapped i < n
+  unfolding swapped
+  swapped-lt i l h ne = go (equal-cases (f i) n)
+    where
+      go : (f i ≡ n) ⊎ (f i ≡ n → ⊥) → swapped i < n
+      go (inl p) = rw (eq-eqb (f i) n p) (below (equal-cases v n))
+        where
+          below : (v ≡ n) ⊎ (v ≡ n → ⊥) → v < n
+          below (inl e) = absurd (ne (p ∙ sym e))
+          below (inr e) = omega arith
+      go (inr p) = rw (ne-eqb (f i) n p) (omega arith)
+
+  swapped-equal : (i j : ℕ) → (f i ≡ v → ⊥) → (f j ≡ v → ⊥) → swapped i ≡ swapped j → f i ≡ f j
+  unfolding swapped
+  swapped-equal i j ni nj e = go (equal-cases (f i) n) (equal-cases (f j) n)
+    where
+      go : (f i ≡ n) ⊎ (f i ≡ n → ⊥) → (f j ≡ n) ⊎ (f j ≡ n → ⊥) → f i ≡ f j
+      go (inl p) (inl q) = p ∙ sym q
+      go (inl p) (inr q) = absurd (nj (sym (rw (eq-eqb (f i) n p, ne-eqb (f j) n q) at e)))
+      go (inr p) (inl q) = absurd (ni (rw (ne-eqb (f i) n p, eq-eqb (f j) n q) at e))
+      go (inr p) (inr q) = rw (ne-eqb (f i) n p, ne-eqb (f j) n q) at e
+
+pub pigeonhole : (n : ℕ) (f : ℕ → ℕ) → ((i : ℕ) → i ≤ n → f i < n) → Twice f n
+pigeonhole zero f h = absurd (omega (arith, h 0 (omega arith)))
+pigeonhole (suc n) f h = go (search-below f (f (suc n)) (suc n)) (pigeonhole n (swapped f n (f (suc n))))
+  where
+    go : Found f (f (suc n)) (suc n)
+        → (((i : ℕ) → i ≤ n → swapped f n (f (suc n)) i < n) → Twice (swapped f n (f (suc n))) n)
+        → Twice f (suc n)
+    go (inl r) ih = record { one = r .0; other = suc n; before = r .1; within = omega arith; equal = r .2 }
+    go (inr none) ih =
+        let w : Twice (swapped f n (f (suc n))) n =
+        ih (λ i l. swapped-lt f n (f (suc n)) i (h i (omega arith)) (h (suc n) (omega arith)) (none i (omega arith))) in
+        record {
+          one = w .one;
+          other = w .other;
+          before = w .before;
+          within = omega arith;
+          equal = swapped-equal f n (f (suc n)) (w .one) (w .other) (none (w .one) (omega arith)) (none (w .other) (omega arith)) (w .equal);
+        }

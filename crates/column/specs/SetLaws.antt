@@ -1,0 +1,279 @@
+-- Laws of sets of columns, over any width: who is a member after each operation, which member is the lowest, how many there are.
+-- Assumes nothing.
+use Prim.Native.Nat.{ℕ, zero, suc, _+_, _/_, _%_, _^_, _≤_, _<_, max}
+use mathlib.Core.Path.{_≡_, refl, sym, ap, ap₂, _∙_}
+use mathlib.Core.Bool.{Bool, true, false, not, _&&_, _||_, cond, and-true, and-false, or-false, and-or-distrib-left}
+use mathlib.Core.Logic.{_⊎_, inl, inr}
+use native.Mathlib.Nat.{pow-suc, div-lt-iff-lt-mul, div-eq-of-lt, le-refl}
+use native.Mathlib.Omega.{arith}
+use lib.Dec.{eqb}
+use lib.Bits.{bitAnd, bitOr, and-le-l, and-le-r, bitXor, differ, or-lt, xor-lt, or-zero-l, or-zero-r, xor-zero-r, or-add-and, or-shr}
+use lib.Count.{trailingZeros, under, ones, ones-step}
+use lib.Pow.{pow-pos, pow-lt}
+use borrow.Author.Tests.{eq-eqb, ne-eqb, eqb-true}
+use Rattle.column.specs.Cases.{compare-cases, equal-cases}
+use Rattle.column.specs.Sets.{digit, has, single, join, insert, without, lowestIn, within, selected}
+use Rattle.column.specs.Digits.{digit-lt, digit-cases, digit-zero, digit-suc, digit-none, digit-above, digit-single, digit-other, digit-and, digit-or, digit-xor, or-half, xor-half, same-digits, has-true, has-false, true-has, false-has}
+
+-- ---- who is a member
+
+pub has-none : (i : ℕ) → has 0 i ≡ false
+has-none i = has-false 0 i (digit-none i)
+
+pub has-above : (k m i : ℕ) → m < 2 ^ k → k ≤ i → has m i ≡ false
+has-above k m i h l = has-false m i (digit-above k m i h l)
+
+pub has-join : (a b i : ℕ) → has (join a b) i ≡ (has a i || has b i)
+has-join a b i = go (digit-cases a i) (digit-cases b i)
+  where
+    go : (digit a i ≡ 0) ⊎ (digit a i ≡ 1) → (digit b i ≡ 0) ⊎ (digit b i ≡ 1) → has (join a b) i ≡ (has a i || has b i)
+    go (inr p) q = rw (has-true a i p) (has-true (join a b) i (omega (arith, digit-or a b i, digit-lt b i)))
+    go (inl p) (inr q) = rw (has-false a i p, has-true b i q) (has-true (join a b) i (omega (arith, digit-or a b i)))
+    go (inl p) (inl q) = rw (has-false a i p, has-false b i q) (has-false (join a b) i (omega (arith, digit-or a b i)))
+
+pub has-and : (a b i : ℕ) → has (bitAnd a b) i ≡ (has a i && has b i)
+has-and a b i = go (digit-cases a i) (digit-cases b i)
+  where
+    go : (digit a i ≡ 0) ⊎ (digit a i ≡ 1) → (digit b i ≡ 0) ⊎ (digit b i ≡ 1) → has (bitAnd a b) i ≡ (has a i && has b i)
+    go (inl p) q = rw (has-false a i p) (has-false (bitAnd a b) i (omega (arith, digit-and a b i)))
+    go (inr p) (inl q) = rw (has-true a i p, has-false b i q) (has-false (bitAnd a b) i (omega (arith, digit-and a b i)))
+    go (inr p) (inr q) = rw (has-true a i p, has-true b i q) (has-true (bitAnd a b) i (omega (arith, digit-and a b i)))
+
+pub has-single : (i j : ℕ) → has (single i) j ≡ eqb j i
+has-single i j = go (equal-cases j i)
+  where
+    go : (j ≡ i) ⊎ (j ≡ i → ⊥) → has (single i) j ≡ eqb j i
+    go (inl e) = rw e (has-true (single i) i (digit-single i) ∙ sym (eq-eqb i i refl))
+    go (inr n) = has-false (single i) j (digit-other i j (λ e. n (sym e))) ∙ sym (ne-eqb j i n)
+
+pub has-insert : (m i j : ℕ) → has (insert m i) j ≡ (has m j || eqb j i)
+has-insert m i j = has-join m (single i) j ∙ ap (λ (b : Bool). has m j || b) (has-single i j)
+
+flipped : (d : ℕ) → d < 2 → differ (max d 0) 0 ≡ d
+flipped zero h = refl
+flipped (suc zero) h = refl
+flipped (suc (suc d)) h = absurd (omega arith)
+
+struck : (d : ℕ) → d < 2 → differ (max d 1) 1 ≡ 0
+struck zero h = refl
+struck (suc zero) h = refl
+struck (suc (suc d)) h = absurd (omega arith)
+
+digit-without : (m i j d : ℕ) → digit (2 ^ i) j ≡ d → digit (without m i) j ≡ differ (max (digit m j) d) d
+digit-without m i j d e =
+    digit-xor (insert m i) (2 ^ i) j ∙ ap (λ (x : ℕ). differ x (digit (2 ^ i) j)) (digit-or m (2 ^ i) j) ∙ ap (λ (x : ℕ). differ (max (digit m j) x) x) e
+
+digit-without-other : (m i j : ℕ) → (j ≡ i → ⊥) → digit (without m i) j ≡ digit m j
+digit-without-other m i j n = digit-without m i j 0 (digit-other i j (λ e. n (sym e))) ∙ flipped (digit m j) (digit-lt m j)
+
+pub has-without : (m i j : ℕ) → has (without m i) j ≡ (has m j && not (eqb j i))
+has-without m i j = go (equal-cases j i)
+  where
+    here : (j ≡ i) → digit (2 ^ i) j ≡ 1
+    here e = ap (λ (x : ℕ). digit (2 ^ i) x) e ∙ digit-single i
+
+    go : (j ≡ i) ⊎ (j ≡ i → ⊥) → has (without m i) j ≡ (has m j && not (eqb j i))
+    go (inl e) =
+        has-false (without m i) j (digit-without m i j 1 (here e) ∙ struck (digit m j) (digit-lt m j))
+        ∙ sym (and-false (has m j)) ∙ ap (λ (b : Bool). has m j && not b) (sym (eq-eqb j i e))
+    go (inr n) =
+        ap (λ (x : ℕ). eqb x 1) (digit-without-other m i j n)
+        ∙ sym (and-true (has m j)) ∙ ap (λ (b : Bool). has m j && not b) (sym (ne-eqb j i n))
+
+pub has-without-self : (m i : ℕ) → has (without m i) i ≡ false
+has-without-self m i = has-without m i i ∙ ap (λ (b : Bool). has m i && not b) (eq-eqb i i refl) ∙ and-false (has m i)
+
+pub has-without-other : (m i j : ℕ) → (j ≡ i → ⊥) → has (without m i) j ≡ has m j
+has-without-other m i j n = has-without m i j ∙ ap (λ (b : Bool). has m j && not b) (ne-eqb j i n) ∙ and-true (has m j)
+
+-- ---- sets of columns below a width
+
+pub single-lt : {k i : ℕ} → i < k → single i < 2 ^ k
+single-lt h = pow-lt h
+
+pub join-lt : (k a b : ℕ) → a < 2 ^ k → b < 2 ^ k → join a b < 2 ^ k
+join-lt k a b ha hb = or-lt k a b ha hb
+
+pub insert-lt : (k m i : ℕ) → m < 2 ^ k → i < k → insert m i < 2 ^ k
+insert-lt k m i h l = or-lt k m (2 ^ i) h (pow-lt l)
+
+pub without-lt : (k m i : ℕ) → m < 2 ^ k → i < k → without m i < 2 ^ k
+without-lt k m i h l = xor-lt k (insert m i) (2 ^ i) (insert-lt k m i h l) (pow-lt l)
+
+pub within-lt : (m n : ℕ) → within m n ≡ true → m < 2 ^ n
+within-lt m n e =
+    let z : m / 2 ^ n ≡ 0 = eqb-true (m / 2 ^ n) 0 e in
+    let h : m / 2 ^ n < 1 = omega arith in
+    omega (arith, div-lt-iff-lt-mul (pow-pos n) .0 h)
+
+pub lt-within : (m n : ℕ) → m < 2 ^ n → within m n ≡ true
+lt-within m n h = eq-eqb (m / 2 ^ n) 0 (div-eq-of-lt h)
+
+or-none : (a b : ℕ) → eqb (bitOr a b) 0 ≡ (eqb a 0 && eqb b 0)
+or-none zero b = ap (λ (x : ℕ). eqb x 0) (or-zero-l b)
+or-none (suc a) b =
+    ne-eqb (bitOr (suc a) b) 0 (λ e. omega (arith, or-add-and (suc a) b, and-le-r (suc a) b))
+    ∙ ap (λ (x : Bool). x && eqb b 0) (sym (ne-eqb (suc a) 0 (λ e. omega arith)))
+
+pub within-join : (a b n : ℕ) → within (join a b) n ≡ (within a n && within b n)
+within-join a b n = ap (λ (x : ℕ). eqb x 0) (or-shr a b n) ∙ or-none (a / 2 ^ n) (b / 2 ^ n)
+
+pub member-lt : (n m i : ℕ) → m < 2 ^ n → has m i ≡ true → i < n
+member-lt n m i h e = go (compare-cases i n)
+  where
+    go : (i < n) ⊎ ((i ≡ n) ⊎ (n < i)) → i < n
+    go (inl p) = p
+    go (inr (inl p)) = absurd (omega (arith, true-has m i e, digit-above n m i h (omega arith)))
+    go (inr (inr p)) = absurd (omega (arith, true-has m i e, digit-above n m i h (omega arith)))
+
+-- the same members, the same set
+pub same-members : (k a b : ℕ) → a < 2 ^ k → b < 2 ^ k → ((i : ℕ) → i < k → has a i ≡ has b i) → a ≡ b
+same-members k a b ha hb e = same-digits k a b ha hb (λ i l. go i l (digit-cases b i))
+  where
+    go : (i : ℕ) → i < k → (digit b i ≡ 0) ⊎ (digit b i ≡ 1) → digit a i ≡ digit b i
+    go i l (inl p) = false-has a i (e i l ∙ has-false b i p) ∙ sym p
+    go i l (inr p) = true-has a i (e i l ∙ has-true b i p) ∙ sym p
+
+pub no-members : (k m : ℕ) → m < 2 ^ k → ((i : ℕ) → i < k → has m i ≡ false) → m ≡ 0
+no-members k m h e = same-members k m 0 h (pow-pos k) (λ i l. e i l ∙ sym (has-none i))
+
+-- what is below a width and has its members below a smaller one is below that
+pub members-lt : (k n m : ℕ) → m < 2 ^ k → ((i : ℕ) → has m i ≡ true → i < n) → m < 2 ^ n
+members-lt k zero m h f =
+    let z : m ≡ 0 = no-members k m h (λ i l. none i) in
+    omega arith
+  where
+    none : (i : ℕ) → has m i ≡ false
+    none i = go (has m i) refl
+      where
+        go : (b : Bool) → has m i ≡ b → b ≡ false
+        go true e = absurd (omega (arith, f i e))
+        go false e = refl
+members-lt zero (suc n) m h f = omega (arith, pow-pos (suc n))
+members-lt (suc k) (suc n) m h f =
+    let half : m / 2 < 2 ^ n = members-lt k n (m / 2) (omega (arith, pow-suc 2 k)) (λ i e. omega (arith, f (suc i) (ap (λ (x : ℕ). eqb x 1) (digit-suc m i) ∙ e))) in
+    omega (arith, pow-suc 2 n)
+
+-- what a shares with m and i: what it shares with m, and i where it has i
+pub and-insert : (k a m i : ℕ) → a < 2 ^ k → bitAnd a (insert m i) ≡ cond (has a i) (insert (bitAnd a m) i) (bitAnd a m)
+and-insert k a m i h = go (has a i) refl
+  where
+    lt : (b : ℕ) → bitAnd a b < 2 ^ k
+    lt b = omega (arith, and-le-l a b)
+
+    at-i : (b : Bool) → has a i ≡ b → (j : ℕ) (z : Bool) → eqb j i ≡ z → (has a j && z) ≡ (b && z)
+    at-i b p j true e = and-true (has a j) ∙ ap (has a) (eqb-true j i e) ∙ p ∙ sym (and-true b)
+    at-i b p j false e = and-false (has a j) ∙ sym (and-false b)
+
+    shared : (b : Bool) → has a i ≡ b → (j : ℕ) → has (bitAnd a (insert m i)) j ≡ (has (bitAnd a m) j || b && eqb j i)
+    shared b p j =
+        has-and a (insert m i) j ∙ ap (λ (x : Bool). has a j && x) (has-insert m i j)
+        ∙ and-or-distrib-left (has a j) (has m j) (eqb j i)
+        ∙ ap₂ (λ (x y : Bool). x || y) (sym (has-and a m j)) (at-i b p j (eqb j i) refl)
+
+    go : (b : Bool) → has a i ≡ b → bitAnd a (insert m i) ≡ cond b (insert (bitAnd a m) i) (bitAnd a m)
+    go true p =
+        same-members k _ _ (lt (insert m i)) (insert-lt k (bitAnd a m) i (lt m) (member-lt k a i h p))
+        (λ j l. shared true p j ∙ sym (has-insert (bitAnd a m) i j))
+    go false p = same-members k _ _ (lt (insert m i)) (lt m) (λ j l. shared false p j ∙ or-false (has (bitAnd a m) j))
+
+-- ---- the lowest member: it is one, and none is lower
+
+lowest-digits : (k m j : ℕ) → j < lowestIn k m → digit m j ≡ 0
+unfolding trailingZeros
+lowest-digits zero m j h = absurd (omega arith)
+lowest-digits (suc k) m j h = go (λ j l. lowest-digits k (m / 2) j l) (m % 2) refl j h
+  where
+    go : ((j : ℕ) → j < trailingZeros k (m / 2) → digit (m / 2) j ≡ 0)
+        → (d : ℕ) → m % 2 ≡ d → (j : ℕ) → j < under d (trailingZeros k (m / 2)) → digit m j ≡ 0
+    go ih zero e zero h = digit-zero m ∙ e
+    go ih zero e (suc j) h = digit-suc m j ∙ ih j (omega arith)
+    go ih (suc d) e j h = absurd (omega arith)
+
+pub lowest-none : (k m j : ℕ) → j < lowestIn k m → has m j ≡ false
+lowest-none k m j h = has-false m j (lowest-digits k m j h)
+
+lowest-digit : (k m : ℕ) → lowestIn k m < k → digit m (lowestIn k m) ≡ 1
+unfolding trailingZeros
+lowest-digit zero m h = absurd (omega arith)
+lowest-digit (suc k) m h = go (λ l. lowest-digit k (m / 2) l) (m % 2) refl h
+  where
+    go : (trailingZeros k (m / 2) < k → digit (m / 2) (trailingZeros k (m / 2)) ≡ 1)
+        → (d : ℕ) → m % 2 ≡ d → under d (trailingZeros k (m / 2)) < suc k → digit m (under d (trailingZeros k (m / 2))) ≡ 1
+    go ih zero e h = digit-suc m (trailingZeros k (m / 2)) ∙ ih (omega arith)
+    go ih (suc d) e h = digit-zero m ∙ omega arith
+
+pub lowest-lt : (k m : ℕ) → m < 2 ^ k → 0 < m → lowestIn k m < k
+unfolding trailingZeros
+lowest-lt zero m h p = absurd (omega arith)
+lowest-lt (suc k) m h p = go (λ a b. lowest-lt k (m / 2) a b) (m % 2) refl
+  where
+    go : (m / 2 < 2 ^ k → 0 < m / 2 → trailingZeros k (m / 2) < k)
+        → (d : ℕ) → m % 2 ≡ d → under d (trailingZeros k (m / 2)) < suc k
+    go ih zero e =
+        let l : trailingZeros k (m / 2) < k = ih (omega (arith, pow-suc 2 k)) (omega arith) in
+        omega arith
+    go ih (suc d) e = omega arith
+
+pub lowest-member : (k m : ℕ) → m < 2 ^ k → 0 < m → has m (lowestIn k m) ≡ true
+lowest-member k m h p = has-true m (lowestIn k m) (lowest-digit k m (lowest-lt k m h p))
+
+pub lowest-le : (k m j : ℕ) → has m j ≡ true → lowestIn k m ≤ j
+lowest-le k m j e = go (compare-cases (lowestIn k m) j)
+  where
+    go : (lowestIn k m < j) ⊎ ((lowestIn k m ≡ j) ⊎ (j < lowestIn k m)) → lowestIn k m ≤ j
+    go (inl p) = omega arith
+    go (inr (inl p)) = omega arith
+    go (inr (inr p)) = absurd (omega (arith, true-has m j e, false-has m j (lowest-none k m j p)))
+
+pub member-pos : (m i : ℕ) → has m i ≡ true → 0 < m
+member-pos zero i e = absurd (omega (arith, true-has 0 i e, digit-none i))
+member-pos (suc m) i e = omega arith
+
+-- ---- how many members: striking one out leaves one less
+
+half-without : (m i : ℕ) → without m (suc i) / 2 ≡ without (m / 2) i
+half-without m i = xor-half (insert m (suc i)) (2 ^ suc i) ∙ ap₂ bitXor (or-half m (2 ^ suc i) ∙ ap (bitOr (m / 2)) (half-pow i)) (half-pow i)
+  where
+    half-pow : (i : ℕ) → 2 ^ suc i / 2 ≡ 2 ^ i
+    half-pow i = omega (arith, pow-suc 2 i)
+
+pub ones-without : (i m : ℕ) → has m i ≡ true → ones (without m i) + 1 ≡ ones m
+ones-without zero m e =
+    let b : m % 2 ≡ 1 = sym (digit-zero m) ∙ true-has m 0 e in
+    let l : without m 0 % 2 ≡ 0 = sym (digit-zero (without m 0)) ∙ false-has (without m 0) 0 (has-without-self m 0) in
+    let h : without m 0 / 2 ≡ m / 2 = xor-half (insert m 0) 1 ∙ ap (λ (x : ℕ). bitXor x 0) (or-half m 1 ∙ or-zero-r (m / 2)) ∙ xor-zero-r (m / 2) in
+    omega (arith, ones-step m, ones-step (without m 0), ap ones h)
+ones-without (suc i) m e =
+    let b : has (m / 2) i ≡ true = ap (λ (x : ℕ). eqb x 1) (sym (digit-suc m i)) ∙ e in
+    let l : without m (suc i) % 2 ≡ m % 2 =
+    sym (digit-zero (without m (suc i))) ∙ digit-without-other m (suc i) 0 (λ q. omega arith) ∙ digit-zero m in
+    omega (arith, ones-step m, ones-step (without m (suc i)), ap ones (half-without m i), ones-without i (m / 2) b)
+
+-- ---- those below n that pass a test
+
+module _ (f : ℕ → Bool) where
+  pub selected-lt : (n k : ℕ) → n ≤ k → selected f n < 2 ^ k
+  unfolding selected
+  selected-lt zero k h = pow-pos k
+  selected-lt (suc n) k h = go (f n) (selected-lt n k (omega arith))
+    where
+      go : (b : Bool) → selected f n < 2 ^ k → cond b (insert (selected f n) n) (selected f n) < 2 ^ k
+      go true ih = insert-lt k (selected f n) n ih h
+      go false ih = ih
+
+  pub selected-has : (n j : ℕ) → j < n → has (selected f n) j ≡ f j
+  unfolding selected
+  selected-has zero j h = absurd (omega arith)
+  selected-has (suc n) j h = go (λ l. selected-has n j l) (f n) refl (equal-cases j n)
+    where
+      last : has (selected f n) n ≡ false
+      last = has-above n (selected f n) n (selected-lt n n (le-refl n)) (le-refl n)
+
+      go : (j < n → has (selected f n) j ≡ f j) → (b : Bool) → f n ≡ b → (j ≡ n) ⊎ (j ≡ n → ⊥)
+          → has (cond b (insert (selected f n) n) (selected f n)) j ≡ f j
+      go ih true e (inl p) = rw p (has-insert (selected f n) n n ∙ ap (λ (x : Bool). has (selected f n) n || x) (eq-eqb n n refl) ∙ ap (λ (x : Bool). x || true) last ∙ sym e)
+      go ih true e (inr q) =
+          has-insert (selected f n) n j ∙ ap (λ (x : Bool). has (selected f n) j || x) (ne-eqb j n q) ∙ or-false (has (selected f n) j) ∙ ih (omega arith)
+      go ih false e (inl p) = rw p (last ∙ sym e)
+      go ih false e (inr q) = ih (omega arith)

@@ -1,0 +1,56 @@
+-- Sets of columns as numbers: column i is a member of m where the binary digit i of m is 1.
+-- "Sets are unsigned masks; trailing zeros give the next column."
+use Prim.Native.Nat.{ℕ, zero, suc, _-_, _/_, _%_, _^_}
+use mathlib.Core.Bool.{Bool, cond}
+use lib.Dec.{eqb}
+use lib.Bits.{bitOr, bitXor}
+use lib.Count.{trailingZeros}
+
+-- binary digit i of m, 0 or 1
+abbrev pub digit : ℕ → ℕ → ℕ
+digit m i = m / 2 ^ i % 2
+
+-- i is a member of m
+abbrev pub has : ℕ → ℕ → Bool
+has m i = eqb (digit m i) 1
+
+-- the set of i alone
+abbrev pub single : ℕ → ℕ
+single i = 2 ^ i
+
+-- the members of either
+abbrev pub join : ℕ → ℕ → ℕ
+join a b = bitOr a b
+
+-- m with i
+abbrev pub insert : ℕ → ℕ → ℕ
+insert m i = join m (single i)
+
+-- m without i: the digit is set, then flipped
+abbrev pub without : ℕ → ℕ → ℕ
+without m i = bitXor (insert m i) (single i)
+
+-- the lowest member of a set of columns below `width`, and `width` of the empty set
+abbrev pub lowestIn : ℕ → ℕ → ℕ
+lowestIn width m = trailingZeros width m
+
+-- the same in a mask of 16 columns
+abbrev pub lowest : ℕ → ℕ
+lowest m = lowestIn 16 m
+
+-- "Columns of a set are served lowest number first. The report lets the strategy choose."
+abbrev pub choose : ℕ → ℕ
+choose m = lowest m
+
+-- every member of m is below n
+abbrev pub within : ℕ → ℕ → Bool
+within m n = eqb (m / 2 ^ n) 0
+
+-- all columns below n
+abbrev pub whole : ℕ → ℕ
+whole n = 2 ^ n - 1
+
+-- those below n that pass a test
+unfoldable pub selected : (ℕ → Bool) → ℕ → ℕ
+selected f zero = 0
+selected f (suc n) = cond (f n) (insert (selected f n) n) (selected f n)

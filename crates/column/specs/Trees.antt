@@ -1,0 +1,121 @@
+-- The tree of a bank, after document 01, "The bank and its table".
+use Prim.Native.Nat.{ℕ, zero, suc, _≤_, _<_}
+use mathlib.Core.Path.{_≡_}
+use mathlib.Core.Bool.{Bool, true, false, not, _&&_, _||_, cond}
+use mathlib.Core.List.{List, [], _∷_}
+use lib.Dec.{eqb, leb, ltb}
+use lib.ListN.{getD}
+use Rattle.column.specs.Refusals.{first, earlier, Given, given, refused, givenUnless}
+use Rattle.column.specs.Sets.{single, join, without, lowest, within, selected}
+use Rattle.column.specs.declared.tree.Tree.{Tree}
+use Rattle.column.specs.declared.tree.Members.{Members}
+use Rattle.column.specs.declared.tree.Members.the-variants.{Set, Refused}
+
+-- a tree by its parts
+abbrev pub treeOf : ℕ → ℕ → List ℕ → Tree
+treeOf columns root up = record { columns = columns; root = root; up = up }
+
+-- "`up` names each column's parent in order"
+abbrev pub parent : Tree → ℕ → ℕ
+parent t c = getD (t .up) c 0
+
+-- where a climb of k parents leads from c
+unfoldable pub climb : Tree → ℕ → ℕ → ℕ
+climb t zero c = c
+climb t (suc k) c = climb t k (parent t c)
+
+-- what document 01 asks of a tree
+pub record IsTree (t : Tree) : Type 0 where
+  -- "A bank has 1 to 16 columns"
+  pub some : 1 ≤ t .columns
+  pub sixteen : t .columns ≤ 16
+  -- row 3: "root or parent not below columns .. root not its own parent"
+  pub root-below : t .root < t .columns
+  pub parent-below : (c : ℕ) → c < t .columns → parent t c < t .columns
+  pub root-own : parent t (t .root) ≡ t .root
+  -- "Every climb by parents must end at the root", however long it is
+  pub climbs : (c : ℕ) → c < t .columns → (k : ℕ) × (climb t k c ≡ t .root)
+
+-- ---- the check of rows 2 and 3, which computes; `check-exact` of TreeLaws says that it decides `IsTree`
+
+-- a test of every column below n
+unfoldable pub every : (ℕ → Bool) → ℕ → Bool
+every f zero = true
+every f (suc n) = every f n && f n
+
+abbrev pub parentBelow : Tree → ℕ → Bool
+parentBelow t c = ltb (parent t c) (t .columns)
+
+-- a climb of fewer than `budget` parents from c meets the root
+unfoldable pub climbsIn : Tree → ℕ → ℕ → Bool
+climbsIn t zero c = false
+climbsIn t (suc budget) c = eqb c (t .root) || climbsIn t budget (parent t c)
+
+-- "2: columns 0 or above 16. 3: root or parent not below columns, .. root not its own parent, or a climb that misses the root"
+abbrev pub treeConditions : Tree → List (ℕ × Bool)
+treeConditions t =
+    (2, eqb (t .columns) 0)
+    ∷ (2, ltb 16 (t .columns))
+    ∷ (3, leb (t .columns) (t .root))
+    ∷ (3, not (every (parentBelow t) (t .columns)))
+    ∷ (3, not (eqb (parent t (t .root)) (t .root)))
+    ∷ (3, not (every (climbsIn t (t .columns)) (t .columns)))
+    ∷ []
+
+unfoldable pub treeRefusal : Tree → ℕ
+treeRefusal t = first (treeConditions t)
+
+-- ---- children and subtrees
+
+-- "the root names itself, but is nobody's child"
+abbrev pub isChild : Tree → ℕ → ℕ → Bool
+isChild t c j = eqb (parent t j) c && not (eqb j (t .root))
+
+abbrev pub children : Tree → ℕ → ℕ
+children t c = selected (isChild t c) (t .columns)
+
+-- "The subtree of a column is the column with the subtrees of its children, and the subtrees of a list are its first member's
+-- with those of the rest": the number `calls` falls at each call
+unfoldable mutual
+  pub subtreeIn : ℕ → Tree → ℕ → ℕ
+  subtreeIn zero t c = 0
+  subtreeIn (suc calls) t c = join (single c) (subtreesIn calls t (children t c))
+
+  pub subtreesIn : ℕ → Tree → ℕ → ℕ
+  subtreesIn zero t s = 0
+  subtreesIn (suc calls) t s =
+      let c = lowest s in
+      cond (eqb s 0) 0 (join (subtreeIn calls t c) (subtreesIn calls t (without s c)))
+
+-- calls enough for a tree: sixteen levels, each of at most sixteen columns in its list, and two more
+abbrev pub descent : ℕ
+descent = 288
+
+abbrev pub subtree : Tree → ℕ → ℕ
+subtree t c = subtreeIn descent t c
+
+abbrev pub subtrees : Tree → ℕ → ℕ
+subtrees t s = subtreesIn descent t s
+
+-- ---- what the functions answer
+
+-- the values of each case of `Members`
+abbrev pub membersMeant : Members → Given ℕ
+membersMeant (Set m) = given m
+membersMeant (Refused n) = refused n
+
+-- "Before all else a tree that breaks row 2 or 3 gives that number. Next, 4 meets a column number or set member not below columns"
+abbrev pub columnRefusal : Tree → ℕ → ℕ
+columnRefusal t c = earlier (treeRefusal t) (first ((4, leb (t .columns) c) ∷ []))
+
+abbrev pub setRefusal : Tree → ℕ → ℕ
+setRefusal t s = earlier (treeRefusal t) (first ((4, not (within s (t .columns))) ∷ []))
+
+abbrev pub childrenGiven : Tree → ℕ → Given ℕ
+childrenGiven t c = givenUnless (columnRefusal t c) (children t c)
+
+abbrev pub subtreeGiven : Tree → ℕ → Given ℕ
+subtreeGiven t c = givenUnless (columnRefusal t c) (subtree t c)
+
+abbrev pub subtreesGiven : Tree → ℕ → Given ℕ
+subtreesGiven t s = givenUnless (setRefusal t s) (subtrees t s)

@@ -1,0 +1,188 @@
+// What each step does where nothing refuses it.
+use crate::kin::children_of;
+use crate::packet::Number;
+use crate::packet::Packet;
+use crate::packet::sender;
+use crate::sets::has;
+use crate::sets::insert;
+use crate::sets::lowest;
+use crate::sets::single;
+use crate::sets::without;
+use crate::state::Column;
+use crate::step::Answer;
+use crate::step::Outcome;
+use crate::tree::Tree;
+ghost use mathlib.Core.Bool.{true, false};
+ghost use mathlib.Core.Path.{_≡_};
+ghost use mathlib.Core.List.{[], _∷_};
+ghost use Prim.Native.Nat.{_<_, _≤_};
+ghost use Rattle.column.specs.Packets.{sender};
+ghost use Rattle.column.specs.declared.packet.Packet.the-variants.{Acknowledgement};
+ghost use Rattle.column.specs.Columns.{highest};
+ghost use Rattle.column.specs.Steps.{meant, accepted, orderEffect, sendEffect, acknowledgementEffect, acknowledgeLowest, messageEffect, takeEffect, ackEffect, allEffect, noteEffect, haltEffect};
+
+fn done(c: Column) -> Outcome
+    ensures { λ r. ⌜ meant r ≡ accepted c [] false ⌝ }
+{
+    Outcome {
+        column: c,
+        answer: Answer::Done,
+    }
+}
+
+fn putting(c: Column, p: Packet) -> Outcome
+    ensures { λ r. ⌜ meant r ≡ accepted c (p ∷ []) false ⌝ }
+{
+    Outcome {
+        column: c,
+        answer: Answer::Put(p),
+    }
+}
+
+fn acknowledgement(i: usize, k: usize, number: Number) -> Packet
+    requires { ⌜ (i < 16) × (k < 16) ⌝ }
+    ensures { λ r. ⌜ r ≡ Acknowledgement i k number ⌝ }
+{
+    let from = i as u8;
+    let to = k as u8;
+    Packet::Acknowledgement { from, to, number }
+}
+
+pub fn order_effect(t: Tree, i: usize, mut c: Column, doors: u64) -> Outcome
+    requires { ⌜ (t .columns ≤ 16) × (c .number < highest) ⌝ }
+    ensures { λ r. ⌜ meant r ≡ orderEffect t i c doors ⌝ }
+{
+    c.number += 1;
+    c.doors = doors;
+    c.send = children_of(t, i);
+    done(c)
+}
+
+pub fn send_effect(t: Tree, i: usize, mut c: Column) -> Outcome
+    requires { ⌜ (t .columns ≤ 16) × ((i < 16) × (0 < c .send)) ⌝ }
+    ensures { λ r. ⌜ meant r ≡ sendEffect t i c ⌝ }
+{
+    let k = lowest(c.send);
+    c.send = without(c.send, k);
+    if k == i {
+        return done(c);
+    }
+    if has(c.noted, k) {
+        c.send |= children_of(t, k);
+        return done(c);
+    }
+    c.awaited = insert(c.awaited, k);
+    let from = i as u8;
+    let to = k as u8;
+    putting(
+        c,
+        Packet::Message {
+            from,
+            to,
+            number: c.number,
+            doors: c.doors,
+        },
+    )
+}
+
+fn acknowledgement_effect(mut c: Column, from: usize, number: Number) -> Outcome
+    requires { ⌜ from < 16 ⌝ }
+    ensures { λ r. ⌜ meant r ≡ acknowledgementEffect c from number ⌝ }
+{
+    if number == c.number {
+        c.awaited = without(c.awaited, from);
+    }
+    done(c)
+}
+
+fn acknowledge_lowest(i: usize, mut c: Column, left: bool) -> Outcome
+    requires { ⌜ (i < 16) × (0 < c .owed) ⌝ }
+    ensures { λ r. ⌜ meant r ≡ acknowledgeLowest i c left ⌝ }
+{
+    let k = lowest(c.owed);
+    c.owed = without(c.owed, k);
+    let p = acknowledgement(i, k, c.number);
+    if left {
+        return Outcome {
+            column: c,
+            answer: Answer::Left(p),
+        };
+    }
+    putting(c, p)
+}
+
+fn message_effect(
+    t: Tree,
+    i: usize,
+    mut c: Column,
+    from: usize,
+    number: Number,
+    doors: u64,
+) -> Outcome
+    requires { ⌜ (t .columns ≤ 16) × ((i < 16) × (from < 16)) ⌝ }
+    ensures { λ r. ⌜ meant r ≡ messageEffect t i c from number doors ⌝ }
+{
+    if number == c.number {
+        c.owed = insert(c.owed, from);
+        return done(c);
+    }
+    if number < c.number {
+        return putting(c, acknowledgement(i, from, number));
+    }
+    if c.owed != 0 {
+        return acknowledge_lowest(i, c, true);
+    }
+    c.number = number;
+    c.doors = doors;
+    c.send = children_of(t, i);
+    c.awaited = 0;
+    c.owed = single(from);
+    c.whole = false;
+    done(c)
+}
+
+pub fn take_effect(t: Tree, i: usize, c: Column, p: Packet) -> Outcome
+    requires { ⌜ (t .columns ≤ 16) × ((i < 16) × (sender p < 16)) ⌝ }
+    ensures { λ r. ⌜ meant r ≡ takeEffect t i c p ⌝ }
+{
+    let from = sender(p);
+    match p {
+        Packet::Message { number, doors, .. } => message_effect(t, i, c, from, number, doors),
+        Packet::Acknowledgement { number, .. } => acknowledgement_effect(c, from, number),
+    }
+}
+
+pub fn ack_effect(i: usize, c: Column) -> Outcome
+    requires { ⌜ (i < 16) × (0 < c .owed) ⌝ }
+    ensures { λ r. ⌜ meant r ≡ ackEffect i c ⌝ }
+{
+    acknowledge_lowest(i, c, false)
+}
+
+pub fn all_effect(t: Tree, mut c: Column) -> Outcome
+    requires { ⌜ t .root < 16 ⌝ }
+    ensures { λ r. ⌜ meant r ≡ allEffect t c ⌝ }
+{
+    c.send = single(t.root);
+    c.whole = true;
+    done(c)
+}
+
+pub fn note_effect(t: Tree, mut c: Column, j: usize) -> Outcome
+    requires { ⌜ (t .columns ≤ 16) × (j < 16) ⌝ }
+    ensures { λ r. ⌜ meant r ≡ noteEffect t c j ⌝ }
+{
+    c.noted = insert(c.noted, j);
+    if has(c.awaited, j) {
+        c.awaited = without(c.awaited, j);
+        c.send |= children_of(t, j);
+    }
+    done(c)
+}
+
+pub fn halt_effect(mut c: Column) -> Outcome
+    ensures { λ r. ⌜ meant r ≡ haltEffect c ⌝ }
+{
+    c.running = false;
+    done(c)
+}

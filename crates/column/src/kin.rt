@@ -1,0 +1,101 @@
+// Parents, children and subtrees in a handed-in tree. What is asked of the tree here has been checked by the caller.
+use crate::sets::insert;
+use crate::sets::lowest;
+use crate::sets::single;
+use crate::sets::without;
+use crate::tree::Tree;
+ghost use mathlib.Core.Path.{_≡_};
+ghost use mathlib.Core.Bool.{true};
+ghost use Prim.Native.Nat.{_≤_, _<_};
+ghost use Rattle.column.specs.Trees.{treeOf, every, parentBelow, climbsIn, children, subtreeIn, subtreesIn};
+
+pub fn parents_below(up: &[usize; 16], n: usize) -> bool
+    requires { ⌜ n ≤ 16 ⌝ }
+    ensures { λ r. ⌜ r ≡ every (parentBelow (treeOf n 0 (now (up .entry)))) n ⌝ }
+{
+    let mut j: usize = 0;
+    while j < n {
+        if n <= up[j] {
+            return false;
+        }
+        j += 1;
+    }
+    true
+}
+
+// Whether the climb from c meets the root before it has been at more places than there are columns.
+pub fn climbs_in(up: &[usize; 16], n: usize, root: usize, c: usize) -> bool
+    requires { ⌜ (n ≤ 16) × ((c < n) × (every (parentBelow (treeOf n 0 (now up))) n ≡ true)) ⌝ }
+    ensures { λ r. ⌜ r ≡ climbsIn (treeOf n root (now (up .entry))) n c ⌝ }
+{
+    let mut at = c;
+    let mut budget = n;
+    while 0 < budget {
+        if at == root {
+            return true;
+        }
+        at = up[at];
+        budget -= 1;
+    }
+    false
+}
+
+pub fn climbs_end(up: &[usize; 16], n: usize, root: usize) -> bool
+    requires { ⌜ (n ≤ 16) × (every (parentBelow (treeOf n 0 (now up))) n ≡ true) ⌝ }
+    ensures { λ r. ⌜ r ≡ every (climbsIn (treeOf n root (now (up .entry))) n) n ⌝ }
+{
+    let mut j: usize = 0;
+    while j < n {
+        if !climbs_in(up, n, root, j) {
+            return false;
+        }
+        j += 1;
+    }
+    true
+}
+
+pub fn children_of(t: Tree, c: usize) -> u16
+    requires { ⌜ t .columns ≤ 16 ⌝ }
+    ensures { λ r. ⌜ r ≡ children t c ⌝ }
+{
+    let n = t.columns;
+    let root = t.root;
+    let up = t.up;
+    let mut set: u16 = 0;
+    let mut j: usize = 0;
+    while j < n {
+        if up[j] == c {
+            if j != root {
+                set = insert(set, j);
+            }
+        }
+        j += 1;
+    }
+    set
+}
+
+// The column with the subtrees of its children.
+pub fn subtree_in(t: Tree, c: usize, calls: usize) -> u16
+    requires { ⌜ (t .columns ≤ 16) × (c < 16) ⌝ }
+    ensures { λ r. ⌜ r ≡ subtreeIn calls t c ⌝ }
+{
+    if calls == 0 {
+        return 0;
+    }
+    single(c) | subtrees_in(t, children_of(t, c), calls - 1)
+}
+
+// The subtree of the set's first member with those of the rest.
+pub fn subtrees_in(t: Tree, set: u16, calls: usize) -> u16
+    requires { ⌜ t .columns ≤ 16 ⌝ }
+    ensures { λ r. ⌜ r ≡ subtreesIn calls t set ⌝ }
+{
+    if calls == 0 {
+        return 0;
+    }
+    if set == 0 {
+        return 0;
+    }
+    let c = lowest(set);
+    subtree_in(t, c, calls - 1) | subtrees_in(t, without(set, c), calls - 1)
+}

@@ -1,0 +1,49 @@
+// The packets between columns.
+ghost use mathlib.Core.Path.{_≡_};
+ghost use Rattle.column.specs.Packets.{isMessage, sender, receiver};
+
+// Order numbers have this width here and nowhere else.
+pub type Number = u16;
+
+pub const HIGHEST: Number = 65535;
+
+pub enum Packet {
+    Message {
+        from: u8,
+        to: u8,
+        number: Number,
+        doors: u64,
+    },
+    Acknowledgement {
+        from: u8,
+        to: u8,
+        number: Number,
+    },
+}
+
+pub fn is_message(p: Packet) -> bool
+    ensures { λ r. ⌜ r ≡ isMessage p ⌝ }
+{
+    match p {
+        Packet::Message { .. } => true,
+        Packet::Acknowledgement { .. } => false,
+    }
+}
+
+pub fn sender(p: Packet) -> usize
+    ensures { λ r. ⌜ r ≡ sender p ⌝ }
+{
+    match p {
+        Packet::Message { from, .. } => from as usize,
+        Packet::Acknowledgement { from, .. } => from as usize,
+    }
+}
+
+pub fn receiver(p: Packet) -> usize
+    ensures { λ r. ⌜ r ≡ receiver p ⌝ }
+{
+    match p {
+        Packet::Message { to, .. } => to as usize,
+        Packet::Acknowledgement { to, .. } => to as usize,
+    }
+}

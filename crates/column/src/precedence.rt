@@ -1,0 +1,23 @@
+// Which refusal is given where several conditions hold: that of the first. 0 is none.
+ghost use mathlib.Core.Path.{_≡_};
+ghost use mathlib.Core.List.{[], _∷_};
+ghost use Rattle.column.specs.Refusals.{first, earlier};
+
+pub fn earlier(n: u8, m: u8) -> u8
+    ensures { λ r. ⌜ r ≡ earlier n m ⌝ }
+{
+    if n != 0 {
+        return n;
+    }
+    m
+}
+
+// What conditions before this one gave, and its own number where they gave none.
+pub fn refuse_if(n: u8, condition: bool, number: u8) -> u8
+    ensures { λ r. ⌜ r ≡ earlier n (first ((number, condition) ∷ [])) ⌝ }
+{
+    if condition {
+        return earlier(n, number);
+    }
+    n
+}

@@ -1,0 +1,65 @@
+// What a column holds, and the test of a handed-in state.
+use crate::packet::Number;
+use crate::precedence::earlier;
+use crate::precedence::refuse_if;
+use crate::sets::has;
+use crate::sets::within;
+use crate::tree::Tree;
+use crate::tree::column_refusal;
+use crate::tree::tree_refusal;
+ghost use mathlib.Core.Path.{_≡_};
+ghost use Rattle.column.specs.Columns.{freshMeant, freshGiven, stateRefusal, standing};
+
+pub struct Column {
+    pub running: bool,
+    pub number: Number,
+    pub doors: u64,
+    pub send: u16,
+    pub awaited: u16,
+    pub owed: u16,
+    pub noted: u16,
+    // The goal: the whole bank, or its own subtree.
+    pub whole: bool,
+}
+
+pub enum FreshColumn {
+    Is(Column),
+    Refused(u8),
+}
+
+pub fn fresh(t: Tree, i: usize) -> FreshColumn
+    ensures { λ r. ⌜ freshMeant r ≡ freshGiven t i ⌝ }
+{
+    let n = column_refusal(t, i);
+    if n != 0 {
+        return FreshColumn::Refused(n);
+    }
+    FreshColumn::Is(Column {
+        running: true,
+        number: 0,
+        doors: 0,
+        send: 0,
+        awaited: 0,
+        owed: 0,
+        noted: 0,
+        whole: i == t.root,
+    })
+}
+
+// 4 where row 4 refuses the state of column i, else 0. The tree is not tested.
+pub fn state_refusal(t: Tree, i: usize, c: Column) -> u8
+    ensures { λ r. ⌜ r ≡ stateRefusal t i c ⌝ }
+{
+    let members = c.send | c.awaited | c.owed | c.noted;
+    let mut n = refuse_if(0, t.columns <= i, 4);
+    n = refuse_if(n, !within(members, t.columns), 4);
+    n = refuse_if(n, has(c.owed, i), 4);
+    refuse_if(n, (i == t.root) & !c.whole, 4)
+}
+
+// What every step tests first: 2 or 3 of the tree, then 4 of the state, else 0.
+pub fn standing(t: Tree, i: usize, c: Column) -> u8
+    ensures { λ r. ⌜ r ≡ standing t i c ⌝ }
+{
+    earlier(tree_refusal(t), state_refusal(t, i, c))
+}

@@ -1,0 +1,99 @@
+// The tree of a bank.
+use crate::kin::children_of;
+use crate::kin::climbs_end;
+use crate::kin::parents_below;
+use crate::kin::subtree_in;
+use crate::kin::subtrees_in;
+use crate::sets::within;
+ghost use mathlib.Core.Path.{_≡_};
+ghost use Rattle.column.specs.Trees.{treeRefusal, columnRefusal, membersMeant, childrenGiven, subtreeGiven, subtreesGiven};
+
+// Calls enough for the subtree of any column.
+const DESCENT: usize = 288;
+
+pub struct Tree {
+    pub columns: usize,
+    pub root: usize,
+    pub up: [usize; 16],
+}
+
+pub enum Members {
+    Set(u16),
+    Refused(u8),
+}
+
+// 2 or 3 where the tree breaks that row, else 0. Every parent is tested before a climb uses it as an index.
+pub fn tree_refusal(t: Tree) -> u8
+    ensures { λ r. ⌜ r ≡ treeRefusal t ⌝ }
+{
+    let n = t.columns;
+    if n == 0 {
+        return 2;
+    }
+    if 16 < n {
+        return 2;
+    }
+    let root = t.root;
+    if n <= root {
+        return 3;
+    }
+    let up = t.up;
+    if !parents_below(&up, n) {
+        return 3;
+    }
+    if up[root] != root {
+        return 3;
+    }
+    if !climbs_end(&up, n, root) {
+        return 3;
+    }
+    0
+}
+
+// 2 or 3 of the tree, 4 of a column that it has not, else 0.
+pub fn column_refusal(t: Tree, c: usize) -> u8
+    ensures { λ r. ⌜ r ≡ columnRefusal t c ⌝ }
+{
+    let n = tree_refusal(t);
+    if n != 0 {
+        return n;
+    }
+    let columns = t.columns;
+    if columns <= c {
+        return 4;
+    }
+    0
+}
+
+pub fn children(t: Tree, c: usize) -> Members
+    ensures { λ r. ⌜ membersMeant r ≡ childrenGiven t c ⌝ }
+{
+    let n = column_refusal(t, c);
+    if n != 0 {
+        return Members::Refused(n);
+    }
+    Members::Set(children_of(t, c))
+}
+
+pub fn subtree(t: Tree, c: usize) -> Members
+    ensures { λ r. ⌜ membersMeant r ≡ subtreeGiven t c ⌝ }
+{
+    let n = column_refusal(t, c);
+    if n != 0 {
+        return Members::Refused(n);
+    }
+    Members::Set(subtree_in(t, c, DESCENT))
+}
+
+pub fn subtrees(t: Tree, set: u16) -> Members
+    ensures { λ r. ⌜ membersMeant r ≡ subtreesGiven t set ⌝ }
+{
+    let n = tree_refusal(t);
+    if n != 0 {
+        return Members::Refused(n);
+    }
+    if !within(set, t.columns) {
+        return Members::Refused(4);
+    }
+    Members::Set(subtrees_in(t, set, DESCENT))
+}

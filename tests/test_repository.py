@@ -1,0 +1,89 @@
+"""What the repository promises of itself: public contracts, layers, layout, and mutants that still fit the code."""
+import glob
+import os
+import re
+import subprocess
+import unittest
+
+ROOT = os.path.dirname(os.path.dirname(os.path.abspath(__file__)))
+CRATES = sorted(os.path.basename(path) for path in glob.glob(os.path.join(ROOT, "crates", "*")))
+
+
+def read(path):
+    with open(path, encoding="utf8") as file:
+        return file.read()
+
+
+def sources(pattern):
+    return sorted(glob.glob(os.path.join(ROOT, "crates", pattern), recursive=True))
+
+
+def public_functions(crate):
+    """Each function that another crate can call, with the text up to its body."""
+    top = os.path.join(ROOT, "crates", crate, "src", "lib.rt")
+    if not os.path.exists(top):
+        return
+    modules = re.findall(r"^pub mod (\w+);", read(top), re.M)
+    for path in [top] + [os.path.join(os.path.dirname(top), f"{module}.rt") for module in modules]:
+        for found in re.finditer(r"^pub fn (\w+)(.*?)^\{", read(path), re.M | re.S):
+            yield f"{crate}::{found.group(1)}", found.group(2)
+
+
+class Repository(unittest.TestCase):
+    def test_every_public_function_has_a_contract_and_asks_nothing(self):
+        functions = [function for crate in CRATES for function in public_functions(crate)]
+        self.assertGreater(len(functions), 20)
+        for name, text in functions:
+            self.assertIn("ensures", text, name)
+            self.assertNotIn("requires", text, name)
+
+    def test_upper_crates_cite_no_proofs_of_lower_ones(self):
+        for path in sources("*/proofs/**/*.antt") + sources("*/specs/**/*.antt"):
+            crate = os.path.relpath(path, os.path.join(ROOT, "crates")).split(os.sep)[0]
+            for cited in re.findall(r"^use (Rattle·\S+)", read(path), re.M):
+                self.assertFalse(".proofs" in cited and not cited.startswith(f"Rattle.{crate}.proofs."), f"{path}: {cited}")
+
+    def test_the_core_names_nothing_above_it(self):
+        for path in sources("column/src/*.rt"):
+            self.assertIsNone(re.search(r"\bnetwork\b", read(path)), path)
+
+    def test_functions_and_files_stay_short(self):
+        for path in sources("**/*.rt") + sources("**/*.antt"):
+            self.assertLessEqual(read(path).count("\n"), 320, path)
+        for path in sources("**/*.rt"):
+            for body in re.findall(r"^(?:pub )?fn \w+.*?^\}", read(path), re.M | re.S):
+                self.assertLess(body.count("\n"), 40, f"{path}: {body[:60]}")
+
+    def test_layout(self):
+        done = subprocess.run(["rt", "fmt", "--check"], cwd=ROOT, capture_output=True, text=True)
+        self.assertEqual(done.returncode, 0, done.stdout + done.stderr)
+
+    def test_every_mutant_fits_its_file_once(self):
+        edits = sorted(glob.glob(os.path.join(ROOT, "tests", "mutants", "*", "*.edit"))) + sources("*/must-fail/*.edit")
+        self.assertGreater(len(edits), 10)
+        for path in edits:
+            crate = path.split(os.sep)[-2] if "mutants" in path else path.split(os.sep)[-3]
+            file = old = None
+            texts = {}
+            pairs = 0
+            for line in read(path).split("\n"):
+                if line.startswith("file: "):
+                    file = line[len("file: "):]
+                    texts.setdefault(file, read(os.path.join(ROOT, "crates", crate, file)))
+                elif line.startswith("old: "):
+                    old = line[len("old: "):]
+                elif line.startswith("new:"):
+                    self.assertEqual(texts[file].count(old), 1, f"{path}: {old}")
+                    texts[file] = texts[file].replace(old, line[len("new: "):])
+                    pairs += 1
+            self.assertGreater(pairs, 0, path)
+
+    def test_no_machine_path(self):
+        texts = subprocess.run(["git", "ls-files"], cwd=ROOT, capture_output=True, text=True, check=True).stdout.split("\n")
+        for name in filter(None, texts):
+            found = re.search(r"(?<![\w.])/(opt|work|farm|root|home)/", read(os.path.join(ROOT, name)))
+            self.assertTrue(found is None or name == "tests/test_repository.py", f"{name}: {found and found.group(0)}")
+
+
+if __name__ == "__main__":
+    unittest.main()
