@@ -1,5 +1,4 @@
 // What each step does where nothing refuses it.
-use crate::kin::children_of;
 use crate::packet::Number;
 use crate::packet::Packet;
 use crate::packet::sender;
@@ -11,6 +10,7 @@ use crate::sets::without;
 use crate::state::Column;
 use crate::step::Answer;
 use crate::step::Outcome;
+use crate::traversal::children_of;
 use crate::tree::Tree;
 ghost use mathlib.Core.Bool.{true, false};
 ghost use mathlib.Core.Path.{_≡_};

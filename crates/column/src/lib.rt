@@ -1,7 +1,7 @@
-// The core of one column.
+// The core of one column of a locker bank: a maker of lockers drives it from its own firmware. By value, with no heap and no global state.
+// Functions of public modules ask nothing of their arguments: what document 01 refuses is answered by its number, and nothing changes.
 pub mod codec;
 mod effect;
-mod kin;
 mod number_bytes;
 pub mod packet;
 mod precedence;
@@ -9,4 +9,5 @@ pub mod refusal;
 mod sets;
 pub mod state;
 pub mod step;
+mod traversal;
 pub mod tree;

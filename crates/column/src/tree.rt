@@ -1,10 +1,10 @@
 // The tree of a bank.
-use crate::kin::children_of;
-use crate::kin::climbs_end;
-use crate::kin::parents_below;
-use crate::kin::subtree_in;
-use crate::kin::subtrees_in;
 use crate::sets::within;
+use crate::traversal::children_of;
+use crate::traversal::climbs_end;
+use crate::traversal::parents_below;
+use crate::traversal::subtree_in;
+use crate::traversal::subtrees_in;
 ghost use mathlib.Core.Path.{_≡_};
 ghost use Rattle.column.specs.Trees.{treeRefusal, columnRefusal, membersMeant, childrenGiven, subtreeGiven, subtreesGiven};
 

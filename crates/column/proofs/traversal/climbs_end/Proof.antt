@@ -8,8 +8,8 @@ use native.Mathlib.Omega.{arith}
 use borrow.Author.Tests.{not-true, not-false}
 use Rattle.column.specs.Trees.{treeOf, every, climbsIn}
 use Rattle.column.specs.TreeLaws.{every-fails}
-use Rattle.column.proofs.kin.climbs_end.Statement.{statement}
-use Rattle.column.proofs.kin.climbs_end.Tie as tie
+use Rattle.column.proofs.traversal.climbs_end.Statement.{statement}
+use Rattle.column.proofs.traversal.climbs_end.Tie as tie
 
 abbrev Inv-loop : tie.InvT-loop
 Inv-loop up n root j₀ j = (j ≤ n) × (every (climbsIn (treeOf n root up) n) j ≡ true)

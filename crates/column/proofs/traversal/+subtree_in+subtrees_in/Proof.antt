@@ -8,18 +8,18 @@ use borrow.Fn.PlainCycle.{Measures, is, falls, and}
 use Rattle.column.specs.SetLaws.{lowest-lt}
 use Rattle.column.specs.Trees.{subtreeIn, subtreesIn}
 use Rattle.column.specs.Descents.{subtree-more, subtrees-more}
-use Rattle.column.proofs.kin.subtree_in.Reads as subtree-in
-use Rattle.column.proofs.kin.subtree_in.Kinds as subtree-in-kinds
-use Rattle.column.proofs.kin.+subtree_in+subtrees_in.Lts-subtree_in as subtree-in-lts
-use Rattle.column.proofs.kin.subtrees_in.Reads as subtrees-in
-use Rattle.column.proofs.kin.subtrees_in.Kinds as subtrees-in-kinds
-use Rattle.column.proofs.kin.+subtree_in+subtrees_in.Lts-subtrees_in as subtrees-in-lts
-use Rattle.column.proofs.kin.children_of.Reads as children-of-reads
+use Rattle.column.proofs.traversal.subtree_in.Reads as subtree-in
+use Rattle.column.proofs.traversal.subtree_in.Kinds as subtree-in-kinds
+use Rattle.column.proofs.traversal.+subtree_in+subtrees_in.Lts-subtree_in as subtree-in-lts
+use Rattle.column.proofs.traversal.subtrees_in.Reads as subtrees-in
+use Rattle.column.proofs.traversal.subtrees_in.Kinds as subtrees-in-kinds
+use Rattle.column.proofs.traversal.+subtree_in+subtrees_in.Lts-subtrees_in as subtrees-in-lts
+use Rattle.column.proofs.traversal.children_of.Reads as children-of-reads
 use Rattle.column.proofs.sets.lowest.Reads as lowest-reads
 use Rattle.column.proofs.sets.single.Reads as single-reads
 use Rattle.column.proofs.sets.without.Reads as without-reads
-use Rattle.column.proofs.kin.+subtree_in+subtrees_in.{statement}
-use Rattle.column.proofs.kin.+subtree_in+subtrees_in.Tie.{close}
+use Rattle.column.proofs.traversal.+subtree_in+subtrees_in.{statement}
+use Rattle.column.proofs.traversal.+subtree_in+subtrees_in.Tie.{close}
 
 abbrev μ-subtree-in : Measures 0 subtree-in-kinds.ps ℕ
 μ-subtree-in κs a = a .1 .1 .0

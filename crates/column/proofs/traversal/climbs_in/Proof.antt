@@ -6,8 +6,8 @@ use native.Mathlib.Omega.{arith}
 use borrow.Author.Tests.{ltb-true}
 use Rattle.column.specs.Trees.{treeOf, parent, parentBelow, climbsIn}
 use Rattle.column.specs.TreeLaws.{every-at, climb-zero, climbs-more, ends-climb}
-use Rattle.column.proofs.kin.climbs_in.Statement.{statement}
-use Rattle.column.proofs.kin.climbs_in.Tie as tie
+use Rattle.column.proofs.traversal.climbs_in.Statement.{statement}
+use Rattle.column.proofs.traversal.climbs_in.Tie as tie
 
 abbrev Inv-loop : tie.InvT-loop
 Inv-loop up n root c at₀ budget₀ at budget =

@@ -9,8 +9,8 @@ use borrow.Author.Tests.{lt-ltb, le-ltb}
 use lib.ListN.{getD}
 use Rattle.column.specs.Trees.{treeOf, every, parentBelow}
 use Rattle.column.specs.TreeLaws.{every-fails}
-use Rattle.column.proofs.kin.parents_below.Statement.{statement}
-use Rattle.column.proofs.kin.parents_below.Tie as tie
+use Rattle.column.proofs.traversal.parents_below.Statement.{statement}
+use Rattle.column.proofs.traversal.parents_below.Tie as tie
 
 abbrev Inv-loop : tie.InvT-loop
 Inv-loop up n j₀ j = (j ≤ n) × (every (parentBelow (treeOf n 0 up)) j ≡ true)
