@@ -1,35 +1,5 @@
-/* The steps of a lone column in plain C, in place, with the refusals of document 01: what crates/column is measured beside.
- * Standard input is a step's letter and a number of laps, as for crates/timing; the number printed must be the same. */
-#include <stdbool.h>
-#include <stdint.h>
-#include <stdio.h>
-
-struct tree {
-    size_t columns;
-    size_t root;
-    size_t up[16];
-};
-
-struct column {
-    bool running;
-    uint16_t number;
-    uint64_t doors;
-    uint16_t send, awaited, owed, noted;
-    bool whole;
-};
-
-struct packet {
-    uint8_t kind; /* 0: none, 1: message, 2: acknowledgement */
-    uint8_t from, to;
-    uint16_t number;
-    uint64_t doors;
-};
-
-struct answer {
-    uint8_t refusal;
-    bool left;
-    struct packet put;
-};
+/* The steps of a lone column in plain C, in place, with the refusals of document 01: what crates/column is measured beside. */
+#include "column.h"
 
 static bool has(uint16_t set, size_t i) { return i < 16 && (set >> i & 1); }
 
@@ -80,7 +50,7 @@ static size_t lowest(uint16_t set) { return (size_t)__builtin_ctz(set); }
 
 static struct answer refused(uint8_t number) { return (struct answer){.refusal = number}; }
 
-static struct answer order(const struct tree *t, size_t i, struct column *c, uint64_t doors) {
+struct answer order(const struct tree *t, size_t i, struct column *c, uint64_t doors) {
     uint8_t refusal = standing(t, i, c);
     if (refusal)
         return refused(refusal);
@@ -98,7 +68,7 @@ static struct answer order(const struct tree *t, size_t i, struct column *c, uin
     return refused(0);
 }
 
-static struct answer send(const struct tree *t, size_t i, struct column *c) {
+struct answer send(const struct tree *t, size_t i, struct column *c) {
     uint8_t refusal = standing(t, i, c);
     if (refusal)
         return refused(refusal);
@@ -124,7 +94,7 @@ static struct packet to_lowest(size_t i, struct column *c) {
     return (struct packet){2, (uint8_t)i, (uint8_t)k, c->number, 0};
 }
 
-static struct answer take(const struct tree *t, size_t i, struct column *c, struct packet p) {
+struct answer take(const struct tree *t, size_t i, struct column *c, struct packet p) {
     uint8_t refusal = standing(t, i, c);
     if (refusal)
         return refused(refusal);
@@ -154,7 +124,7 @@ static struct answer take(const struct tree *t, size_t i, struct column *c, stru
     return refused(0);
 }
 
-static struct answer ack(const struct tree *t, size_t i, struct column *c) {
+struct answer ack(const struct tree *t, size_t i, struct column *c) {
     uint8_t refusal = standing(t, i, c);
     if (refusal)
         return refused(refusal);
@@ -165,7 +135,7 @@ static struct answer ack(const struct tree *t, size_t i, struct column *c) {
     return (struct answer){.put = to_lowest(i, c)};
 }
 
-static struct answer all(const struct tree *t, size_t i, struct column *c) {
+struct answer all(const struct tree *t, size_t i, struct column *c) {
     uint8_t refusal = standing(t, i, c);
     if (refusal)
         return refused(refusal);
@@ -178,7 +148,7 @@ static struct answer all(const struct tree *t, size_t i, struct column *c) {
     return refused(0);
 }
 
-static struct answer note(const struct tree *t, size_t i, struct column *c, size_t j) {
+struct answer note(const struct tree *t, size_t i, struct column *c, size_t j) {
     uint8_t refusal = standing(t, i, c);
     if (refusal)
         return refused(refusal);
@@ -196,7 +166,7 @@ static struct answer note(const struct tree *t, size_t i, struct column *c, size
     return refused(0);
 }
 
-static struct answer halt(const struct tree *t, size_t i, struct column *c) {
+struct answer halt(const struct tree *t, size_t i, struct column *c) {
     uint8_t refusal = standing(t, i, c);
     if (refusal)
         return refused(refusal);
@@ -204,40 +174,4 @@ static struct answer halt(const struct tree *t, size_t i, struct column *c) {
         return refused(5);
     c->running = false;
     return refused(0);
-}
-
-static struct column column(uint64_t lap, bool whole) {
-    return (struct column){.running = true, .number = lap % 1000, .doors = lap, .whole = whole};
-}
-
-static struct column lap_of(char letter, uint64_t lap) {
-    struct tree t = {16, 0, {0, 0, 0, 1, 1, 2, 2, 3, 3, 4, 4, 5, 5, 6, 6, 6 + lap % 2}};
-    struct column c = column(lap, letter == 'o' || letter == 's' || letter == 'e' || letter == 'n' || letter == 'r');
-    switch (letter) {
-    case 'o': order(&t, 0, &c, lap); break;
-    case 's': c.send = 6; send(&t, 0, &c); break;
-    case 'm': take(&t, 1, &c, (struct packet){1, 0, 1, 1000, lap}); break;
-    case 'e': c.awaited = 6; take(&t, 0, &c, (struct packet){2, 2, 0, c.number, 0}); break;
-    case 'a': c.owed = 9; ack(&t, 2, &c); break;
-    case 'l': c.noted = 1; all(&t, 3, &c); break;
-    case 'n': c.awaited = 6; note(&t, 0, &c, 1); break;
-    case 'h': halt(&t, 5, &c); break;
-    default: send(&t, 0, &c); break;
-    }
-    return c;
-}
-
-int main(void) {
-    char letter;
-    unsigned long long laps;
-    if (scanf(" %c %llu", &letter, &laps) != 2)
-        return 1;
-    uint64_t sum = 0;
-    for (uint64_t lap = 0; lap < laps; lap++) {
-        struct column c = lap_of(letter, lap);
-        uint64_t sets = (uint64_t)c.send + c.awaited + c.owed + c.noted;
-        sum = (sum % 16777216 * 31 + c.number + sets + c.running) % 16777216;
-    }
-    printf("%llu\n", (unsigned long long)sum);
-    return 0;
 }

@@ -16,8 +16,8 @@ class Plain(unittest.TestCase):
     def test_every_step_agrees(self):
         with tempfile.TemporaryDirectory() as folder:
             plain = os.path.join(folder, "column")
-            source = os.path.join(ROOT, "bench", "column.c")
-            subprocess.run(["gcc", "-O3", "-Wall", "-Wextra", "-Werror", "-o", plain, source], check=True)
+            sources = [os.path.join(ROOT, "bench", name) for name in ("column.c", "laps.c")]
+            subprocess.run(["gcc", "-O3", "-Wall", "-Wextra", "-Werror", "-o", plain, *sources], check=True)
             proved = os.path.join(ROOT, "target", "bin", "timing")
             sums = {letter: folded(proved, letter) for letter in LETTERS}
             self.assertEqual(sums, {letter: folded(plain, letter) for letter in LETTERS})

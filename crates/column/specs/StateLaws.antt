@@ -3,6 +3,7 @@
 use Prim.Native.Nat.{ℕ, _^_, _≤_, _<_}
 use mathlib.Core.Path.{_≡_, ap}
 use mathlib.Core.Bool.{true, false, not}
+use native.Mathlib.Omega.{arith}
 use lib.Dec.{eqb}
 use borrow.Author.Tests.{eq-eqb, ne-eqb, eqb-true, eqb-false, leb-false, lt-leb, le-leb, not-false}
 use Rattle.column.specs.Cases.{and-none, none-and}
@@ -10,6 +11,7 @@ use Rattle.column.specs.RefusalLaws.{passed, passes, earlier-none}
 use Rattle.column.specs.Sets.{has, within}
 use Rattle.column.specs.SetLaws.{within-lt, lt-within, member-lt, members-lt}
 use Rattle.column.specs.Trees.{treeRefusal}
+use Rattle.column.specs.TreeLaws.{tree-sixteen}
 use Rattle.column.specs.Packets.{isMessage, sender, receiver}
 use Rattle.column.specs.Columns.{stateConditions, stateRefusal, standing}
 use Rattle.column.specs.Steps.{packetConditions, packetRefusal, orderRefusal, takeRefusal, noteRefusal}
@@ -149,3 +151,9 @@ module _ (t : Tree) (i : ℕ) (c : Column) (good : standing t i c ≡ 0) where
 
   pub standing-sound : Sound t i c
   standing-sound = sound t i c (earlier-none (treeRefusal t) (stateRefusal t i c) good .1)
+
+  pub standing-sixteen : t .columns ≤ 16
+  standing-sixteen = tree-sixteen t standing-tree
+
+  pub standing-column : i < 16
+  standing-column = omega (arith, standing-sixteen, standing-sound .below)

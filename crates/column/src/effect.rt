@@ -12,7 +12,7 @@ use crate::step::Answer;
 use crate::step::Outcome;
 use crate::traversal::children_of;
 use crate::tree::Tree;
-ghost use mathlib.Core.Bool.{true, false};
+ghost use mathlib.Core.Bool.{false};
 ghost use mathlib.Core.Path.{_≡_};
 ghost use mathlib.Core.List.{[], _∷_};
 ghost use Prim.Native.Nat.{_<_, _≤_};

@@ -12,7 +12,7 @@ pub fn earlier(n: u8, m: u8) -> u8
     m
 }
 
-// What conditions before this one gave, and its own number where they gave none.
+// n, which the conditions before this one gave; where they gave none, its own number if it holds.
 pub fn refuse_if(n: u8, condition: bool, number: u8) -> u8
     ensures { λ r. ⌜ r ≡ earlier n (first ((number, condition) ∷ [])) ⌝ }
 {

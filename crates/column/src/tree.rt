@@ -37,14 +37,13 @@ pub fn tree_refusal(t: Tree) -> u8
     if n <= root {
         return 3;
     }
-    let up = t.up;
-    if !parents_below(&up, n) {
+    if !parents_below(&t.up, n) {
         return 3;
     }
-    if up[root] != root {
+    if t.up[root] != root {
         return 3;
     }
-    if !climbs_end(&up, n, root) {
+    if !climbs_end(&t.up, n, root) {
         return 3;
     }
     0

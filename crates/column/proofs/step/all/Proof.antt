@@ -1,13 +1,11 @@
 use borrow.Author.Needs.{needs}
-use Prim.Native.Nat.{_≤_}
 use mathlib.Core.Path.{sym, ap, _∙_}
-use native.Mathlib.Omega.{arith}
 use borrow.Author.Tests.{eq-eqb, ne-eqb}
 use Rattle.column.specs.Refusals.{first}
-use Rattle.column.specs.RefusalLaws.{passed, earlier-none}
-use Rattle.column.specs.TreeLaws.{tree-sixteen, tree-root}
+use Rattle.column.specs.RefusalLaws.{earlier-none}
+use Rattle.column.specs.TreeLaws.{tree-root}
 use Rattle.column.specs.Columns.{standing}
-use Rattle.column.specs.StateLaws.{standing-tree, standing-sound}
+use Rattle.column.specs.StateLaws.{standing-tree}
 use Rattle.column.specs.Steps.{refused, allConditions, allRefusal}
 use Rattle.column.proofs.step.all.Statement.{statement}
 use Rattle.column.proofs.step.all.Tie as tie
@@ -28,10 +26,7 @@ unfolding allRefusal
 all-effect-requires c κs =
     let a = c .before .before .args in
     let q = earlier-none (standing (a .t) (a .i) (a .c)) (first (allConditions (a .t) (a .i) (a .c))) (sym (c .before .all-refusal .ensures) ∙ c .if1 .left) in
-    let p = passed (allConditions (a .t) (a .i) (a .c)) tt (q .1) in
-    let sixteen : a .t .columns ≤ 16 = tree-sixteen (a .t) (standing-tree (a .t) (a .i) (a .c) (q .0)) in
-    let s = standing-sound (a .t) (a .i) (a .c) (q .0) in
-    omega (arith, tree-root (a .t) (standing-tree (a .t) (a .i) (a .c) (q .0)))
+    tree-root (a .t) (standing-tree (a .t) (a .i) (a .c) (q .0))
 
 returns-2 : tie.Need-returns-2
 returns-2 c =

@@ -1,13 +1,11 @@
 use borrow.Author.Needs.{needs}
-use Prim.Native.Nat.{_≤_}
 use mathlib.Core.Path.{sym, ap, _∙_}
 use native.Mathlib.Omega.{arith}
 use borrow.Author.Tests.{eq-eqb, ne-eqb, leb-false}
 use Rattle.column.specs.Refusals.{first}
 use Rattle.column.specs.RefusalLaws.{passed, earlier-none}
-use Rattle.column.specs.TreeLaws.{tree-sixteen}
 use Rattle.column.specs.Columns.{standing}
-use Rattle.column.specs.StateLaws.{standing-tree, standing-sound}
+use Rattle.column.specs.StateLaws.{standing-sixteen}
 use Rattle.column.specs.Steps.{refused, noteConditions, noteRefusal}
 use Rattle.column.proofs.step.note.Statement.{statement}
 use Rattle.column.proofs.step.note.Tie as tie
@@ -29,8 +27,7 @@ note-effect-requires c κs =
     let a = c .before .before .args in
     let q = earlier-none (standing (a .t) (a .i) (a .c)) (first (noteConditions (a .t) (a .i) (a .c) (a .j))) (sym (c .before .note-refusal .ensures) ∙ c .if1 .left) in
     let p = passed (noteConditions (a .t) (a .i) (a .c) (a .j)) tt (q .1) in
-    let sixteen : a .t .columns ≤ 16 = tree-sixteen (a .t) (standing-tree (a .t) (a .i) (a .c) (q .0)) in
-    let s = standing-sound (a .t) (a .i) (a .c) (q .0) in
+    let sixteen = standing-sixteen (a .t) (a .i) (a .c) (q .0) in
     (sixteen, omega (arith, leb-false (a .t .columns) (a .j) (p .0)))
 
 returns-2 : tie.Need-returns-2

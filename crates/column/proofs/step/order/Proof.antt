@@ -1,13 +1,11 @@
 use borrow.Author.Needs.{needs}
-use Prim.Native.Nat.{_≤_}
 use mathlib.Core.Path.{sym, ap, _∙_}
 use native.Mathlib.Omega.{arith}
 use borrow.Author.Tests.{eq-eqb, ne-eqb, eqb-false}
 use Rattle.column.specs.Refusals.{first}
 use Rattle.column.specs.RefusalLaws.{passed, earlier-none}
-use Rattle.column.specs.TreeLaws.{tree-sixteen}
 use Rattle.column.specs.Columns.{highest, standing}
-use Rattle.column.specs.StateLaws.{standing-tree, standing-sound}
+use Rattle.column.specs.StateLaws.{standing-sixteen}
 use Rattle.column.specs.Steps.{refused, orderConditions, orderRefusal}
 use Rattle.column.proofs.step.order.Statement.{statement}
 use Rattle.column.proofs.step.order.Tie as tie
@@ -29,9 +27,7 @@ order-effect-requires c κs =
     let a = c .before .before .args in
     let q = earlier-none (standing (a .t) (a .i) (a .c)) (first (orderConditions (a .t) (a .i) (a .c))) (sym (c .before .order-refusal .ensures) ∙ c .if1 .left) in
     let p = passed (orderConditions (a .t) (a .i) (a .c)) tt (q .1) in
-    let sixteen : a .t .columns ≤ 16 = tree-sixteen (a .t) (standing-tree (a .t) (a .i) (a .c) (q .0)) in
-    let s = standing-sound (a .t) (a .i) (a .c) (q .0) in
-    (sixteen, omega (arith, eqb-false (a .c .number) highest (p .1 .1 .1 .0)))
+    (standing-sixteen (a .t) (a .i) (a .c) (q .0), omega (arith, eqb-false (a .c .number) highest (p .1 .1 .1 .0)))
 
 returns-2 : tie.Need-returns-2
 returns-2 c =

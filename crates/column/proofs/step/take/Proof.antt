@@ -1,13 +1,11 @@
 use borrow.Author.Needs.{needs}
-use Prim.Native.Nat.{_≤_}
 use mathlib.Core.Path.{sym, ap, _∙_}
 use native.Mathlib.Omega.{arith}
 use borrow.Author.Tests.{eq-eqb, ne-eqb}
 use Rattle.column.specs.Refusals.{first, earlier}
 use Rattle.column.specs.RefusalLaws.{earlier-none}
-use Rattle.column.specs.TreeLaws.{tree-sixteen}
 use Rattle.column.specs.Columns.{standing}
-use Rattle.column.specs.StateLaws.{acceptable, standing-tree, standing-sound}
+use Rattle.column.specs.StateLaws.{acceptable, standing-sixteen, standing-column}
 use Rattle.column.specs.Steps.{refused, packetRefusal, takeConditions, takeRefusal}
 use Rattle.column.proofs.step.take.Statement.{statement}
 use Rattle.column.proofs.step.take.Tie as tie
@@ -29,9 +27,9 @@ take-effect-requires c κs =
     let a = c .before .before .args in
     let own = first (takeConditions (a .t) (a .i) (a .c) (a .p)) in
     let q = earlier-none (standing (a .t) (a .i) (a .c)) (earlier (packetRefusal (a .t) (a .p)) own) (sym (c .before .take-refusal .ensures) ∙ c .if1 .left) in
-    let sixteen : a .t .columns ≤ 16 = tree-sixteen (a .t) (standing-tree (a .t) (a .i) (a .c) (q .0)) in
     let good = acceptable (a .t) (a .p) (earlier-none (packetRefusal (a .t) (a .p)) own (q .1) .0) in
-    (sixteen, (omega (arith, standing-sound (a .t) (a .i) (a .c) (q .0) .below), omega (arith, good .sender-below)))
+    let sixteen = standing-sixteen (a .t) (a .i) (a .c) (q .0) in
+    (sixteen, (standing-column (a .t) (a .i) (a .c) (q .0), omega (arith, good .sender-below)))
 
 returns-2 : tie.Need-returns-2
 returns-2 c =

@@ -11,7 +11,7 @@ use Rattle.column.proofs.tree.tree_refusal.Tie as tie
 
 -- what is left to test where the root is below
 past-root : (c : tie.Else3)
-    → let t = c .before .before .before .args .t in
+    → let t = c .before .before .before .args .t1 in
     treeRefusal t
     ≡ first
     ((3, not (every (parentBelow t) (t .columns)))
@@ -24,18 +24,18 @@ past-root c =
     simp (ne-eqb _ _ (e2 .before .if1 .left), le-ltb _ _ (e2 .if2 .left), lt-leb _ _ (c .if3 .left))
 
 parents-hold : (c : tie.Else4)
-    → let t = c .before .before .before .before .before .before .before .args .t in
+    → let t = c .before .before .before .before .before .before .before .args .t1 in
     every (parentBelow t) (t .columns) ≡ true
 parents-hold c = sym (c .before .parents-below .ensures) ∙ not-false _ (c .if4 .left)
 
 -- what is left to test where the root is its own parent
 past-own : (c : tie.Else5)
-    → let t = c .before .before .before .before .before .before .before .before .args .t in
+    → let t = c .before .before .before .before .before .before .before .before .before .args .t1 in
     treeRefusal t ≡ first ((3, not (every (climbsIn t (t .columns)) (t .columns))) ∷ [])
 past-own c =
-    let e4 = c .before in
+    let e4 = c .before .before in
     let e3 = e4 .before .before .before .before in
-    let t = e3 .before .before .before .args .t in
+    let t = e3 .before .before .before .args .t1 in
     past-root e3 ∙ simp (parents-hold e4, eq-eqb (parent t (t .root)) (t .root) (c .if5 .left))
 
 returns : tie.Need-returns
@@ -61,24 +61,24 @@ returns-4 c = rw (past-root (c .before .before .before .before), sym (c .before 
 mul-if5 : tie.Need-mul-if5
 mul-if5 c = search needs
 
-array-read-if5 : tie.Need-array-read-if5
-array-read-if5 c = search needs
+element-copy-out-if5 : tie.Need-element-copy-out-if5
+element-copy-out-if5 c = search needs
 
 returns-5 : tie.Need-returns-5
 returns-5 c =
-    let e4 = c .before in
+    let e4 = c .before .before in
     let e3 = e4 .before .before .before .before in
-    let t = e3 .before .before .before .args .t in
+    let t = e3 .before .before .before .args .t1 in
     rw (past-root e3) (simp (parents-hold e4, ne-eqb (parent t (t .root)) (t .root) (c .if5 .taken)))
 
 climbs-end-requires : tie.Need-climbs-end-requires
-climbs-end-requires c κs = (search needs, parents-hold (c .before .before))
+climbs-end-requires c κs = (search needs, parents-hold (c .before .before .before .before))
 
 returns-6 : tie.Need-returns-6
-returns-6 c = rw (past-own (c .before .before .before), sym (c .before .climbs-end .ensures) ∙ not-true _ (c .if6 .taken))
+returns-6 c = rw (past-own (c .before .before .before .before), sym (c .before .climbs-end .ensures) ∙ not-true _ (c .if6 .taken))
 
 returns-7 : tie.Need-returns-7
-returns-7 c = rw (past-own (c .before .before .before), sym (c .before .climbs-end .ensures) ∙ not-false _ (c .if6 .left))
+returns-7 c = rw (past-own (c .before .before .before .before), sym (c .before .climbs-end .ensures) ∙ not-false _ (c .if6 .left))
 
 pub tree-refusal-spec : {M : Type 1} → statement M
 tree-refusal-spec =
@@ -90,7 +90,7 @@ tree-refusal-spec =
     parents-below-requires
     returns-4
     mul-if5
-    array-read-if5
+    element-copy-out-if5
     returns-5
     climbs-end-requires
     returns-6
