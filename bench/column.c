@@ -1,11 +1,7 @@
 /* The steps of a lone column in plain C, in place, with the refusals of document 01: what crates/column is measured beside. */
 #include "column.h"
 
-static bool has(uint16_t set, size_t i) { return i < 16 && (set >> i & 1); }
-
-static bool within(uint16_t set, size_t n) { return n >= 16 || set >> n == 0; }
-
-static uint8_t tree_refusal(const struct tree *t) {
+uint8_t tree_refusal(const struct tree *t) {
     size_t n = t->columns;
     if (n == 0 || n > 16)
         return 2;
@@ -32,10 +28,7 @@ static uint8_t standing(const struct tree *t, size_t i, const struct column *c) 
     uint8_t refusal = tree_refusal(t);
     if (refusal)
         return refusal;
-    if (i >= t->columns || !within(c->send | c->awaited | c->owed | c->noted, t->columns) || has(c->owed, i)
-        || (i == t->root && !c->whole))
-        return 4;
-    return 0;
+    return stands(t, i, c) ? 0 : 4;
 }
 
 static uint16_t children(const struct tree *t, size_t c) {
@@ -68,6 +61,19 @@ struct answer order(const struct tree *t, size_t i, struct column *c, uint64_t d
     return refused(0);
 }
 
+struct packet send_effect(const struct tree *t, size_t i, struct column *c) {
+    size_t k = lowest(c->send);
+    c->send &= ~(1u << k);
+    if (k == i)
+        return (struct packet){0};
+    if (has(c->noted, k)) {
+        c->send |= children(t, k);
+        return (struct packet){0};
+    }
+    c->awaited |= 1u << k;
+    return (struct packet){1, (uint8_t)i, (uint8_t)k, c->number, c->doors};
+}
+
 struct answer send(const struct tree *t, size_t i, struct column *c) {
     uint8_t refusal = standing(t, i, c);
     if (refusal)
@@ -76,16 +82,7 @@ struct answer send(const struct tree *t, size_t i, struct column *c) {
         return refused(5);
     if (!c->send)
         return refused(6);
-    size_t k = lowest(c->send);
-    c->send &= ~(1u << k);
-    if (k == i)
-        return refused(0);
-    if (has(c->noted, k)) {
-        c->send |= children(t, k);
-        return refused(0);
-    }
-    c->awaited |= 1u << k;
-    return (struct answer){.put = {1, (uint8_t)i, (uint8_t)k, c->number, c->doors}};
+    return (struct answer){.put = send_effect(t, i, c)};
 }
 
 static struct packet to_lowest(size_t i, struct column *c) {
@@ -94,14 +91,7 @@ static struct packet to_lowest(size_t i, struct column *c) {
     return (struct packet){2, (uint8_t)i, (uint8_t)k, c->number, 0};
 }
 
-struct answer take(const struct tree *t, size_t i, struct column *c, struct packet p) {
-    uint8_t refusal = standing(t, i, c);
-    if (refusal)
-        return refused(refusal);
-    if (p.from >= t->columns || p.to >= t->columns || p.from == p.to || (p.kind == 1 && p.to == t->root) || p.to != i)
-        return refused(4);
-    if (!c->running)
-        return refused(5);
+struct answer take_effect(const struct tree *t, size_t i, struct column *c, struct packet p) {
     if (p.kind == 2) {
         if (p.number == c->number)
             c->awaited &= ~(1u << p.from);
@@ -122,6 +112,17 @@ struct answer take(const struct tree *t, size_t i, struct column *c, struct pack
     c->owed = 1u << p.from;
     c->whole = false;
     return refused(0);
+}
+
+struct answer take(const struct tree *t, size_t i, struct column *c, struct packet p) {
+    uint8_t refusal = standing(t, i, c);
+    if (refusal)
+        return refused(refusal);
+    if (p.from >= t->columns || p.to >= t->columns || p.from == p.to || (p.kind == 1 && p.to == t->root) || p.to != i)
+        return refused(4);
+    if (!c->running)
+        return refused(5);
+    return take_effect(t, i, c, p);
 }
 
 struct answer ack(const struct tree *t, size_t i, struct column *c) {
@@ -148,6 +149,14 @@ struct answer all(const struct tree *t, size_t i, struct column *c) {
     return refused(0);
 }
 
+void note_effect(const struct tree *t, struct column *c, size_t j) {
+    c->noted |= 1u << j;
+    if (has(c->awaited, j)) {
+        c->awaited &= ~(1u << j);
+        c->send |= children(t, j);
+    }
+}
+
 struct answer note(const struct tree *t, size_t i, struct column *c, size_t j) {
     uint8_t refusal = standing(t, i, c);
     if (refusal)
@@ -158,11 +167,7 @@ struct answer note(const struct tree *t, size_t i, struct column *c, size_t j) {
         return refused(5);
     if (j == i || has(c->noted, j))
         return refused(6);
-    c->noted |= 1u << j;
-    if (has(c->awaited, j)) {
-        c->awaited &= ~(1u << j);
-        c->send |= children(t, j);
-    }
+    note_effect(t, c, j);
     return refused(0);
 }
 

@@ -1,27 +1,34 @@
-"""The proved steps of a lone column and the plain C of bench/ fold a thousand laps of each step into the same number."""
+"""The proved steps, of a lone column and of a bank, and the plain C of bench/ fold laps of each step into the same number."""
 import os
 import subprocess
 import tempfile
 import unittest
 
 ROOT = os.path.dirname(os.path.dirname(os.path.abspath(__file__)))
-LETTERS = "osmealnhr"
+LONE = [f"{letter} 1000" for letter in "osmealnhr"]
+BANK = [f"{letter} {columns} {packets} 200" for letter in "nt" for columns in ("03", "16") for packets in ("002", "100", "400", "512")]
 
 
-def folded(program, letter):
-    return subprocess.run([program], input=f"{letter} 1000\n", capture_output=True, text=True, check=True).stdout
+def folded(program, line):
+    return subprocess.run([program], input=f"{line}\n", capture_output=True, text=True, check=True).stdout
 
 
 class Plain(unittest.TestCase):
-    def test_every_step_agrees(self):
+    def agree(self, name, lines, *sources):
         with tempfile.TemporaryDirectory() as folder:
-            plain = os.path.join(folder, "column")
-            sources = [os.path.join(ROOT, "bench", name) for name in ("column.c", "laps.c")]
-            subprocess.run(["gcc", "-O3", "-Wall", "-Wextra", "-Werror", "-o", plain, *sources], check=True)
-            proved = os.path.join(ROOT, "target", "bin", "timing")
-            sums = {letter: folded(proved, letter) for letter in LETTERS}
-            self.assertEqual(sums, {letter: folded(plain, letter) for letter in LETTERS})
-            self.assertGreater(len(set(sums.values())), len(LETTERS) // 2)
+            plain = os.path.join(folder, "plain")
+            files = [os.path.join(ROOT, "bench", source) for source in sources]
+            subprocess.run(["gcc", "-O3", "-Wall", "-Wextra", "-Werror", "-o", plain, *files], check=True)
+            proved = os.path.join(ROOT, "target", "bin", name)
+            sums = {line: folded(proved, line) for line in lines}
+            self.assertEqual(sums, {line: folded(plain, line) for line in lines})
+            self.assertGreater(len(set(sums.values())), len(lines) // 2)
+
+    def test_every_step_of_a_column_agrees(self):
+        self.agree("timing", LONE, "column.c", "laps.c")
+
+    def test_steps_of_a_bank_agree(self):
+        self.agree("bank_timing", BANK, "column.c", "bank.c", "bank_laps.c")
 
 
 if __name__ == "__main__":

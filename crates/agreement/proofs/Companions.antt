@@ -1,0 +1,77 @@
+-- What stands beside agreement. Assumes nothing.
+use Prim.Native.Nat.{ℕ, zero, suc, _<_}
+use native.Mathlib.Omega.{arith}
+use native.Mathlib.Numerals.{add-one}
+use mathlib.Core.Path.{_≡_, refl, ap, _∙_}
+use mathlib.Core.Logic.{⊎-elim}
+use mathlib.Core.List.{_∷_}
+use lib.ListN.{length}
+use Rattle.column.specs.Cases.{truth}
+use Rattle.column.specs.Packets.{receiver}
+use Rattle.column.specs.StateLaws.{acceptable}
+use Rattle.column.specs.declared.tree.Tree.{Tree}
+use Rattle.column.specs.declared.state.Column.{Column}
+use Rattle.bank.specs.Banks.{State, columnAt, runs, packetAt}
+use Rattle.bank.specs.Rest.{Running, AtRest}
+use Rattle.bank.specs.StandingLaws.{Stands}
+use Rattle.bank.specs.RestLaws.{halted-rests}
+use Rattle.bank.specs.declared.step.Step.the-variants.{Order}
+use Rattle.agreement.specs.History.{World, rootOf, run}
+use Rattle.agreement.specs.Agreement.{begin}
+use Rattle.agreement.specs.Companions.{Passes, Ordered, OrdersCount, HaltedRests}
+use Rattle.agreement.proofs.Model.{Runs}
+use Rattle.agreement.proofs.Move.{Move, orders, order}
+use Rattle.agreement.proofs.View.{modelOf}
+use Rattle.agreement.proofs.Perform.{refines}
+use Rattle.agreement.proofs.Reached.{Reached, start, reached, reached-stands, reached-passes}
+
+pub passes : Passes
+passes t ok heads doors h d xs = let w = begin t heads doors in reached-passes (run w xs) (reached w xs (start t ok heads doors h d))
+
+-- ---- the n-th accepted order
+
+module _ (w : World) (r : Reached w) where
+  root-newest : Runs (modelOf (w .state) (w .orders)) (rootOf (w .state)) → columnAt (w .state .bank) (rootOf (w .state)) .number ≡ length (w .orders)
+  root-newest = r .invariant .root-newest
+
+  -- the root of the bank that an order leaves
+  told-root : (d : ℕ) (s' : State) → s' .bank .tree ≡ w .state .bank .tree
+      → Move (w .state .bank .tree) (modelOf (w .state) (w .orders)) (modelOf s' (d ∷ w .orders)) (orders d)
+      → (columnAt (s' .bank) (rootOf s') .number ≡ suc (length (w .orders))) × (columnAt (s' .bank) (rootOf s') .doors ≡ d)
+  told-root d s' e (order d' runs idle b) =
+      let root : rootOf s' ≡ rootOf (w .state) = ap (λ (t : Tree). t .root) e in (
+        ap (λ (i : ℕ). columnAt (s' .bank) i .number) root ∙ ap (λ (c : Column). c .number) (b .mine) ∙ add-one _ ∙ ap suc (root-newest runs),
+        ap (λ (i : ℕ). columnAt (s' .bank) i .doors) root ∙ ap (λ (c : Column). c .doors) (b .mine),
+      )
+
+  ordered : Ordered w
+  ordered = record { gives = λ d s' e. let f = refines (w .state) (r .formed) (w .orders) (Order d) s' e in told-root d s' (f .same-tree) (f .move) }
+
+pub orders-count : OrdersCount
+orders-count t ok heads doors h d xs = let w = begin t heads doors in ordered (run w xs) (reached w xs (start t ok heads doors h d))
+
+-- ---- every column halted
+
+module _ (w : World) (r : Reached w) (nobody : (i : ℕ) → Running (w .state) i → ⊥) where
+  -- a packet has a receiver that runs
+  no-packet : w .state .bank .count ≡ 0
+  no-packet = go (w .state .bank .count) refl
+    where
+      st : Stands (w .state)
+      st = reached-stands w r
+
+      go : (n : ℕ) → w .state .bank .count ≡ n → w .state .bank .count ≡ 0
+      go zero e = e
+      go (suc n) e =
+          let h : 0 < w .state .bank .count = omega (arith, e) in
+          let p = packetAt (w .state) 0 in
+          absurd (nobody (receiver p) (acceptable (w .state .bank .tree) p (st .packets 0 h) .receiver-below, st .receivers 0 h))
+
+  nobody-rests : AtRest (w .state)
+  nobody-rests = halted-rests (w .state) no-packet
+      (λ i h. ⊎-elim (λ e. absurd (nobody i (h, e))) (λ e. e) (truth (runs (w .state .bank) i)))
+
+pub halted-rest : HaltedRests
+halted-rest t ok heads doors h d xs nobody =
+    let w = begin t heads doors in
+    nobody-rests (run w xs) (reached w xs (start t ok heads doors h d)) nobody

@@ -1,0 +1,144 @@
+-- The moves of a bank: a rule for each effect that an accepted step can have. `send` and `ack` serve any member of their set, and `take`
+-- takes any packet of the network, so that the argument holds for every order of service.
+use Prim.Native.Nat.{ℕ, _<_, _+_}
+use mathlib.Core.Path.{_≡_}
+use mathlib.Core.Logic.{_≢_, _⊎_}
+use mathlib.Core.Bool.{Bool, true, false}
+use mathlib.Core.List.{List, _∷_}
+use Rattle.column.specs.Sets.{single, join, insert, without}
+use Rattle.column.specs.Trees.{children}
+use Rattle.column.specs.Columns.{withSets}
+use Rattle.column.specs.declared.tree.Tree.{Tree}
+use Rattle.column.specs.declared.state.Column.{Column}
+use Rattle.column.specs.declared.packet.Packet.{Packet}
+use Rattle.column.specs.declared.packet.Packet.the-variants.{Message, Acknowledgement}
+use Rattle.bank.specs.NetworkLaws.{others}
+use Rattle.agreement.proofs.Model.{In, Empty, State, Runs, post, Taken, Becomes}
+
+-- ---- what a column becomes
+
+-- a column with a new record, other sets and another goal
+abbrev pub renewed : Column → ℕ → ℕ → ℕ → ℕ → ℕ → Bool → Column
+renewed c number doors send awaited owed whole =
+    record {
+      running = c .running;
+      number = number;
+      doors = doors;
+      send = send;
+      awaited = awaited;
+      owed = owed;
+      noted = c .noted;
+      whole = whole;
+    }
+
+abbrev pub serving : Column → ℕ → ℕ → Column
+serving c send awaited = withSets c send awaited (c .owed)
+
+abbrev pub owing : Column → ℕ → Column
+owing c owed = withSets c (c .send) (c .awaited) owed
+
+abbrev pub noting : Column → ℕ → ℕ → ℕ → Column
+noting c send awaited noted =
+    record {
+      running = c .running;
+      number = c .number;
+      doors = c .doors;
+      send = send;
+      awaited = awaited;
+      owed = c .owed;
+      noted = noted;
+      whole = c .whole;
+    }
+
+abbrev pub halted : Column → Column
+halted c =
+    record {
+      running = false;
+      number = c .number;
+      doors = c .doors;
+      send = c .send;
+      awaited = c .awaited;
+      owed = c .owed;
+      noted = c .noted;
+      whole = c .whole;
+    }
+
+-- ---- the moves
+
+-- which step a move is: a send with the column that it serves, a take with its packet
+pub data Event : Type 0 where
+  orders : ℕ → Event
+  sends : ℕ → ℕ → Event
+  takes : Packet → Event
+  acknowledges : ℕ → Event
+  widens : ℕ → Event
+  notes : ℕ → ℕ → Event
+  halts : ℕ → Event
+
+-- neither sends nor awaits
+abbrev pub Idle : Column → Type 0
+Idle c = Empty (c .send) × Empty (c .awaited)
+
+pub data Move (t : Tree) (s s' : State) : Event → Type 0 where
+  order : (d : ℕ) →
+      Runs s (t .root) → Idle (s .columns (t .root)) →
+      Becomes s s' (t .root)
+      (renewed (s .columns (t .root)) (s .columns (t .root) .number + 1) d (children t (t .root)) (s .columns (t .root) .awaited)
+      (s .columns (t .root) .owed) (s .columns (t .root) .whole))
+      (s .network) (d ∷ s .orders) → Move t s s' (orders d)
+  send-self : (a x : ℕ) →
+      Runs s a → x ≡ a → In (s .columns a .send) x →
+      Becomes s s' a (serving (s .columns a) (without (s .columns a .send) x) (s .columns a .awaited)) (s .network) (s .orders) →
+      Move t s s' (sends a x)
+  send-noted : (a x : ℕ) →
+      Runs s a → In (s .columns a .send) x → In (s .columns a .noted) x →
+      Becomes s s' a (serving (s .columns a) (join (without (s .columns a .send) x) (children t x)) (s .columns a .awaited))
+      (s .network) (s .orders) → Move t s s' (sends a x)
+  send-message : (a x : ℕ) →
+      Runs s a → x ≢ a → In (s .columns a .send) x → ¬ In (s .columns a .noted) x →
+      Becomes s s' a (serving (s .columns a) (without (s .columns a .send) x) (insert (s .columns a .awaited) x))
+      (post s (Message a x (s .columns a .number) (s .columns a .doors)) (s .network)) (s .orders) → Move t s s' (sends a x)
+  take-acknowledgement : (a q k : ℕ) {l : List Packet} →
+      Runs s a → k ≡ s .columns a .number → Taken (s .network) (Acknowledgement q a k) l →
+      Becomes s s' a (serving (s .columns a) (s .columns a .send) (without (s .columns a .awaited) q)) l (s .orders) →
+      Move t s s' (takes (Acknowledgement q a k))
+  take-stale : (a q k : ℕ) {l : List Packet} →
+      Runs s a → k ≢ s .columns a .number → Taken (s .network) (Acknowledgement q a k) l →
+      Becomes s s' a (s .columns a) l (s .orders) → Move t s s' (takes (Acknowledgement q a k))
+  take-equal : (a q k d : ℕ) {l : List Packet} →
+      Runs s a → k ≡ s .columns a .number → Taken (s .network) (Message q a k d) l →
+      Becomes s s' a (owing (s .columns a) (insert (s .columns a .owed) q)) l (s .orders) → Move t s s' (takes (Message q a k d))
+  take-lower : (a q k d : ℕ) {l : List Packet} →
+      Runs s a → k < s .columns a .number → Taken (s .network) (Message q a k d) l →
+      Becomes s s' a (s .columns a) (post s (Acknowledgement a q k) l) (s .orders) → Move t s s' (takes (Message q a k d))
+  -- a higher number where someone is owed: the packet is left
+  take-left : (a q k d r : ℕ) {l : List Packet} →
+      Runs s a → s .columns a .number < k → Taken (s .network) (Message q a k d) l → In (s .columns a .owed) r →
+      Becomes s s' a (owing (s .columns a) (without (s .columns a .owed) r))
+      (post s (Acknowledgement a r (s .columns a .number)) (s .network)) (s .orders) → Move t s s' (takes (Message q a k d))
+  take-higher : (a q k d : ℕ) {l : List Packet} →
+      Runs s a → s .columns a .number < k → Taken (s .network) (Message q a k d) l → Empty (s .columns a .owed) →
+      Becomes s s' a (renewed (s .columns a) k d (children t a) 0 (single q) false) l (s .orders) →
+      Move t s s' (takes (Message q a k d))
+  acknowledge : (a r : ℕ) →
+      Runs s a → In (s .columns a .owed) r → (s .columns a .whole ≡ true) ⊎ Idle (s .columns a) →
+      Becomes s s' a (owing (s .columns a) (without (s .columns a .owed) r))
+      (post s (Acknowledgement a r (s .columns a .number)) (s .network)) (s .orders) → Move t s s' (acknowledges a)
+  widen : (a : ℕ) →
+      Runs s a → a ≢ t .root → In (s .columns a .noted) (t .root) → s .columns a .whole ≡ false → Idle (s .columns a) →
+      Becomes s s' a
+      (renewed (s .columns a) (s .columns a .number) (s .columns a .doors) (single (t .root)) (s .columns a .awaited)
+      (s .columns a .owed) true)
+      (s .network) (s .orders) → Move t s s' (widens a)
+  note-awaited : (a j : ℕ) →
+      Runs s a → j < t .columns → ¬ Runs s j → In (s .columns a .awaited) j →
+      Becomes s s' a
+      (noting (s .columns a) (join (s .columns a .send) (children t j)) (without (s .columns a .awaited) j) (insert (s .columns a .noted) j))
+      (s .network) (s .orders) → Move t s s' (notes a j)
+  note-other : (a j : ℕ) →
+      Runs s a → j < t .columns → ¬ Runs s j → ¬ In (s .columns a .awaited) j →
+      Becomes s s' a (noting (s .columns a) (s .columns a .send) (s .columns a .awaited) (insert (s .columns a .noted) j))
+      (s .network) (s .orders) → Move t s s' (notes a j)
+  halt : (a : ℕ) →
+      Runs s a →
+      Becomes s s' a (halted (s .columns a)) (others a (s .network)) (s .orders) → Move t s s' (halts a)

@@ -1,0 +1,51 @@
+-- The model's state that a bank stands for, and what a bank must have so that its words mean what they should.
+use Prim.Native.Nat.{ℕ, _<_}
+use mathlib.Core.Path.{_≡_}
+use mathlib.Core.Bool.{_&&_}
+use mathlib.Core.List.{List}
+use lib.Dec.{ltb}
+use lib.ListN.{length}
+use Rattle.column.specs.Sets.{choose}
+use Rattle.column.specs.declared.tree.Tree.{Tree}
+use Rattle.column.specs.declared.state.Column.{Column}
+use Rattle.bank.specs.Words.{numbers}
+use Rattle.bank.specs.Banks.{State, columnAt, packetAt}
+use Rattle.bank.specs.NetworkLaws.{packetsOf, Whole}
+use Rattle.bank.specs.declared.step.Step.{Step}
+use Rattle.bank.specs.declared.step.Step.the-variants.{Order, Send, Take, Ack, All, Note, Halt}
+use Rattle.agreement.proofs.Model as model
+use Rattle.agreement.proofs.Move as move
+
+-- a column past the tree's never runs
+abbrev pub view : Tree → ℕ → Column → Column
+view t i c =
+    record {
+      running = ltb i (t .columns) && c .running;
+      number = c .number;
+      doors = c .doors;
+      send = c .send;
+      awaited = c .awaited;
+      owed = c .owed;
+      noted = c .noted;
+      whole = c .whole;
+    }
+
+abbrev pub modelOf : State → List ℕ → model.State
+modelOf s orders =
+    record { columns = λ i. view (s .bank .tree) i (columnAt (s .bank) i); network = packetsOf s; orders = orders }
+
+-- which move a step is
+abbrev pub event : State → Step → move.Event
+event s (Order doors) = move.orders doors
+event s (Send i) = move.sends i (choose (columnAt (s .bank) i .send))
+event s (Take place) = move.takes (packetAt s place)
+event s (Ack i) = move.acknowledges i
+event s (All i) = move.widens i
+event s (Note i j) = move.notes i j
+event s (Halt i) = move.halts i
+
+-- all places are there, and the numbers are such as a packet's words hold
+pub record Formed (s : State) : Type 0 where
+  pub places : length (s .bank .columns) ≡ 16
+  pub whole : Whole s
+  pub numbers-fit : (i : ℕ) → columnAt (s .bank) i .number < numbers

@@ -1,0 +1,27 @@
+-- What stands beside agreement, so that a bank that refuses everything would not do.
+use Prim.Native.Nat.{ℕ, suc}
+use mathlib.Core.Path.{_≡_}
+use lib.ListN.{length}
+use Rattle.bank.specs.Banks.{State, columnAt, bankRefusal}
+use Rattle.bank.specs.Steps.{accepted, perform}
+use Rattle.bank.specs.Rest.{Running, AtRest}
+use Rattle.bank.specs.declared.step.Step.the-variants.{Order}
+use Rattle.agreement.specs.History.{World, rootOf}
+use Rattle.agreement.specs.Agreement.{AfterEveryList}
+
+-- a bank passes rows 2, 3 and 4, its halted columns and the count of its packets included: a step is refused with 4 only for its own
+-- parameters
+abbrev pub Passes : Type 0
+Passes = AfterEveryList (λ w. bankRefusal (w .state) ≡ 0)
+
+-- "From fresh, the n-th accepted order gives number n and its doors."
+pub record Ordered (w : World) : Type 0 where
+  pub gives : (doors : ℕ) (s : State) → perform (w .state) (Order doors) ≡ accepted s
+      → (columnAt (s .bank) (rootOf s) .number ≡ suc (length (w .orders))) × (columnAt (s .bank) (rootOf s) .doors ≡ doors)
+
+abbrev pub OrdersCount : Type 0
+OrdersCount = AfterEveryList Ordered
+
+-- "A bank with every column halted is at rest."
+abbrev pub HaltedRests : Type 0
+HaltedRests = AfterEveryList (λ w. ((i : ℕ) → Running (w .state) i → ⊥) → AtRest (w .state))

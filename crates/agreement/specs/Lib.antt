@@ -1,0 +1,5 @@
+pub mod Orders
+pub mod History
+pub mod Agreement
+pub mod Companions
+pub mod Runs

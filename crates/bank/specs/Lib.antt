@@ -1,0 +1,16 @@
+pub mod Words
+pub mod WordLaws
+pub mod Lists
+pub mod ListLaws
+pub mod Banks
+pub mod Standing
+pub mod StandingLaws
+pub mod FreshLaws
+pub mod Networks
+pub mod NetworkLaws
+pub mod Steps
+pub mod StepLaws
+pub mod Unchanged
+pub mod Rest
+pub mod RestSteps
+pub mod RestLaws

@@ -1,0 +1,70 @@
+-- What a list holds after one place of its first c was taken out, or only some of its first c were kept: in front what is left, then what
+-- the free places hold, and from c on what was there.
+-- Assumes nothing.
+use Prim.Native.Nat.{ℕ, _+_, _-_, _≤_, _<_}
+use mathlib.Core.Path.{_≡_, sym, ap, ap₂, _∙_}
+use mathlib.Core.List.{List, _∷_, _++_, append-assoc}
+use native.Mathlib.Omega.{arith}
+use lib.ListN.{length, getD, take, drop, replicate, length-take, length-drop, length-append, length-replicate, getD-replicate, List·getD-append}
+use lib.Seq.{length-take-le, take-at, take-take, take-add, drop-at, drop-append-add, getD-at, getD-append-add}
+use Rattle.bank.specs.Lists.{closedUp, padded}
+
+-- The places from `few` on, below c, hold v now; those from c on are as they were.
+pub record Freed {A : Type 0} (v : A) (few c : ℕ) (old new : List A) : Type 0 where
+  pub free : (k : ℕ) → few ≤ k → k < c → getD new k v ≡ v
+  pub others-kept : drop c new ≡ drop c old
+
+module _ {A : Type 0} (l : List A) (p c : ℕ) (v : A) (h : p < c) (g : c ≤ length l) where
+  abbrev left : List A
+  left = take p l ++ take (c - 1 - p) (drop (p + 1) l)
+
+  left-length : length left ≡ c - 1
+  left-length = simp (length-append, length-take, length-drop) (omega arith)
+
+  pub closed-up-front : take (c - 1) (closedUp l p c v) ≡ take p (take c l) ++ drop (p + 1) (take c l)
+  unfolding closedUp
+  closed-up-front =
+      let e : c ≡ p + 1 + (c - 1 - p) = omega arith in
+      let rest : drop (p + 1) (take c l) ≡ take (c - 1 - p) (drop (p + 1) l) =
+      ap (λ n. drop (p + 1) (take n l)) e ∙ ap (drop (p + 1)) (take-add (p + 1) (c - 1 - p) l)
+      ∙ drop-at (take (p + 1) l) _ (p + 1) (length-take-le (p + 1) l (omega arith)) in
+      take-at left (v ∷ drop c l) (c - 1) left-length ∙ sym (ap₂ _++_ (take-take p c l (omega arith)) rest)
+
+  pub closed-up-length : length (closedUp l p c v) ≡ length l
+  unfolding closedUp
+  closed-up-length = simp (length-append, length-take, length-drop) (omega arith)
+
+  pub closed-up-freed : Freed v (c - 1) c l (closedUp l p c v)
+  unfolding closedUp
+  closed-up-freed =
+      let e : c ≡ length left + 1 = omega (arith, left-length) in
+      record {
+        free = λ k a b.
+            let s : length left ≡ k = left-length ∙ omega arith in
+            getD-at left v (drop c l) v k s;
+        others-kept = ap (λ n. drop n (left ++ (v ∷ drop c l))) e ∙ drop-append-add left (v ∷ drop c l) 1;
+      }
+
+module _ {A : Type 0} (w old : List A) (c : ℕ) (v : A) where
+  pub padded-front : (k : ℕ) → length w ≡ k → take k (padded w c v old) ≡ w
+  unfolding padded
+  padded-front k e = take-at w _ k e
+
+  pub padded-length : length w ≤ c → c ≤ length old → length (padded w c v old) ≡ length old
+  unfolding padded
+  padded-length h g = simp (length-append, length-replicate, length-drop) (omega arith)
+
+  pub padded-freed : length w ≤ c → Freed v (length w) c old (padded w c v old)
+  unfolding padded
+  padded-freed h =
+      let r = replicate (c - length w) v in
+      record {
+        free = λ k a b.
+            let m = k - length w in
+            let s : k ≡ length w + m = omega arith in
+            let t : m < length r = simp length-replicate (omega arith) in
+            ap (λ n. getD (w ++ (r ++ drop c old)) n v) s ∙ getD-append-add w (r ++ drop c old) m v
+            ∙ List·getD-append r (drop c old) v m t ∙ getD-replicate (c - length w) m v v (omega arith);
+        others-kept = ap (drop c) (sym (append-assoc w r (drop c old)))
+            ∙ drop-at (w ++ r) (drop c old) c (simp (length-append, length-replicate) (omega arith));
+      }

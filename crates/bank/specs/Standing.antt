@@ -1,0 +1,24 @@
+-- What every step tests first, from the heads of the packets alone: the doors that they carry are not looked at.
+use Prim.Native.Nat.{ℕ}
+use mathlib.Core.Path.{_≡_}
+use mathlib.Core.List.{List}
+use mathlib.Core.Bool.{Bool, not, _&&_, _||_}
+use lib.Dec.{eqb, leb, ltb}
+use Rattle.column.specs.Sets.{has}
+use Rattle.bank.specs.Banks.{state, bankRefusal, actingRefusal}
+use Rattle.bank.specs.declared.bank.Bank.{Bank}
+use Rattle.bank.specs.Words.{acknowledging, receiverIn, senderIn}
+
+unfoldable pub headStands : ℕ → ℕ → ℕ → ℕ → Bool
+headStands columns root running head =
+    ltb (receiverIn head) columns
+    && (((ltb (senderIn head) columns && not (eqb (senderIn head) (receiverIn head)))
+    && (leb acknowledging head || not (eqb (receiverIn head) root)))
+    && has running (receiverIn head))
+
+-- n is the refusal of the bank, whatever the doors
+abbrev pub RefusesBank : ℕ → Bank → List ℕ → Type 0
+RefusesBank n b heads = (doors : List ℕ) → n ≡ bankRefusal (state b heads doors)
+
+abbrev pub RefusesActing : ℕ → Bank → List ℕ → ℕ → Type 0
+RefusesActing n b heads i = (doors : List ℕ) → n ≡ actingRefusal (state b heads doors) i

@@ -1,0 +1,214 @@
+-- What a step of a bank comes to: refused where row 4 refuses, and otherwise what the core's result makes of the bank.
+-- Assumes nothing.
+use Prim.Native.Nat.{ℕ, _+_, _≤_, _<_}
+use mathlib.Core.Path.{_≡_, refl, sym, ap, _∙_}
+use mathlib.Core.Bool.{Bool, true, false, cond, true≢false}
+use mathlib.Core.List.{List, [], _∷_}
+use native.Mathlib.Omega.{arith}
+use lib.Dec.{eqb, leb}
+use lib.ListN as list
+use borrow.Author.Tests.{eq-eqb, ne-eqb, lt-ltb, le-ltb, leb-false}
+use Rattle.column.specs.Refusals.{first}
+use Rattle.column.specs.RefusalLaws.{passed, earlier-none}
+use Rattle.column.specs.TreeLaws.{tree-sixteen}
+use Rattle.column.specs.Packets.{receiver}
+use Rattle.column.specs.StateLaws.{acceptable}
+use Rattle.column.specs.Steps as core
+use Rattle.column.specs.Steps.{haltRefusal, haltEffect}
+use Rattle.column.specs.declared.step.Answer as core-answer
+use Rattle.column.specs.declared.step.Answer.the-variants as core-is
+use Rattle.column.specs.declared.state.Column.{Column}
+use Rattle.column.specs.declared.packet.Packet.{Packet}
+use Rattle.bank.specs.Banks.{State, state, runs, packetAt, capacity, bankRefusal, actingRefusal}
+use Rattle.bank.specs.StandingLaws.{stands, acting}
+use Rattle.bank.specs.Lists.{keeping-few}
+use Rattle.bank.specs.Networks.{withPacket, put, puts, elsewhere, vanished}
+use Rattle.bank.specs.Steps.{Outcome, accepted, refused, answered, outcome, unless, withColumn, fitting, settled, acted, tested}
+use Rattle.bank.specs.Steps.{takeRefusal}
+use Rattle.bank.specs.declared.bank.Bank.{Bank}
+use Rattle.bank.specs.declared.bank.Answer.{Answer}
+use Rattle.bank.specs.declared.bank.Answer.the-variants.{Done, Refused}
+use Rattle.bank.specs.declared.bank.Result.{Result}
+
+-- ---- what is answered of a bank, said of the bank with words
+
+abbrev withWords : List ℕ → List ℕ → Outcome Bank → Outcome State
+withWords heads doors (accepted b) = accepted (state b heads doors)
+withWords heads doors (refused n b) = refused n (state b heads doors)
+
+module _ (r : Result) (b : Bank) (heads doors : List ℕ) where
+  worded : (a : Answer) → answered a (state (r .bank) heads doors) ≡ withWords heads doors (answered a (r .bank))
+  worded Done = refl
+  worded (Refused n) = refl
+
+  pub accepted-words : answered (r .answer) (r .bank) ≡ accepted b → outcome r heads doors ≡ accepted (state b heads doors)
+  accepted-words e = worded (r .answer) ∙ ap (withWords heads doors) e
+
+  pub refused-words : (n : ℕ) → answered (r .answer) (r .bank) ≡ refused n b → outcome r heads doors ≡ refused n (state b heads doors)
+  refused-words n e = worded (r .answer) ∙ ap (withWords heads doors) e
+
+-- ---- a packet put, and row 9
+
+module _ (s next : State) where
+  pub fits : next .bank .count ≤ capacity → accepted next ≡ fitting s next
+  unfolding fitting
+  fits l = rw (le-ltb capacity (next .bank .count) l)
+
+  full : capacity < next .bank .count → refused 9 s ≡ fitting s next
+  unfolding fitting
+  full l = rw (lt-ltb capacity (next .bank .count) l)
+
+module _ (s next : State) (p : Packet) where
+  pub put-halted : runs (next .bank) (receiver p) ≡ false → next .bank .count ≤ capacity → accepted next ≡ fitting s (put next p)
+  unfolding put
+  put-halted e l = rw e (fits s next l)
+
+  pub put-running : runs (next .bank) (receiver p) ≡ true → next .bank .count < capacity
+      → accepted (withPacket next p) ≡ fitting s (put next p)
+  unfolding put
+  put-running e l = rw e (fits s (withPacket next p) (omega (arith, l)))
+
+  pub put-full : runs (next .bank) (receiver p) ≡ true → next .bank .count ≡ capacity → refused 9 s ≡ fitting s (put next p)
+  unfolding put
+  put-full e l = rw e (full s (withPacket next p) (omega (arith, l)))
+
+-- ---- what the core's answer takes off
+
+abbrev pub takesOff : core-answer.Answer → Bool
+takesOff core-is.Done = true
+takesOff (core-is.Put p) = true
+takesOff (core-is.Left p) = false
+takesOff (core-is.Refused n) = false
+
+put-few : (s : State) (p : Packet) → put s p .bank .count ≤ s .bank .count + 1
+unfolding put
+put-few s p = go (runs (s .bank) (receiver p))
+  where
+    go : (b : Bool) → cond b (withPacket s p) s .bank .count ≤ s .bank .count + 1
+    go true = omega arith
+    go false = omega arith
+
+module _ (s gone : State) (i : ℕ) (c : Column) where
+  pub settled-stays : (a : core-answer.Answer) → takesOff a ≡ false → settled s s i (core.answered c a) ≡ settled s gone i (core.answered c a)
+  settled-stays core-is.Done e = absurd (true≢false e)
+  settled-stays (core-is.Put p) e = absurd (true≢false e)
+  settled-stays (core-is.Left p) e = refl
+  settled-stays (core-is.Refused n) e = refl
+
+  module _ (room : gone .bank .count < capacity) where
+    fits-both : (next : State) → next .bank .count ≤ capacity → fitting gone next ≡ fitting s next
+    fits-both next l = sym (fits gone next l) ∙ fits s next l
+
+    -- a packet off leaves room for the one that is put
+    pub settled-off : (a : core-answer.Answer) → takesOff a ≡ true
+        → settled gone gone i (core.answered c a) ≡ settled s gone i (core.answered c a)
+    unfolding puts
+    settled-off core-is.Done e = fits-both (withColumn gone i c) (omega (arith, room))
+    settled-off (core-is.Put p) e = fits-both (put (withColumn gone i c) p) (omega (arith, room, put-few (withColumn gone i c) p))
+    settled-off (core-is.Left p) e = absurd (true≢false (sym e))
+    settled-off (core-is.Refused n) e = absurd (true≢false (sym e))
+
+-- ---- a refusal m is answered, or there is none
+
+module _ (s : State) (effect : Outcome State) (m n : ℕ) where
+  pub unless-refused : (r : Result) → m ≡ n → (m ≡ 0 → ⊥) → answered (r .answer) (r .bank) ≡ refused m (s .bank)
+      → outcome r (s .heads) (s .doors) ≡ unless n s effect
+  unless-refused r e z a =
+      refused-words r (s .bank) (s .heads) (s .doors) m a ∙ rw (ne-eqb n 0 (λ w. z (e ∙ w))) (ap (λ k. refused k s) e)
+
+  pub unless-goes : m ≡ n → m ≡ 0 → effect ≡ unless n s effect
+  unless-goes e z = rw (eq-eqb n 0 (sym e ∙ z))
+
+module _ (s : State) (i n : ℕ) (e : n ≡ actingRefusal s i) where
+  pub acts : n ≡ 0 → (i < 16) × (s .bank .count ≤ 512)
+  acts z =
+      let a = acting s i (sym e ∙ z) in
+      (omega (arith, a .1, tree-sixteen (s .bank .tree) (a .0 .tree)), a .0 .room)
+
+  -- the steps that take no packet off
+  pub acted-refused : (result : core.Result) (r : Result) → (n ≡ 0 → ⊥) → answered (r .answer) (r .bank) ≡ refused n (s .bank)
+      → outcome r (s .heads) (s .doors) ≡ acted s i result
+  unfolding acted
+  acted-refused result r = unless-refused s (settled s s i result) n (actingRefusal s i) r e
+
+  pub acted-settled : (result : core.Result) {after : Outcome State} → n ≡ 0 → after ≡ settled s s i result → after ≡ acted s i result
+  unfolding acted
+  acted-settled result z a = a ∙ unless-goes s (settled s s i result) n (actingRefusal s i) e z
+
+-- ---- note
+
+pub tested-halted : (r : core.Result) → tested false r ≡ r
+tested-halted (core.accepted c packets left) = refl
+tested-halted (core.refused n c) = refl
+
+abbrev pub isRefused : core-answer.Answer → Bool
+isRefused core-is.Done = false
+isRefused (core-is.Put p) = false
+isRefused (core-is.Left p) = false
+isRefused (core-is.Refused n) = true
+
+module _ (c : Column) where
+  pub tested-refused : (running : Bool) (a : core-answer.Answer) → isRefused a ≡ true → core.answered c a ≡ tested running (core.answered c a)
+  tested-refused running core-is.Done e = absurd (true≢false (sym e))
+  tested-refused running (core-is.Put p) e = absurd (true≢false (sym e))
+  tested-refused running (core-is.Left p) e = absurd (true≢false (sym e))
+  tested-refused running (core-is.Refused n) e = refl
+
+  pub tested-accepted : (a : core-answer.Answer) → isRefused a ≡ false → core.refused 6 c ≡ tested true (core.answered c a)
+  tested-accepted core-is.Done e = refl
+  tested-accepted (core-is.Put p) e = refl
+  tested-accepted (core-is.Left p) e = refl
+  tested-accepted (core-is.Refused n) e = absurd (true≢false e)
+
+-- ---- take
+
+-- n is the refusal of a take, whatever the doors
+abbrev pub RefusesTaking : ℕ → Bank → List ℕ → ℕ → Type 0
+RefusesTaking n b heads place = (doors : List ℕ) → n ≡ takeRefusal (state b heads doors) place
+
+pub takes : (s : State) (place : ℕ) → takeRefusal s place ≡ 0
+    → (receiver (packetAt s place) < 16) × (place < s .bank .count) × (s .bank .count ≤ 512)
+takes s place e =
+    let late : List (ℕ × Bool) = (10, leb (s .bank .count) place) ∷ [] in
+    let q = earlier-none (bankRefusal s) (first late) e in
+    let l = leb-false (s .bank .count) place (passed late tt (q .1) .0) in
+    let w = stands s (q .0) in
+    let p = acceptable (s .bank .tree) (packetAt s place) (w .packets place l) in
+    (omega (arith, p .receiver-below, tree-sixteen (s .bank .tree) (w .tree)), l, w .room)
+
+-- ---- halt
+
+-- the core halts a column without a packet
+abbrev pub halted : State → ℕ → core.Result → Outcome State
+halted s i (core.accepted c packets left) = accepted (withColumn (vanished s i) i c)
+halted s i (core.refused n c) = refused n s
+
+module _ (s : State) (i : ℕ) (c : Column) where
+  pub halted-refused : (a : core-answer.Answer) → isRefused a ≡ true → settled s s i (core.answered c a) ≡ halted s i (core.answered c a)
+  halted-refused core-is.Done e = absurd (true≢false (sym e))
+  halted-refused (core-is.Put p) e = absurd (true≢false (sym e))
+  halted-refused (core-is.Left p) e = absurd (true≢false (sym e))
+  halted-refused (core-is.Refused n) e = refl
+
+  pub halted-accepted : (a : core-answer.Answer) → isRefused a ≡ false
+      → accepted (withColumn (vanished s i) i c) ≡ halted s i (core.answered c a)
+  halted-accepted core-is.Done e = refl
+  halted-accepted (core-is.Put p) e = refl
+  halted-accepted (core-is.Left p) e = refl
+  halted-accepted (core-is.Refused n) e = absurd (true≢false e)
+
+module _ (s : State) (i : ℕ) (c : Column) (room : s .bank .count ≤ 512) where
+  few : vanished s i .bank .count ≤ 512
+  unfolding vanished
+  few =
+      let h = list.take (s .bank .count) (s .heads) in
+      omega (arith, room, keeping-few (elsewhere i) h h, list.length-take (s .bank .count) (s .heads))
+
+  pub halted-settled : halted s i (core.halt (s .bank .tree) i c) ≡ settled s (vanished s i) i (core.halt (s .bank .tree) i c)
+  unfolding haltEffect puts
+  halted-settled = go (eqb (haltRefusal (s .bank .tree) i c) 0)
+    where
+      go : (b : Bool) → let r = cond b (haltEffect c) (core.refused (haltRefusal (s .bank .tree) i c) c) in
+          halted s i r ≡ settled s (vanished s i) i r
+      go true = fits s (withColumn (vanished s i) i _) few
+      go false = refl

@@ -1,0 +1,124 @@
+-- The steps of a bank, after document 01, "Steps" and "Refused, and by which number": the core's step on one place, and its packet.
+use Prim.Native.Nat.{ℕ}
+use mathlib.Core.Bool.{Bool, cond}
+use mathlib.Core.List.{List, [], _∷_}
+use lib.Dec.{eqb, leb, ltb}
+use lib.ListN.{set}
+use Rattle.column.specs.Refusals.{first, earlier}
+use Rattle.column.specs.Trees.{treeRefusal}
+use Rattle.column.specs.Packets.{receiver}
+use Rattle.column.specs.Steps as core
+use Rattle.column.specs.declared.tree.Tree.{Tree}
+use Rattle.column.specs.declared.state.Column.{Column}
+use Rattle.column.specs.declared.packet.Packet.{Packet}
+use Rattle.bank.specs.Banks.{State, state, columnAt, runs, packetAt, capacity, freshBank, noBank, bankRefusal, actingRefusal}
+use Rattle.bank.specs.Networks.{puts, removed, vanished}
+use Rattle.bank.specs.declared.bank.Bank.{Bank}
+use Rattle.bank.specs.declared.bank.Answer.{Answer}
+use Rattle.bank.specs.declared.bank.Answer.the-variants.{Done, Refused}
+use Rattle.bank.specs.declared.bank.Result.{Result}
+use Rattle.bank.specs.declared.step.Step.{Step}
+use Rattle.bank.specs.declared.step.Step.the-variants.{Order, Send, Take, Ack, All, Note, Halt}
+
+-- ---- what a call gives
+
+-- accepted, and what is held after it; or refused by document 01's number, and what was held
+pub data Outcome (A : Type 0) : Type 0 where
+  accepted : A → Outcome A
+  refused : ℕ → A → Outcome A
+
+-- the number and the values of each case of `Answer`
+abbrev pub answered : {A : Type 0} → Answer → A → Outcome A
+answered Done a = accepted a
+answered (Refused n) a = refused n a
+
+-- what a call answered, with the words that it left
+abbrev pub outcome : Result → List ℕ → List ℕ → Outcome State
+outcome r heads doors = answered (r .answer) (state (r .bank) heads doors)
+
+-- what is held after a call
+abbrev pub after : {A : Type 0} → Outcome A → A
+after (accepted a) = a
+after (refused n a) = a
+
+-- "A refusal returns its number; bank, network and lent bytes keep their values."
+abbrev pub unless : ℕ → State → Outcome State → Outcome State
+unless n s effect = cond (eqb n 0) effect (refused n s)
+
+-- the fresh bank of a tree, refused by 2 or 3 where it is none
+unfoldable pub fresh : Tree → Outcome Bank
+fresh t = cond (eqb (treeRefusal t) 0) (accepted (freshBank t)) (refused (treeRefusal t) (noBank t))
+
+-- ---- what the core's result makes of the bank
+
+-- "a step returns it with one place rewritten"
+abbrev pub withPlace : Bank → ℕ → Column → Bank
+withPlace b i c = record { tree = b .tree; columns = set (b .columns) i c; count = b .count }
+
+abbrev pub withColumn : State → ℕ → Column → State
+withColumn s i c = state (withPlace (s .bank) i c) (s .heads) (s .doors)
+
+-- "9: a packet would raise the network above 512"
+unfoldable pub fitting : State → State → Outcome State
+fitting s next = cond (ltb capacity (next .bank .count)) (refused 9 s) (accepted next)
+
+-- Column i is what the core says, and its packet is put. `gone` is the bank without the packets that the step takes off: it counts unless
+-- the packet is left in its place.
+abbrev pub settled : State → State → ℕ → core.Result → Outcome State
+settled s gone i (core.accepted c packets left) = fitting s (puts (withColumn (cond left s gone) i c) packets)
+settled s gone i (core.refused n c) = refused n s
+
+-- ---- the steps
+
+-- the steps that take no packet off
+unfoldable pub acted : State → ℕ → core.Result → Outcome State
+acted s i r = unless (actingRefusal s i) s (settled s s i r)
+
+abbrev pub order : State → ℕ → Outcome State
+order s doors =
+    let t = s .bank .tree in
+    acted s (t .root) (core.order t (t .root) (columnAt (s .bank) (t .root)) doors)
+
+abbrev pub send : State → ℕ → Outcome State
+send s i = acted s i (core.send (s .bank .tree) i (columnAt (s .bank) i))
+
+abbrev pub ack : State → ℕ → Outcome State
+ack s i = acted s i (core.ack (s .bank .tree) i (columnAt (s .bank) i))
+
+abbrev pub all : State → ℕ → Outcome State
+all s i = acted s i (core.all (s .bank .tree) i (columnAt (s .bank) i))
+
+-- "Alone, the core believes note's caller that j is halted ..; the bank tests the one": "j is halted" is a condition of 6
+abbrev pub tested : Bool → core.Result → core.Result
+tested running (core.accepted c packets left) = cond running (core.refused 6 c) (core.accepted c packets left)
+tested running (core.refused n c) = core.refused n c
+
+abbrev pub note : State → ℕ → ℕ → Outcome State
+note s i j = acted s i (tested (runs (s .bank) j) (core.note (s .bank .tree) i (columnAt (s .bank) i) j))
+
+-- "10: take at a place not below the packet count"
+abbrev pub takeRefusal : State → ℕ → ℕ
+takeRefusal s place = earlier (bankRefusal s) (first ((10, leb (s .bank .count) place) ∷ []))
+
+-- "the packet goes to its receiver"
+unfoldable pub delivered : State → ℕ → Packet → Outcome State
+delivered s place p =
+    settled s (removed s place) (receiver p) (core.take (s .bank .tree) (receiver p) (columnAt (s .bank) (receiver p)) p)
+
+abbrev pub take : State → ℕ → Outcome State
+take s place = unless (takeRefusal s place) s (delivered s place (packetAt s place))
+
+-- "i stops for good; packets to it vanish"
+abbrev pub halt : State → ℕ → Outcome State
+halt s i =
+    unless (actingRefusal s i) s (settled s (vanished s i) i (core.halt (s .bank .tree) i (columnAt (s .bank) i)))
+
+-- one step, whichever it is
+unfoldable pub perform : State → Step → Outcome State
+perform s (Order doors) = order s doors
+perform s (Send i) = send s i
+perform s (Take place) = take s place
+perform s (Ack i) = ack s i
+perform s (All i) = all s i
+perform s (Note i j) = note s i j
+perform s (Halt i) = halt s i

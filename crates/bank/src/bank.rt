@@ -1,0 +1,74 @@
+// What a bank holds, and the fresh bank. Its network's packets are lent to each call: packet k is word k of two arrays of 512.
+use crate::settling::done;
+use crate::settling::refused;
+use column::state::Column;
+use column::state::FreshColumn;
+use column::tree::Tree;
+use column::tree::tree_refusal;
+ghost use mathlib.Core.Path.{_≡_};
+ghost use Rattle.bank.specs.Banks.{freshPlace};
+ghost use Rattle.bank.specs.Steps.{answered, fresh};
+
+// Most packets that the network holds.
+pub const CAPACITY: usize = 512;
+
+pub struct Bank {
+    pub tree: Tree,
+    // All sixteen places are held, whatever the tree's columns.
+    pub columns: [Column; 16],
+    // The packets under way.
+    pub count: usize,
+}
+
+pub enum Answer {
+    Done,
+    Refused(u8),
+}
+
+// The bank after a call, or as it was where the call is refused.
+pub struct Result {
+    pub bank: Bank,
+    pub answer: Answer,
+}
+
+pub const NO_COLUMN: Column = Column {
+    running: false,
+    number: 0,
+    doors: 0,
+    send: 0,
+    awaited: 0,
+    owed: 0,
+    noted: 0,
+    whole: false,
+};
+
+// Column i of a fresh bank; an unused place holds a column that does not run.
+fn fresh_column(t: Tree, i: usize) -> Column
+    ensures { λ r. ⌜ r ≡ freshPlace t i ⌝ }
+{
+    match column::state::fresh(t, i) {
+        FreshColumn::Is(c) => c,
+        FreshColumn::Refused(_) => NO_COLUMN,
+    }
+}
+
+// Of a tree that is refused: a bank in which nobody runs.
+pub fn fresh(t: Tree) -> Result
+    ensures { λ r. ⌜ answered (r .answer) (r .bank) ≡ fresh t ⌝ }
+{
+    let mut b = Bank {
+        tree: t,
+        columns: [NO_COLUMN; 16],
+        count: 0,
+    };
+    let n = tree_refusal(t);
+    if n != 0 {
+        return refused(b, n);
+    }
+    let mut i: usize = 0;
+    while i < 16 {
+        b.columns[i] = fresh_column(t, i);
+        i += 1;
+    }
+    done(b)
+}

@@ -1,0 +1,8 @@
+// The bank: up to sixteen columns, each the core of its own, and the packets between them.
+pub mod bank;
+mod network;
+pub mod rest;
+mod settling;
+pub mod standing;
+pub mod step;
+mod words;

@@ -1,0 +1,95 @@
+// The network's packets in the lent arrays: put at the end, taken off, and those to a column that halts. None of these refuses: all
+// deciding is done before, so that a refused call has written nothing.
+use crate::bank::Bank;
+use crate::words::doors_word;
+use crate::words::head;
+use crate::words::receiver_in;
+use column::packet::Packet;
+ghost use mathlib.Core.Path.{_≡_};
+ghost use Prim.Native.Nat.{_+_, _≤_, _<_};
+ghost use lib.ListN.{length, take};
+ghost use Rattle.bank.specs.Lists.{closedUp, padded};
+ghost use Rattle.bank.specs.Banks.{state};
+ghost use Rattle.bank.specs.Networks.{withPacket, removed, vanished, Kept};
+
+pub fn append(b: Bank, p: Packet, heads: &mut [u64; 512], doors: &mut [u64; 512]) -> Bank
+    requires { ⌜ b .count < 512 ⌝ }
+    ensures { λ r. ⌜ state r (now (heads .exit)) (now (doors .exit)) ≡ withPacket (state b (now (heads .entry)) (now (doors .entry))) p ⌝ }
+{
+    let mut d = b;
+    let at = d.count;
+    heads[at] = head(p);
+    doors[at] = doors_word(p);
+    d.count = at + 1;
+    d
+}
+
+// The words past `place` move up by one, and place `last` is free.
+fn close_up(words: &mut [u64], place: usize, last: usize)
+    requires { ⌜ (place ≤ last) × (last < length (now words)) ⌝ }
+    ensures { λ r. ⌜ now (words .exit) ≡ closedUp (now (words .entry)) place (last + 1) 0 ⌝ }
+{
+    let mut j = place;
+    while j < last {
+        words[j] = words[j + 1];
+        j += 1;
+    }
+    words[last] = 0;
+}
+
+pub fn remove(b: Bank, place: usize, heads: &mut [u64; 512], doors: &mut [u64; 512]) -> Bank
+    requires { ⌜ (place < b .count) × (b .count ≤ 512) ⌝ }
+    ensures { λ r. ⌜ state r (now (heads .exit)) (now (doors .exit)) ≡ removed (state b (now (heads .entry)) (now (doors .entry))) place ⌝ }
+{
+    let last = b.count - 1;
+    close_up(heads, place, last);
+    close_up(doors, place, last);
+    let mut d = b;
+    d.count = last;
+    d
+}
+
+// Of the first `count` packets, those that are not addressed to column i, moved up; answers how many they are.
+fn keep(i: usize, count: usize, heads: &mut [u64], doors: &mut [u64]) -> usize
+    requires { ⌜ (count ≤ length (now heads)) × (count ≤ length (now doors)) ⌝ }
+    ensures { λ r. ⌜ Kept i count r (now (heads .entry)) (now (doors .entry)) (now (heads .exit)) (now (doors .exit)) ⌝ }
+{
+    let mut kept: usize = 0;
+    let mut j: usize = 0;
+    while j < count {
+        let head = heads[j];
+        let word = doors[j];
+        if receiver_in(head) != i {
+            heads[kept] = head;
+            doors[kept] = word;
+            kept += 1;
+        }
+        j += 1;
+    }
+    kept
+}
+
+fn clear(words: &mut [u64], from: usize, to: usize)
+    requires { ⌜ (from ≤ to) × (to ≤ length (now words)) ⌝ }
+    ensures { λ r. ⌜ now (words .exit) ≡ padded (take from (now (words .entry))) to 0 (now (words .entry)) ⌝ }
+{
+    let mut j = from;
+    while j < to {
+        words[j] = 0;
+        j += 1;
+    }
+}
+
+// The bank without the packets that are addressed to column i.
+pub fn vanish(b: Bank, i: usize, heads: &mut [u64; 512], doors: &mut [u64; 512]) -> Bank
+    requires { ⌜ b .count ≤ 512 ⌝ }
+    ensures { λ r. ⌜ state r (now (heads .exit)) (now (doors .exit)) ≡ vanished (state b (now (heads .entry)) (now (doors .entry))) i ⌝ }
+{
+    let count = b.count;
+    let kept = keep(i, count, heads, doors);
+    clear(heads, kept, count);
+    clear(doors, kept, count);
+    let mut d = b;
+    d.count = kept;
+    d
+}

@@ -1,0 +1,114 @@
+// What every step tests first: the tree, then row 4 of every column and of every packet.
+use crate::bank::Bank;
+use crate::bank::CAPACITY;
+use crate::words::ACKNOWLEDGING;
+use crate::words::receiver_in;
+use crate::words::sender_in;
+use column::state::state_refusal;
+use column::tree::tree_refusal;
+ghost use mathlib.Core.Path.{_≡_};
+ghost use Prim.Native.Nat.{ℕ, _≤_};
+ghost use lib.ListN.{getD};
+ghost use Rattle.column.specs.Sets.{selected};
+ghost use Rattle.column.specs.Trees.{every};
+ghost use Rattle.bank.specs.Banks.{runs, columnsStand};
+ghost use Rattle.bank.specs.Standing.{headStands, RefusesBank, RefusesActing};
+
+fn columns_stand(b: Bank) -> bool
+    requires { ⌜ b .tree .columns ≤ 16 ⌝ }
+    ensures { λ r. ⌜ r ≡ columnsStand b ⌝ }
+{
+    let t = b.tree;
+    let n = t.columns;
+    let mut stand = true;
+    let mut i: usize = 0;
+    while i < n {
+        let c = b.columns[i];
+        stand = stand & (state_refusal(t, i, c) == 0);
+        i += 1;
+    }
+    stand
+}
+
+// The set of columns that run.
+fn running(b: Bank) -> u16
+    requires { ⌜ b .tree .columns ≤ 16 ⌝ }
+    ensures { λ r. ⌜ r ≡ selected (runs b) (b .tree .columns) ⌝ }
+{
+    let t = b.tree;
+    let n = t.columns;
+    let mut set: u16 = 0;
+    let mut i: usize = 0;
+    while i < n {
+        let c = b.columns[i];
+        if c.running {
+            set = set | (1u16 << i);
+        }
+        i += 1;
+    }
+    set
+}
+
+// Row 4 of a packet, by its head.
+fn head_stands(columns: usize, root: usize, running: u16, head: u64) -> bool
+    requires { ⌜ columns ≤ 16 ⌝ }
+    ensures { λ r. ⌜ r ≡ headStands columns root running head ⌝ }
+{
+    let from = sender_in(head);
+    let to = receiver_in(head);
+    if columns <= to {
+        return false;
+    }
+    (from < columns)
+        & (from != to)
+        & ((ACKNOWLEDGING <= head) | (to != root))
+        & ((running >> to) % 2 == 1)
+}
+
+fn heads_stand(columns: usize, root: usize, running: u16, count: usize, heads: &[u64; 512]) -> bool
+    requires { ⌜ (columns ≤ 16) × (count ≤ 512) ⌝ }
+    ensures { λ r. ⌜ r ≡ every (λ (k : ℕ). headStands columns root running (getD (now (heads .entry)) k 0)) count ⌝ }
+{
+    let mut stand = true;
+    let mut k: usize = 0;
+    while k < count {
+        stand = stand & head_stands(columns, root, running, heads[k]);
+        k += 1;
+    }
+    stand
+}
+
+// The doors that packets carry are not looked at.
+pub fn bank_refusal(b: Bank, heads: &[u64; 512]) -> u8
+    ensures { λ r. ⌜ RefusesBank r b (now (heads .entry)) ⌝ }
+{
+    let t = b.tree;
+    let n = tree_refusal(t);
+    if n != 0 {
+        return n;
+    }
+    if !columns_stand(b) {
+        return 4;
+    }
+    if CAPACITY < b.count {
+        return 4;
+    }
+    if !heads_stand(t.columns, t.root, running(b), b.count, heads) {
+        return 4;
+    }
+    0
+}
+
+pub fn acting_refusal(b: Bank, i: usize, heads: &[u64; 512]) -> u8
+    ensures { λ r. ⌜ RefusesActing r b (now (heads .entry)) i ⌝ }
+{
+    let n = bank_refusal(b, heads);
+    if n != 0 {
+        return n;
+    }
+    let t = b.tree;
+    if t.columns <= i {
+        return 4;
+    }
+    0
+}

@@ -1,0 +1,185 @@
+// The steps of a bank: refused and unchanged, or the core's step on one place with its packet.
+use crate::bank::Bank;
+use crate::bank::Result;
+use crate::network::vanish;
+use crate::settling::act;
+use crate::settling::column_at;
+use crate::settling::done;
+use crate::settling::refused;
+use crate::settling::runs;
+use crate::settling::settle;
+use crate::settling::settle_taken;
+use crate::settling::with_column;
+use crate::standing::acting_refusal;
+use crate::standing::bank_refusal;
+use crate::words::packet;
+use column::packet::Packet;
+use column::packet::receiver;
+use column::step::Answer;
+use column::step::Outcome;
+ghost use mathlib.Core.Path.{_≡_};
+ghost use Prim.Native.Nat.{_≤_, _<_};
+ghost use Rattle.column.specs.Packets.{receiver};
+ghost use Rattle.column.specs.Steps.{meant};
+ghost use Rattle.bank.specs.Banks.{state};
+ghost use Rattle.bank.specs.StepLaws.{RefusesTaking, isRefused, halted};
+ghost use Rattle.bank.specs.Steps.{outcome, delivered, order, send, take, ack, all, tested, note, halt, perform};
+
+pub enum Step {
+    Order(u64),
+    Send(usize),
+    Take(usize),
+    Ack(usize),
+    All(usize),
+    Note(usize, usize),
+    Halt(usize),
+}
+
+pub fn order(b: Bank, given: u64, heads: &mut [u64; 512], doors: &mut [u64; 512]) -> Result
+    ensures { λ r. ⌜ outcome r (now (heads .exit)) (now (doors .exit)) ≡ order (state b (now (heads .entry)) (now (doors .entry))) given ⌝ }
+{
+    let t = b.tree;
+    let i = t.root;
+    let o = column::step::order(t, i, column_at(b, i), given);
+    act(b, i, o, heads, doors)
+}
+
+pub fn send(b: Bank, i: usize, heads: &mut [u64; 512], doors: &mut [u64; 512]) -> Result
+    ensures { λ r. ⌜ outcome r (now (heads .exit)) (now (doors .exit)) ≡ send (state b (now (heads .entry)) (now (doors .entry))) i ⌝ }
+{
+    let o = column::step::send(b.tree, i, column_at(b, i));
+    act(b, i, o, heads, doors)
+}
+
+fn take_refusal(b: Bank, place: usize, heads: &[u64; 512]) -> u8
+    ensures { λ r. ⌜ RefusesTaking r b (now (heads .entry)) place ⌝ }
+{
+    let n = bank_refusal(b, heads);
+    if n != 0 {
+        return n;
+    }
+    if b.count <= place {
+        return 10;
+    }
+    0
+}
+
+// Packet p, which stands at a place, goes to its receiver.
+fn receive(
+    b: Bank,
+    place: usize,
+    p: Packet,
+    heads: &mut [u64; 512],
+    doors: &mut [u64; 512],
+) -> Result
+    requires { ⌜ (receiver p < 16) × (place < b .count) × (b .count ≤ 512) ⌝ }
+    ensures { λ r. ⌜ outcome r (now (heads .exit)) (now (doors .exit)) ≡ delivered (state b (now (heads .entry)) (now (doors .entry))) place p ⌝ }
+{
+    let i = receiver(p);
+    let o = column::step::take(b.tree, i, column_at(b, i), p);
+    settle_taken(b, place, i, o, heads, doors)
+}
+
+pub fn take(b: Bank, place: usize, heads: &mut [u64; 512], doors: &mut [u64; 512]) -> Result
+    ensures { λ r. ⌜ outcome r (now (heads .exit)) (now (doors .exit)) ≡ take (state b (now (heads .entry)) (now (doors .entry))) place ⌝ }
+{
+    let n = take_refusal(b, place, heads);
+    if n != 0 {
+        return refused(b, n);
+    }
+    let p = packet(heads[place], doors[place]);
+    receive(b, place, p, heads, doors)
+}
+
+pub fn ack(b: Bank, i: usize, heads: &mut [u64; 512], doors: &mut [u64; 512]) -> Result
+    ensures { λ r. ⌜ outcome r (now (heads .exit)) (now (doors .exit)) ≡ ack (state b (now (heads .entry)) (now (doors .entry))) i ⌝ }
+{
+    let o = column::step::ack(b.tree, i, column_at(b, i));
+    act(b, i, o, heads, doors)
+}
+
+pub fn all(b: Bank, i: usize, heads: &mut [u64; 512], doors: &mut [u64; 512]) -> Result
+    ensures { λ r. ⌜ outcome r (now (heads .exit)) (now (doors .exit)) ≡ all (state b (now (heads .entry)) (now (doors .entry))) i ⌝ }
+{
+    let o = column::step::all(b.tree, i, column_at(b, i));
+    act(b, i, o, heads, doors)
+}
+
+fn is_refused(a: Answer) -> bool
+    ensures { λ r. ⌜ r ≡ isRefused a ⌝ }
+{
+    match a {
+        Answer::Done => false,
+        Answer::Put(_) => false,
+        Answer::Left(_) => false,
+        Answer::Refused(_) => true,
+    }
+}
+
+// The core believes that the column to note is halted; the bank tests it.
+fn tested(running: bool, o: Outcome) -> Outcome
+    ensures { λ r. ⌜ meant r ≡ tested running (meant o) ⌝ }
+{
+    if !running {
+        return o;
+    }
+    let a = o.answer;
+    if is_refused(a) {
+        return o;
+    }
+    let c = o.column;
+    Outcome {
+        column: c,
+        answer: Answer::Refused(6),
+    }
+}
+
+pub fn note(b: Bank, i: usize, j: usize, heads: &mut [u64; 512], doors: &mut [u64; 512]) -> Result
+    ensures { λ r. ⌜ outcome r (now (heads .exit)) (now (doors .exit)) ≡ note (state b (now (heads .entry)) (now (doors .entry))) i j ⌝ }
+{
+    let o = column::step::note(b.tree, i, column_at(b, i), j);
+    act(b, i, tested(runs(b, j), o), heads, doors)
+}
+
+// The core's outcome o of a halt of column i: packets to it vanish.
+fn settle_halted(
+    b: Bank,
+    i: usize,
+    o: Outcome,
+    heads: &mut [u64; 512],
+    doors: &mut [u64; 512],
+) -> Result
+    requires { ⌜ (i < 16) × (b .count ≤ 512) ⌝ }
+    ensures { λ r. ⌜ outcome r (now (heads .exit)) (now (doors .exit)) ≡ halted (state b (now (heads .entry)) (now (doors .entry))) i (meant o) ⌝ }
+{
+    let a = o.answer;
+    if is_refused(a) {
+        return settle(b, i, o, heads, doors);
+    }
+    done(with_column(vanish(b, i, heads, doors), i, o.column))
+}
+
+pub fn halt(b: Bank, i: usize, heads: &mut [u64; 512], doors: &mut [u64; 512]) -> Result
+    ensures { λ r. ⌜ outcome r (now (heads .exit)) (now (doors .exit)) ≡ halt (state b (now (heads .entry)) (now (doors .entry))) i ⌝ }
+{
+    let n = acting_refusal(b, i, heads);
+    if n != 0 {
+        return refused(b, n);
+    }
+    let o = column::step::halt(b.tree, i, column_at(b, i));
+    settle_halted(b, i, o, heads, doors)
+}
+
+pub fn perform(b: Bank, x: Step, heads: &mut [u64; 512], doors: &mut [u64; 512]) -> Result
+    ensures { λ r. ⌜ outcome r (now (heads .exit)) (now (doors .exit)) ≡ perform (state b (now (heads .entry)) (now (doors .entry))) x ⌝ }
+{
+    match x {
+        Step::Order(given) => order(b, given, heads, doors),
+        Step::Send(i) => send(b, i, heads, doors),
+        Step::Take(place) => take(b, place, heads, doors),
+        Step::Ack(i) => ack(b, i, heads, doors),
+        Step::All(i) => all(b, i, heads, doors),
+        Step::Note(i, j) => note(b, i, j, heads, doors),
+        Step::Halt(i) => halt(b, i, heads, doors),
+    }
+}
