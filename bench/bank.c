@@ -26,27 +26,53 @@ static uint8_t bank_refusal(const struct bank *b) {
     return b->count <= CAPACITY && packets_stand(b, running) ? 0 : 4;
 }
 
-uint8_t bank_send(struct bank *b, size_t i) {
+uint8_t acting_refusal(const struct bank *b, size_t i) {
     uint8_t refusal = bank_refusal(b);
     if (refusal)
         return refusal;
     if (i >= b->tree.columns)
         return 4;
-    struct column *c = &b->columns[i];
-    if (!c->running)
-        return 5;
-    if (!c->send)
-        return 6;
-    struct column before = *c;
-    struct packet p = send_effect(&b->tree, i, c);
+    return b->columns[i].running ? 0 : 5;
+}
+
+void bank_fresh(struct bank *b, const struct tree *t) {
+    *b = (struct bank){.tree = *t};
+    for (size_t i = 0; i < t->columns; i++)
+        b->columns[i] = (struct column){.running = true, .whole = i == t->root};
+}
+
+uint8_t bank_order(struct bank *b, uint64_t doors) {
+    uint8_t refusal = bank_refusal(b);
+    if (refusal)
+        return refusal;
+    struct column *c = &b->columns[b->tree.root];
+    refusal = order_refusal(c);
+    if (!refusal)
+        order_effect(&b->tree, c, doors);
+    return refusal;
+}
+
+/* The packet of a column's step; where it has no place the column is again as it was. */
+static uint8_t settle(struct bank *b, struct column *c, const struct column *before, struct packet p) {
     if (!p.kind || !b->columns[p.to].running)
         return 0;
     if (b->count == CAPACITY) {
-        *c = before;
+        *c = *before;
         return 9;
     }
     b->packets[b->count++] = p;
     return 0;
+}
+
+uint8_t bank_send(struct bank *b, size_t i) {
+    uint8_t refusal = acting_refusal(b, i);
+    if (refusal)
+        return refusal;
+    struct column *c = &b->columns[i];
+    if (!c->send)
+        return 6;
+    struct column before = *c;
+    return settle(b, c, &before, send_effect(&b->tree, i, c));
 }
 
 uint8_t bank_take(struct bank *b, size_t place) {
@@ -73,6 +99,27 @@ uint8_t bank_take(struct bank *b, size_t place) {
     return 0;
 }
 
+uint8_t bank_ack(struct bank *b, size_t i) {
+    uint8_t refusal = acting_refusal(b, i);
+    if (refusal)
+        return refusal;
+    struct column *c = &b->columns[i];
+    if (!may_ack(c))
+        return 6;
+    struct column before = *c;
+    return settle(b, c, &before, ack_effect(i, c));
+}
+
+uint8_t bank_all(struct bank *b, size_t i) {
+    uint8_t refusal = acting_refusal(b, i);
+    if (refusal)
+        return refusal;
+    if (!may_all(&b->tree, i, &b->columns[i]))
+        return 6;
+    all_effect(&b->tree, &b->columns[i]);
+    return 0;
+}
+
 uint8_t bank_note(struct bank *b, size_t i, size_t j) {
     uint8_t refusal = bank_refusal(b);
     if (refusal)
@@ -86,4 +133,34 @@ uint8_t bank_note(struct bank *b, size_t i, size_t j) {
         return 6;
     note_effect(&b->tree, c, j);
     return 0;
+}
+
+uint8_t bank_halt(struct bank *b, size_t i) {
+    uint8_t refusal = acting_refusal(b, i);
+    if (refusal)
+        return refusal;
+    b->columns[i].running = false;
+    size_t kept = 0;
+    for (size_t k = 0; k < b->count; k++)
+        if (b->packets[k].to != i)
+            b->packets[kept++] = b->packets[k];
+    b->count = kept;
+    return 0;
+}
+
+/* A bank that every step refuses is at rest where no packet is under way. */
+bool bank_at_rest(const struct bank *b) {
+    if (b->count)
+        return false;
+    if (bank_refusal(b))
+        return true;
+    uint16_t halted = 0;
+    for (size_t i = 0; i < b->tree.columns; i++)
+        halted |= (!b->columns[i].running) << i;
+    for (size_t i = 0; i < b->tree.columns; i++) {
+        const struct column *c = &b->columns[i];
+        if (c->running && (c->send || may_ack(c) || may_all(&b->tree, i, c) || (halted & ~c->noted)))
+            return false;
+    }
+    return true;
 }

@@ -10,7 +10,18 @@ struct bank {
     struct packet packets[CAPACITY];
 };
 
+/* Of a tree that is not refused. */
+void bank_fresh(struct bank *b, const struct tree *t);
+
 /* Each answers its refusal, 0 where it is accepted. */
+uint8_t bank_order(struct bank *b, uint64_t doors);
 uint8_t bank_send(struct bank *b, size_t i);
 uint8_t bank_take(struct bank *b, size_t place);
+uint8_t bank_ack(struct bank *b, size_t i);
+uint8_t bank_all(struct bank *b, size_t i);
 uint8_t bank_note(struct bank *b, size_t i, size_t j);
+uint8_t bank_halt(struct bank *b, size_t i);
+
+/* Rows 2 to 5 for an acting column, as the list too is refused. */
+uint8_t acting_refusal(const struct bank *b, size_t i);
+bool bank_at_rest(const struct bank *b);

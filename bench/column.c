@@ -43,22 +43,22 @@ static size_t lowest(uint16_t set) { return (size_t)__builtin_ctz(set); }
 
 static struct answer refused(uint8_t number) { return (struct answer){.refusal = number}; }
 
+void order_effect(const struct tree *t, struct column *c, uint64_t doors) {
+    c->number++;
+    c->doors = doors;
+    c->send = children(t, t->root);
+}
+
 struct answer order(const struct tree *t, size_t i, struct column *c, uint64_t doors) {
     uint8_t refusal = standing(t, i, c);
     if (refusal)
         return refused(refusal);
     if (i != t->root)
         return refused(4);
-    if (!c->running)
-        return refused(5);
-    if (c->send || c->awaited)
-        return refused(7);
-    if (c->number == 65535)
-        return refused(8);
-    c->number++;
-    c->doors = doors;
-    c->send = children(t, i);
-    return refused(0);
+    refusal = order_refusal(c);
+    if (!refusal)
+        order_effect(t, c, doors);
+    return refused(refusal);
 }
 
 struct packet send_effect(const struct tree *t, size_t i, struct column *c) {
@@ -85,7 +85,7 @@ struct answer send(const struct tree *t, size_t i, struct column *c) {
     return (struct answer){.put = send_effect(t, i, c)};
 }
 
-static struct packet to_lowest(size_t i, struct column *c) {
+struct packet ack_effect(size_t i, struct column *c) {
     size_t k = lowest(c->owed);
     c->owed &= ~(1u << k);
     return (struct packet){2, (uint8_t)i, (uint8_t)k, c->number, 0};
@@ -104,7 +104,7 @@ struct answer take_effect(const struct tree *t, size_t i, struct column *c, stru
     if (p.number < c->number)
         return (struct answer){.put = {2, (uint8_t)i, p.from, p.number, 0}};
     if (c->owed)
-        return (struct answer){.left = true, .put = to_lowest(i, c)};
+        return (struct answer){.left = true, .put = ack_effect(i, c)};
     c->number = p.number;
     c->doors = p.doors;
     c->send = children(t, i);
@@ -131,9 +131,14 @@ struct answer ack(const struct tree *t, size_t i, struct column *c) {
         return refused(refusal);
     if (!c->running)
         return refused(5);
-    if (!c->owed || (!c->whole && (c->send || c->awaited)))
+    if (!may_ack(c))
         return refused(6);
-    return (struct answer){.put = to_lowest(i, c)};
+    return (struct answer){.put = ack_effect(i, c)};
+}
+
+void all_effect(const struct tree *t, struct column *c) {
+    c->whole = true;
+    c->send = 1u << t->root;
 }
 
 struct answer all(const struct tree *t, size_t i, struct column *c) {
@@ -142,10 +147,9 @@ struct answer all(const struct tree *t, size_t i, struct column *c) {
         return refused(refusal);
     if (!c->running)
         return refused(5);
-    if (i == t->root || !has(c->noted, t->root) || c->whole || c->send || c->awaited)
+    if (!may_all(t, i, c))
         return refused(6);
-    c->whole = true;
-    c->send = 1u << t->root;
+    all_effect(t, c);
     return refused(0);
 }
 

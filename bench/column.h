@@ -50,7 +50,26 @@ static inline bool stands(const struct tree *t, size_t i, const struct column *c
         && (i != t->root || c->whole);
 }
 
+static inline bool idle(const struct column *c) { return !c->send && !c->awaited; }
+
+static inline bool may_ack(const struct column *c) { return c->owed && (c->whole || idle(c)); }
+
+static inline bool may_all(const struct tree *t, size_t i, const struct column *c) {
+    return i != t->root && has(c->noted, t->root) && !c->whole && idle(c);
+}
+
+static inline uint8_t order_refusal(const struct column *c) {
+    if (!c->running)
+        return 5;
+    if (!idle(c))
+        return 7;
+    return c->number == 65535 ? 8 : 0;
+}
+
 uint8_t tree_refusal(const struct tree *t);
+void order_effect(const struct tree *t, struct column *c, uint64_t doors);
+struct packet ack_effect(size_t i, struct column *c);
+void all_effect(const struct tree *t, struct column *c);
 struct packet send_effect(const struct tree *t, size_t i, struct column *c);
 struct answer take_effect(const struct tree *t, size_t i, struct column *c, struct packet p);
 void note_effect(const struct tree *t, struct column *c, size_t j);

@@ -1,0 +1,213 @@
+/* The script program of document 01 in plain C, in place: what crates/lockers is measured beside. */
+#include "bank.h"
+#include <string.h>
+#include <unistd.h>
+
+enum { LIMIT = 65536, LONGEST_LIST = 224 };
+
+struct cursor {
+    const uint8_t *at, *end;
+};
+
+static uint8_t input[LIMIT + 1];
+static struct bank bank;
+static char output[8192];
+static size_t printed;
+
+static bool flush(void) {
+    size_t from = 0;
+    while (from < printed) {
+        ssize_t n = write(STDOUT_FILENO, output + from, printed - from);
+        if (n <= 0)
+            return false;
+        from += (size_t)n;
+    }
+    printed = 0;
+    return true;
+}
+
+static void put(const char *text) {
+    size_t n = strlen(text);
+    memcpy(output + printed, text, n);
+    printed += n;
+}
+
+static void put_number(size_t n) {
+    char digits[20];
+    size_t first = sizeof digits;
+    do
+        digits[--first] = (char)('0' + n % 10);
+    while (n /= 10);
+    memcpy(output + printed, digits + first, sizeof digits - first);
+    printed += sizeof digits - first;
+}
+
+static void put_field(const char *key, size_t n) {
+    put(key);
+    put_number(n);
+    put("\n");
+}
+
+static void put_answer(uint8_t refusal) {
+    if (refusal)
+        put_field("refused=", refusal);
+    else
+        put("step=ok\n");
+}
+
+static void put_list(size_t i) {
+    uint8_t refusal = acting_refusal(&bank, i);
+    if (refusal) {
+        put_answer(refusal);
+        return;
+    }
+    uint64_t doors = bank.columns[i].doors;
+    put_field("column=", i);
+    put_field("number=", bank.columns[i].number);
+    put_field("occupied=", (size_t)__builtin_popcountll(doors));
+    put("doors=");
+    for (uint64_t rest = doors; rest; rest &= rest - 1) {
+        if (rest != doors)
+            put(",");
+        put_number((size_t)__builtin_ctzll(rest) + 1);
+    }
+    put("\n");
+}
+
+static bool literal(struct cursor *c, const char *text) {
+    size_t n = strlen(text);
+    if ((size_t)(c->end - c->at) < n || memcmp(c->at, text, n) != 0)
+        return false;
+    c->at += n;
+    return true;
+}
+
+/* After a leading zero, and after the last digit of its width, a numeral ends: what follows is no digit of it. */
+static bool numeral(struct cursor *c, int width, size_t *value) {
+    if (c->at == c->end || *c->at < '0' || *c->at > '9')
+        return false;
+    *value = *c->at++ - '0';
+    while (*value && --width && c->at < c->end && *c->at >= '0' && *c->at <= '9')
+        *value = *value * 10 + (*c->at++ - '0');
+    return true;
+}
+
+static int hexadecimal(uint8_t b) {
+    if (b >= '0' && b <= '9')
+        return b - '0';
+    return b >= 'a' && b <= 'f' ? b - 'a' + 10 : -1;
+}
+
+static bool doors_read(struct cursor *c, uint64_t *doors) {
+    if (c->end - c->at != 16)
+        return false;
+    *doors = 0;
+    for (int i = 0; i < 8; i++) {
+        int high = hexadecimal(c->at[2 * i]), low = hexadecimal(c->at[2 * i + 1]);
+        if (high < 0 || low < 0)
+            return false;
+        *doors |= (uint64_t)(high * 16 + low) << 8 * i;
+    }
+    return true;
+}
+
+/* The table's refusal, 0 where the bank is fresh and the cursor stands after it. */
+static uint8_t table(struct cursor *c) {
+    struct tree t = {0};
+    size_t count = 0, parent;
+    if (!literal(c, "columns=") || !numeral(c, 2, &t.columns) || !literal(c, "\nroot=") || !numeral(c, 2, &t.root) || !literal(c, "\nup="))
+        return 1;
+    do {
+        if (!numeral(c, 2, &parent))
+            return 1;
+        if (count < 16)
+            t.up[count] = parent;
+        count++;
+    } while (literal(c, ","));
+    if (!literal(c, "\n"))
+        return 1;
+    if (t.columns == 0 || t.columns > 16)
+        return 2;
+    uint8_t refusal = count == t.columns ? tree_refusal(&t) : 3;
+    if (!refusal)
+        bank_fresh(&bank, &t);
+    return refusal;
+}
+
+static bool numbered(struct cursor *c, const char *key, int width, size_t *n) {
+    return literal(c, key) && numeral(c, width, n) && c->at == c->end;
+}
+
+static uint8_t ordered(struct cursor *c) {
+    uint64_t doors;
+    return literal(c, "order=") && doors_read(c, &doors) ? bank_order(&bank, doors) : 13;
+}
+
+static uint8_t noted(struct cursor *c) {
+    size_t i, j;
+    if (!literal(c, "note=") || !numeral(c, 2, &i) || !literal(c, ",") || !numeral(c, 2, &j) || c->at != c->end)
+        return 13;
+    return bank_note(&bank, i, j);
+}
+
+/* The refusal of a line that is not a list. */
+static uint8_t step(struct cursor *c) {
+    size_t n;
+    switch (*c->at) {
+    case 'o': return ordered(c);
+    case 's': return numbered(c, "send=", 2, &n) ? bank_send(&bank, n) : 13;
+    case 't': return numbered(c, "take=", 3, &n) ? bank_take(&bank, n) : 13;
+    case 'a':
+        if (numbered(c, "ack=", 2, &n))
+            return bank_ack(&bank, n);
+        return numbered(c, "all=", 2, &n) ? bank_all(&bank, n) : 13;
+    case 'n': return noted(c);
+    case 'h': return numbered(c, "halt=", 2, &n) ? bank_halt(&bank, n) : 13;
+    default: return 13;
+    }
+}
+
+static void line(struct cursor c) {
+    size_t i;
+    if (c.at == c.end)
+        put_answer(13);
+    else if (*c.at != 'l')
+        put_answer(step(&c));
+    else if (numbered(&c, "list=", 2, &i))
+        put_list(i);
+    else
+        put_answer(13);
+}
+
+static bool script(size_t size) {
+    struct cursor c = {input, input + size};
+    uint8_t refusal = size > LIMIT ? 13 : table(&c);
+    if (refusal) {
+        put_answer(refusal);
+        return flush();
+    }
+    put("table=ok\n");
+    while (c.at < c.end) {
+        const uint8_t *end = memchr(c.at, '\n', (size_t)(c.end - c.at));
+        if (!end) {
+            put_answer(13);
+            break;
+        }
+        line((struct cursor){c.at, end});
+        c.at = end + 1;
+        if (sizeof output - printed < LONGEST_LIST + sizeof "refused=13\nrest=yes\n" && !flush())
+            return false;
+    }
+    put(bank_at_rest(&bank) ? "rest=yes\n" : "rest=no\n");
+    return flush();
+}
+
+int main(void) {
+    size_t size = 0;
+    ssize_t n = 1;
+    while (size < sizeof input && n > 0) {
+        n = read(STDIN_FILENO, input + size, sizeof input - size);
+        size += n > 0 ? (size_t)n : 0;
+    }
+    return n >= 0 && script(size) ? 0 : 1;
+}

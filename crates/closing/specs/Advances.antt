@@ -1,0 +1,83 @@
+-- A script's run, one text at a time: the table's answer, then each line's, last whether the bank is at rest.
+use Prim.Native.Nat.{ℕ, zero, suc, _+_}
+use mathlib.Core.Path.{_≡_}
+use mathlib.Core.Bool.{Bool, true, false, cond}
+use mathlib.Core.List.{List, [], _++_}
+use lib.Dec.{leb, ltb}
+use lib.ListN.{length, take, drop, replicate}
+use Rattle.bank.specs.Banks.{State, state, capacity, freshBank, noBank}
+use Rattle.bank.specs.Steps.{Outcome, accepted, refused}
+use Rattle.closing.specs.Text.{tableOk, written}
+use Rattle.closing.specs.Tables.{Cut, ended, unended, cut, Placed, noTree, readTable}
+use Rattle.closing.specs.Lines.{commandOf}
+use Rattle.closing.specs.declared.script.Run.{Run}
+use Rattle.closing.specs.Scripts.{limit, refusedText, restText, answered}
+
+-- how far a run has come, and what was printed last
+pub record Progress : Type 0 where
+  pub state : State
+  pub position : ℕ
+  -- the table is read
+  pub begun : Bool
+  -- nothing more is printed
+  pub over : Bool
+  pub text : List ℕ
+
+abbrev pub progress : State → ℕ → Bool → Bool → List ℕ → Progress
+progress s position begun over text = record { state = s; position = position; begun = begun; over = over; text = text }
+
+-- "Input past the limit prints `refused=13` alone"; "A refused table prints its refusal and ends the run"
+unfoldable pub tableAdvance : Progress → Outcome Placed → Progress
+tableAdvance p (accepted t) =
+    progress (state (freshBank (t .tree)) (p .state .heads) (p .state .doors)) (t .end) true false tableOk
+tableAdvance p (refused n t) = progress (p .state) (p .position) true true (refusedText n)
+
+unfoldable pub firstAdvance : List ℕ → Progress → Progress
+firstAdvance input p =
+    cond (ltb limit (length input)) (progress (p .state) (p .position) true true (refusedText 13)) (tableAdvance p (readTable input))
+
+-- a line, or a last piece without byte 10
+unfoldable pub lineAdvance : List ℕ → Progress → Cut → Progress
+lineAdvance input p (ended line rest) =
+    let a = answered (p .state) (commandOf line) in
+    progress (a .state) (p .position + (length line + 1)) true false (a .text)
+lineAdvance input p unended = progress (p .state) (length input) true false (refusedText 13)
+
+-- "last `rest=yes` or `rest=no`"
+unfoldable pub laterAdvance : List ℕ → Progress → Progress
+laterAdvance input p =
+    cond (leb (length input) (p .position))
+    (progress (p .state) (p .position) true true (restText (p .state)))
+    (lineAdvance input p (cut (drop (p .position) input)))
+
+unfoldable pub advance : List ℕ → Progress → Progress
+advance input p =
+    cond (p .over) (progress (p .state) (p .position) (p .begun) true [])
+    (cond (p .begun) (laterAdvance input p) (firstAdvance input p))
+
+-- ---- the run as the code holds it
+
+-- the text is the first `length` bytes of the lent buffer
+abbrev pub progressOf : Run → List ℕ → List ℕ → List ℕ → Progress
+progressOf r heads doors out = progress (state (r .bank) heads doors) (r .position) (r .begun) (r .over) (take (r .length) out)
+
+-- what an advance leaves: the next progress, and of the buffer nothing else touched
+pub record Advanced (r : Run) (heads doors out old : List ℕ) (next : Progress) : Type 0 where
+  pub progress-is : progressOf r heads doors out ≡ next
+  pub length-is : r .length ≡ length (next .text)
+  pub buffer-is : out ≡ written old 0 (next .text)
+
+-- before the table is read there is no bank
+abbrev pub startRun : Run
+startRun = record { bank = noBank (noTree .tree); position = 0; begun = false; over = false; length = 0 }
+
+-- ---- what a run prints
+
+-- the network's words are 0 at first
+abbrev pub start : Progress
+start = progressOf startRun (replicate capacity 0) (replicate capacity 0) []
+
+-- the texts of n advances, joined
+unfoldable pub printedBy : ℕ → List ℕ → Progress → List ℕ
+printedBy zero input p = []
+printedBy (suc n) input p = let q = advance input p in q .text ++ printedBy n input q

@@ -1,0 +1,81 @@
+-- How long a closing list can be, and lists in full.
+-- Assumes nothing.
+use Prim.Native.Nat.{ℕ, _+_, _^_, _-_, _≤_, _<_}
+use mathlib.Core.Path.{_≡_, refl, ap, _∙_}
+use mathlib.Core.Bool.{true, false, not}
+use mathlib.Core.List.{List, [], _∷_, _++_}
+use native.Mathlib.Omega.{arith}
+use lib.Count.{ones, ones-le, ones-ones}
+use lib.ListN.{length, length-append}
+use Rattle.column.specs.Refusals.{first}
+use Rattle.column.specs.RefusalLaws.{earlier-none}
+use Rattle.column.specs.TreeLaws.{tree-sixteen}
+use Rattle.column.specs.declared.state.Column.{Column}
+use Rattle.bank.specs.Banks.{State, runs, actingRefusal}
+use Rattle.bank.specs.StandingLaws.{acting}
+use Rattle.closing.specs.Text.{columnKey, numberKey, occupiedKey, doorsKey, newline, decimalIn, field}
+use Rattle.closing.specs.DecimalLaws.{decimal-length}
+use Rattle.closing.specs.DoorLaws.{doors-length}
+use Rattle.closing.specs.Closing.{doorsUpTo, moreDivided, divided, listText, listRefusal}
+
+-- "The longest list is 224 bytes": two digits of the column, five of the number, two of the count, and all doors
+pub list-longest : (i : ℕ) (c : Column) → i < 16 → c .number < 65536 → c .doors < 2 ^ 64 → length (listText i c) ≤ 224
+unfolding listText
+list-longest i c h n d =
+    simp length-append
+    (omega (
+      arith,
+      decimal-length 20 1 i (omega arith),
+      decimal-length 20 4 (c .number) (omega arith),
+      decimal-length 20 1 (ones (c .doors)) (omega (arith, ones-le 64 (c .doors) d)),
+      doors-length (c .doors) 64 (omega arith),
+    ))
+
+-- a column that acts is one of sixteen
+pub acting-sixteen : (s : State) (i : ℕ) → actingRefusal s i ≡ 0 → i < 16
+acting-sixteen s i e =
+    let w = acting s i e in
+    omega (arith, w .1, tree-sixteen (s .bank .tree) (w .0 .tree))
+
+pub list-sixteen : (s : State) (i : ℕ) → listRefusal s i ≡ 0 → i < 16
+list-sixteen s i e = acting-sixteen s i (earlier-none (actingRefusal s i) (first ((5, not (runs (s .bank) i)) ∷ [])) e .0)
+
+-- ---- lists in full
+
+abbrev holding : ℕ → ℕ → Column
+holding number doors = record { running = true; number = number; doors = doors; send = 0; awaited = 0; owed = 0; noted = 0; whole = false }
+
+-- the example of "The script program": `column=1`, `number=1`, `occupied=2`, `doors=1,10`
+pub list-of-two : listText 1 (holding 1 513)
+    ≡ (99 ∷ 111 ∷ 108 ∷ 117 ∷ 109 ∷ 110 ∷ 61 ∷ 49 ∷ 10 ∷ [])
+    ++ ((110 ∷ 117 ∷ 109 ∷ 98 ∷ 101 ∷ 114 ∷ 61 ∷ 49 ∷ 10 ∷ [])
+    ++ ((111 ∷ 99 ∷ 99 ∷ 117 ∷ 112 ∷ 105 ∷ 101 ∷ 100 ∷ 61 ∷ 50 ∷ 10 ∷ [])
+    ++ (100 ∷ 111 ∷ 111 ∷ 114 ∷ 115 ∷ 61 ∷ 49 ∷ 44 ∷ 49 ∷ 48 ∷ 10 ∷ [])))
+unfolding listText doorsUpTo divided moreDivided decimalIn ones
+list-of-two = refl
+
+-- "with none, the last line is `doors=`"
+pub list-of-none : listText 0 (holding 0 0)
+    ≡ (99 ∷ 111 ∷ 108 ∷ 117 ∷ 109 ∷ 110 ∷ 61 ∷ 48 ∷ 10 ∷ [])
+    ++ ((110 ∷ 117 ∷ 109 ∷ 98 ∷ 101 ∷ 114 ∷ 61 ∷ 48 ∷ 10 ∷ [])
+    ++ ((111 ∷ 99 ∷ 99 ∷ 117 ∷ 112 ∷ 105 ∷ 101 ∷ 100 ∷ 61 ∷ 48 ∷ 10 ∷ [])
+    ++ (100 ∷ 111 ∷ 111 ∷ 114 ∷ 115 ∷ 61 ∷ 10 ∷ [])))
+unfolding listText doorsUpTo divided moreDivided decimalIn ones
+list-of-none = refl
+
+-- all 64 doors, after the text of their count
+abbrev longest : ℕ → List ℕ
+longest count =
+    field columnKey 10
+    ++ (field numberKey 65535
+    ++ (field occupiedKey count
+    ++ (doorsKey ++ (divided (doorsUpTo 64 (2 ^ 64 - 1)) ++ (newline ∷ [])))))
+
+longest-length : length (longest 64) ≡ 224
+unfolding doorsUpTo divided moreDivided decimalIn
+longest-length = refl
+
+-- one of the longest
+pub list-of-all : length (listText 10 (holding 65535 (2 ^ 64 - 1))) ≡ 224
+unfolding listText
+list-of-all = ap (λ count. length (longest count)) (ones-ones 64) ∙ longest-length

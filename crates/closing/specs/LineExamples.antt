@@ -1,0 +1,50 @@
+-- Worked examples of the lines of a script, after document 01, "The script program". Assumes nothing.
+use Prim.Native.String.{String}
+use mathlib.Core.Path.{_≡_, refl}
+use mathlib.Core.List.{List, [], _∷_, map}
+use Rattle.column.specs.Packets.{lowValue}
+use Rattle.bank.specs.declared.step.Step.the-variants.{Order, Send, Take, Ack, All, Note, Halt}
+use Rattle.closing.specs.Text.{bytes, Reading, read, unread, allDigits, valueFrom, leadingZero, numeral, startsWith, afterKey}
+use Rattle.closing.specs.Tables.{longer, pieces, numeralIn}
+use Rattle.closing.specs.Lines.{Command, perform, list, allHexadecimal, hexadecimalBytes, doorsIn, asking, noteOf, noteOfPieces, noteIn, orElse, commandOf}
+
+-- a line, and what it asks for
+abbrev lines : List (String × Reading Command)
+lines =
+    -- "16 lowercase hexadecimal digits (byte 0 first)"
+    ("order=0102000000000000", read (perform (Order 513)))
+    ∷ ("order=ffffffffffffffff", read (perform (Order 18446744073709551615)))
+    ∷ ("order=010200000000000", unread)
+    ∷ ("order=01020000000000000", unread)
+    ∷ ("order=010A000000000000", unread)
+    ∷ ("order=010g000000000000", unread)
+    -- "with a column": one or two digits, no leading zero
+    ∷ ("send=9", read (perform (Send 9)))
+    ∷ ("send=99", read (perform (Send 99)))
+    ∷ ("ack=15", read (perform (Ack 15)))
+    ∷ ("all=3", read (perform (All 3)))
+    ∷ ("halt=0", read (perform (Halt 0)))
+    ∷ ("list=0", read (list 0))
+    ∷ ("send=100", unread)
+    ∷ ("send=01", unread)
+    ∷ ("send= 0", unread)
+    ∷ ("send=", unread)
+    ∷ ("SEND=0", unread)
+    ∷ ("halt=1,2", unread)
+    -- "`note=` with two divided by a comma"
+    ∷ ("note=0,9", read (perform (Note 0 9)))
+    ∷ ("note=1", unread)
+    ∷ ("note=1,2,3", unread)
+    -- "`take=` with a place of one to three digits"
+    ∷ ("take=512", read (perform (Take 512)))
+    ∷ ("take=999", read (perform (Take 999)))
+    ∷ ("take=00", unread)
+    ∷ ("take=1000", unread)
+    -- no key
+    ∷ ("jump=1", unread)
+    ∷ ("", unread)
+    ∷ []
+
+pub every-line : map (λ r. commandOf (bytes (r .0))) lines ≡ map (λ r. r .1) lines
+unfolding lowValue allDigits valueFrom leadingZero numeral startsWith afterKey longer pieces numeralIn allHexadecimal hexadecimalBytes doorsIn asking noteOf noteOfPieces noteIn orElse commandOf
+every-line = refl

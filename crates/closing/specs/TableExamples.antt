@@ -1,0 +1,77 @@
+-- Worked examples of tables, after document 01, "The bank and its table".
+use Prim.Native.Nat.{ℕ}
+use Prim.Native.String.{String}
+use mathlib.Core.Path.{_≡_, refl}
+use mathlib.Core.List.{List, [], _∷_, map}
+use lib.ListN.{replicate}
+use Rattle.column.specs.Trees.{every, climbsIn, treeOf, treeRefusal}
+use Rattle.bank.specs.Steps.{Outcome, accepted, refused}
+use Rattle.closing.specs.Text.{bytes, allDigits, valueFrom, leadingZero, numeral, startsWith, afterKey}
+use Rattle.closing.specs.Tables.{
+  withFirst,
+  cut,
+  longer,
+  pieces,
+  withNumber,
+  numerals,
+  numeralIn,
+  parentsIn,
+  joined,
+  thirdLine,
+  secondLine,
+  firstLine,
+  tableRefusal,
+  Placed,
+  placedAt,
+  noTree,
+  judged,
+  readTable,
+}
+
+-- a text, and what it answers
+pub record Row : Type 0 where
+  pub text : String
+  pub answer : Outcome Placed
+
+abbrev row : String → Outcome Placed → Row
+row text answer = record { text = text; answer = answer }
+
+abbrev no : ℕ → Outcome Placed
+no n = refused n noTree
+
+abbrev rows : List Row
+rows =
+    row "columns=3\nroot=0\nup=0,0,1\n" (accepted (placedAt (treeOf 3 0 (0 ∷ 0 ∷ 1 ∷ replicate 13 0)) 26))
+    -- "P `columns=1`, `up=0` is a tree."
+    ∷ row "columns=1\nroot=0\nup=0\n" (accepted (placedAt (treeOf 1 0 (replicate 16 0)) 22))
+    -- what follows a table is no part of it
+    ∷ row "columns=1\nroot=0\nup=0\nsend=0\n" (accepted (placedAt (treeOf 1 0 (replicate 16 0)) 22))
+    -- "16 columns pass, 17 don't"
+    ∷ row "columns=16\nroot=15\nup=15,15,15,15,15,15,15,15,15,15,15,15,15,15,15,15\n"
+    (accepted (placedAt (treeOf 16 15 (replicate 16 15)) 70))
+    ∷ row "columns=17\nroot=17\nup=0\n" (no 2)
+    ∷ row "columns=0\nroot=0\nup=0\n" (no 2)
+    -- "P `up=0,2,1` is none."
+    ∷ row "columns=3\nroot=0\nup=0,2,1\n" (no 3)
+    ∷ row "columns=3\nroot=3\nup=0,0,1\n" (no 3)
+    -- "`up` of another length"
+    ∷ row "columns=3\nroot=0\nup=0,0\n" (no 3)
+    ∷ row "columns=16\nroot=0\nup=0,0,0,0,0,0,0,0,0,0,0,0,0,0,0,0,0\n" (no 3)
+    -- "table not of the form above": a numeral's form
+    ∷ row "columns=03\nroot=0\nup=0,0,1\n" (no 1)
+    ∷ row "columns=100\nroot=0\nup=0\n" (no 1)
+    ∷ row "columns=3\r\nroot=0\nup=0,0,1\n" (no 1)
+    ∷ row "columns=3\nroot=0\nup=\n" (no 1)
+    ∷ row "columns=3\nroot=0\nup=0,\n" (no 1)
+    -- "in the order 1, 2, 3": the third line's form comes before 17 columns
+    ∷ row "columns=17\nroot=99\nup=0,x\n" (no 1)
+    -- "three lines, each ended by byte 10, in this order"
+    ∷ row "root=0\ncolumns=3\nup=0,0,1\n" (no 1)
+    ∷ row "columns=3\nroot=0\nup=0,0,1" (no 1)
+    ∷ row "" (no 1)
+    ∷ []
+
+pub table-answers : map (λ r. readTable (bytes (r .text))) rows ≡ map (λ r. r .answer) rows
+unfolding withFirst cut longer pieces withNumber numerals numeralIn parentsIn joined thirdLine secondLine firstLine
+    tableRefusal judged allDigits valueFrom leadingZero numeral startsWith afterKey every climbsIn treeRefusal
+table-answers = refl

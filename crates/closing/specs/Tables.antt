@@ -1,0 +1,129 @@
+-- The bank's table as text, after document 01, "The bank and its table".
+use Prim.Native.Nat.{ℕ, _+_}
+use mathlib.Core.Bool.{not, cond}
+use mathlib.Core.List.{List, [], _∷_, _++_}
+use lib.Dec.{eqb, ltb}
+use lib.ListN.{length, take, replicate}
+use Rattle.column.specs.Refusals.{first, earlier}
+use Rattle.column.specs.Trees.{treeOf, treeRefusal}
+use Rattle.column.specs.declared.tree.Tree.{Tree}
+use Rattle.bank.specs.Steps.{Outcome, accepted, refused}
+use Rattle.closing.specs.Text.{columnsKey, rootKey, upKey, newline, comma, Reading, read, unread, numeral, afterKey}
+
+-- ---- lines and pieces
+
+-- a text up to its first byte 10, and what follows; or a text without one
+pub data Cut : Type 0 where
+  ended : List ℕ → List ℕ → Cut
+  unended : Cut
+
+unfoldable pub withFirst : ℕ → Cut → Cut
+withFirst b (ended line rest) = ended (b ∷ line) rest
+withFirst b unended = unended
+
+unfoldable pub cut : List ℕ → Cut
+cut [] = unended
+cut (b ∷ l) = cond (eqb b newline) (ended [] l) (withFirst b (cut l))
+
+-- a text divided at its commas
+unfoldable pub longer : ℕ → List (List ℕ) → List (List ℕ)
+longer b [] = (b ∷ []) ∷ []
+longer b (p ∷ ps) = (b ∷ p) ∷ ps
+
+unfoldable pub pieces : List ℕ → List (List ℕ)
+pieces [] = [] ∷ []
+pieces (b ∷ l) = cond (eqb b comma) ([] ∷ pieces l) (longer b (pieces l))
+
+-- the numerals of all pieces
+unfoldable pub withNumber : Reading ℕ → Reading (List ℕ) → Reading (List ℕ)
+withNumber (read n) (read l) = read (n ∷ l)
+withNumber (read n) unread = unread
+withNumber unread r = unread
+
+unfoldable pub numerals : List (List ℕ) → Reading (List ℕ)
+numerals [] = read []
+numerals (p ∷ ps) = withNumber (numeral 2 p) (numerals ps)
+
+-- ---- the three lines
+
+-- "`columns=3`", "`root=0`": a key and a numeral
+unfoldable pub numeralIn : ℕ → Reading (List ℕ) → Reading ℕ
+numeralIn width (read l) = numeral width l
+numeralIn width unread = unread
+
+abbrev pub keyed : List ℕ → ℕ → List ℕ → Reading ℕ
+keyed key width line = numeralIn width (afterKey key line)
+
+-- "`up` has at least one"; there may be any number
+unfoldable pub parentsIn : Reading (List ℕ) → Reading (List ℕ)
+parentsIn (read l) = numerals (pieces l)
+parentsIn unread = unread
+
+abbrev pub parents : List ℕ → Reading (List ℕ)
+parents line = parentsIn (afterKey upKey line)
+
+-- the numbers of a table, and how many bytes it takes
+pub record Table : Type 0 where
+  pub columns : ℕ
+  pub root : ℕ
+  pub up : List ℕ
+  pub end : ℕ
+
+unfoldable pub joined : Reading ℕ → Reading ℕ → Reading (List ℕ) → ℕ → Reading Table
+joined (read columns) (read root) (read up) end = read (record { columns = columns; root = root; up = up; end = end })
+joined (read columns) (read root) unread end = unread
+joined (read columns) unread up end = unread
+joined unread root up end = unread
+
+-- "three lines, each ended by byte 10, in this order"
+unfoldable pub thirdLine : List ℕ → List ℕ → Cut → Reading Table
+thirdLine one two (ended three rest) =
+    joined (keyed columnsKey 2 one) (keyed rootKey 2 two) (parents three) (length one + 1 + (length two + 1) + (length three + 1))
+thirdLine one two unended = unread
+
+unfoldable pub secondLine : List ℕ → Cut → Reading Table
+secondLine one (ended two rest) = thirdLine one two (cut rest)
+secondLine one unended = unread
+
+unfoldable pub firstLine : Cut → Reading Table
+firstLine (ended one rest) = secondLine one (cut rest)
+firstLine unended = unread
+
+abbrev pub tableOf : List ℕ → Reading Table
+tableOf s = firstLine (cut s)
+
+-- ---- the tree, or the refusal: "Tables are checked in the order 1, 2, 3"
+
+-- the first sixteen parents; places past them hold 0
+abbrev pub sixteen : List ℕ → List ℕ
+sixteen up = take 16 (up ++ replicate 16 0)
+
+abbrev pub treeIn : Table → Tree
+treeIn t = treeOf (t .columns) (t .root) (sixteen (t .up))
+
+-- "3: .. `up` of another length"
+unfoldable pub tableRefusal : Table → ℕ
+tableRefusal t =
+    earlier (first ((2, eqb (t .columns) 0) ∷ (2, ltb 16 (t .columns)) ∷ (3, not (eqb (length (t .up)) (t .columns))) ∷ []))
+    (treeRefusal (treeIn t))
+
+-- a tree, and the place after its table
+pub record Placed : Type 0 where
+  pub tree : Tree
+  pub end : ℕ
+
+abbrev pub placedAt : Tree → ℕ → Placed
+placedAt t end = record { tree = t; end = end }
+
+-- beside a refusal there is no tree
+abbrev pub noTree : Placed
+noTree = placedAt (treeOf 0 0 (replicate 16 0)) 0
+
+-- "1: table not of the form above"
+unfoldable pub judged : Reading Table → Outcome Placed
+judged (read t) =
+    cond (eqb (tableRefusal t) 0) (accepted (placedAt (treeIn t) (t .end))) (refused (tableRefusal t) noTree)
+judged unread = refused 1 noTree
+
+abbrev pub readTable : List ℕ → Outcome Placed
+readTable s = judged (tableOf s)

@@ -1,0 +1,8 @@
+// The closing list of a column, and a script that runs a bank.
+mod hexadecimal;
+pub mod line;
+pub mod list;
+mod reading;
+pub mod script;
+pub mod table;
+mod text;

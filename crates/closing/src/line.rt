@@ -1,0 +1,109 @@
+// A line of a script.
+use crate::hexadecimal::Doors;
+use crate::hexadecimal::read_doors;
+use crate::reading::Number;
+use crate::reading::keyed;
+use crate::reading::numeral;
+use crate::reading::starts_with;
+use bank::step::Step;
+use bytes::scan::find;
+ghost use Prim.Native.Nat.{_≤_};
+ghost use mathlib.Core.Path.{_≡_};
+ghost use Rattle.closing.specs.Text.{read, orderKey, noteKey, afterKey};
+ghost use Rattle.closing.specs.Tables.{keyed};
+ghost use Rattle.closing.specs.Lines.{lineMeant, asking, doorsIn, noteIn, commandOf};
+ghost use Rattle.closing.specs.LineLaws.{asked};
+
+pub enum Line {
+    Perform(Step),
+    List(usize),
+    Unread,
+}
+
+// What is asked with one number, a column or a place.
+enum Asked {
+    Send,
+    Take,
+    Ack,
+    All,
+    Halt,
+    List,
+}
+
+fn command(kind: Asked, n: usize) -> Line
+    ensures { λ r. ⌜ lineMeant r ≡ read (asked kind n) ⌝ }
+{
+    match kind {
+        Asked::Send => Line::Perform(Step::Send(n)),
+        Asked::Take => Line::Perform(Step::Take(n)),
+        Asked::Ack => Line::Perform(Step::Ack(n)),
+        Asked::All => Line::Perform(Step::All(n)),
+        Asked::Halt => Line::Perform(Step::Halt(n)),
+        Asked::List => Line::List(n),
+    }
+}
+
+fn numbered(line: &[u8], key: &[u8], width: usize, kind: Asked) -> Line
+    requires { ⌜ width ≤ 3 ⌝ }
+    ensures { λ r. ⌜ lineMeant r ≡ asking (asked kind) (keyed (now (key .entry)) width (now (line .entry))) ⌝ }
+{
+    match keyed(line, key, width) {
+        Number::Is(n) => command(kind, n),
+        Number::Unread => Line::Unread,
+    }
+}
+
+fn order(line: &[u8]) -> Line
+    ensures { λ r. ⌜ lineMeant r ≡ doorsIn (afterKey orderKey (now (line .entry))) ⌝ }
+{
+    if !starts_with(line, b"order=") {
+        return Line::Unread;
+    }
+    match read_doors(&line[6..]) {
+        Doors::Are(doors) => Line::Perform(Step::Order(doors)),
+        Doors::Unread => Line::Unread,
+    }
+}
+
+// A second comma is no digit, so that what stands after the first is read only where there is no other.
+fn note(line: &[u8]) -> Line
+    ensures { λ r. ⌜ lineMeant r ≡ noteIn (afterKey noteKey (now (line .entry))) ⌝ }
+{
+    if !starts_with(line, b"note=") {
+        return Line::Unread;
+    }
+    let end = line.len();
+    let comma = find(line, 5, end, b',');
+    if comma == end {
+        return Line::Unread;
+    }
+    match numeral(&line[5..comma], 2) {
+        Number::Unread => Line::Unread,
+        Number::Is(i) => match numeral(&line[comma + 1..], 2) {
+            Number::Unread => Line::Unread,
+            Number::Is(j) => Line::Perform(Step::Note(i, j)),
+        },
+    }
+}
+
+// No two keys but `ack=` and `all=` begin with the same byte.
+pub fn parse(line: &[u8]) -> Line
+    ensures { λ r. ⌜ lineMeant r ≡ commandOf (now (line .entry)) ⌝ }
+{
+    if line.len() < 2 {
+        return Line::Unread;
+    }
+    match line[0] {
+        b'o' => order(line),
+        b's' => numbered(line, b"send=", 2, Asked::Send),
+        b't' => numbered(line, b"take=", 3, Asked::Take),
+        b'a' => match line[1] {
+            b'c' => numbered(line, b"ack=", 2, Asked::Ack),
+            _ => numbered(line, b"all=", 2, Asked::All),
+        },
+        b'n' => note(line),
+        b'h' => numbered(line, b"halt=", 2, Asked::Halt),
+        b'l' => numbered(line, b"list=", 2, Asked::List),
+        _ => Line::Unread,
+    }
+}

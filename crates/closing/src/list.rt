@@ -1,0 +1,113 @@
+// The closing list of a column, written into a lent buffer.
+use crate::text::put_all;
+use crate::text::put_field;
+use crate::text::put_number;
+use bank::bank::Bank;
+use bank::standing::acting_refusal;
+use column::state::Column;
+ghost use Prim.Native.Nat.{_+_, _≤_, _<_};
+ghost use mathlib.Core.Path.{_≡_};
+ghost use lib.Dec.{eqb};
+ghost use lib.ListN.{length};
+ghost use Rattle.bank.specs.Banks.{state};
+ghost use Rattle.closing.specs.Closing.{doorsUpTo, divided, listText, listed, placed, RefusesListing};
+ghost use Rattle.closing.specs.Closing.{list as Closing·list};
+ghost use Rattle.closing.specs.DoorLaws.{doorText};
+ghost use Rattle.closing.specs.Writing.{Writes};
+
+pub enum Listing {
+    // The bytes that the list takes.
+    Length(usize),
+    Refused(u8),
+}
+
+// Door d + 1, where it is occupied; the doors begin at `start`.
+fn put_door(out: &mut [u8], start: usize, at: usize, doors: u64, d: u64) -> usize
+    requires { ⌜ (at + length (doorText (eqb at start) doors d) ≤ length (now out)) × (d < 64) ⌝ }
+    ensures { λ r. ⌜ Writes r (now (out .exit)) (now (out .entry)) at (doorText (eqb at start) doors d) ⌝ }
+{
+    if (doors >> d) % 2 != 1 {
+        return at;
+    }
+    if at == start {
+        return put_number(out, at, d + 1);
+    }
+    let number = put_all(out, at, b",");
+    put_number(out, number, d + 1)
+}
+
+fn put_doors(out: &mut [u8], at: usize, doors: u64) -> usize
+    requires { ⌜ at + length (divided (doorsUpTo 64 doors)) ≤ length (now out) ⌝ }
+    ensures { λ r. ⌜ Writes r (now (out .exit)) (now (out .entry)) at (divided (doorsUpTo 64 doors)) ⌝ }
+{
+    let mut next = at;
+    let mut d: u64 = 0;
+    while d < 64 {
+        next = put_door(out, at, next, doors, d);
+        d += 1;
+    }
+    next
+}
+
+// The four lines.
+pub(crate) fn put_list(out: &mut [u8], at: usize, i: usize, c: Column) -> usize
+    requires { ⌜ at + length (listText i c) ≤ length (now out) ⌝ }
+    ensures { λ r. ⌜ Writes r (now (out .exit)) (now (out .entry)) at (listText i c) ⌝ }
+{
+    let number = put_field(out, at, b"column=", i as u64);
+    let occupied = put_field(out, number, b"number=", c.number as u64);
+    let key = put_field(out, occupied, b"occupied=", u64::count_ones(c.doors) as u64);
+    let doors = put_all(out, key, b"doors=");
+    let end = put_doors(out, doors, c.doors);
+    put_all(out, end, b"\n")
+}
+
+// The list from `at` on, where it fits; otherwise the buffer is as it was.
+fn place_list(i: usize, c: Column, buf: &mut [u8], at: usize) -> Listing
+    requires { ⌜ i < 16 ⌝ }
+    ensures { λ r. ⌜ listed r (now (buf .exit)) ≡ placed (now (buf .entry)) at (listText i c) ⌝ }
+{
+    let mut scratch = [0u8; 224];
+    let n = put_list(&mut scratch, 0, i, c);
+    if buf.len() < at {
+        return Listing::Refused(11);
+    }
+    if buf.len() - at < n {
+        return Listing::Refused(11);
+    }
+    put_all(&mut buf[at..], 0, &scratch[..n]);
+    Listing::Length(n)
+}
+
+// What a list is refused with before its place is looked at, or 0.
+pub fn list_refusal(b: Bank, i: usize, heads: &[u64; 512]) -> u8
+    ensures { λ r. ⌜ RefusesListing r b (now (heads .entry)) i ⌝ }
+{
+    let n = acting_refusal(b, i, heads);
+    if n != 0 {
+        return n;
+    }
+    let c = b.columns[i];
+    if !c.running {
+        return 5;
+    }
+    0
+}
+
+// The doors that packets carry are not looked at.
+pub fn list(
+    b: Bank,
+    i: usize,
+    heads: &[u64; 512],
+    doors: &[u64; 512],
+    buf: &mut [u8],
+    at: usize,
+) -> Listing
+    ensures { λ r. ⌜ listed r (now (buf .exit)) ≡ Closing·list (state b (now (heads .entry)) (now (doors .entry))) i (now (buf .entry)) at ⌝ }
+{
+    let n = list_refusal(b, i, heads);
+    if n != 0 {
+        return Listing::Refused(n);
+    }
+    place_list(i, b.columns[i], buf, at)
+}

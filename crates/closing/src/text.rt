@@ -1,0 +1,36 @@
+// Writers: each puts bytes into a lent buffer from a place on and answers the place after them.
+ghost use Prim.Native.Nat.{_+_, _≤_};
+ghost use lib.ListN.{length};
+ghost use Rattle.closing.specs.Text.{decimal as Text·decimal, field};
+ghost use Rattle.closing.specs.Writing.{Writes};
+use io::decimal;
+
+pub fn put_all(out: &mut [u8], at: usize, bytes: &[u8]) -> usize
+    requires { ⌜ at + length (now bytes) ≤ length (now out) ⌝ }
+    ensures { λ r. ⌜ Writes r (now (out .exit)) (now (out .entry)) at (now (bytes .entry)) ⌝ }
+{
+    let mut i: usize = 0;
+    while i < bytes.len() {
+        out[at + i] = bytes[i];
+        i += 1;
+    }
+    at + i
+}
+
+pub fn put_number(out: &mut [u8], at: usize, n: u64) -> usize
+    requires { ⌜ at + length (Text·decimal n) ≤ length (now out) ⌝ }
+    ensures { λ r. ⌜ Writes r (now (out .exit)) (now (out .entry)) at (Text·decimal n) ⌝ }
+{
+    let mut text = [0u8; 20];
+    let k = decimal(n, &mut text);
+    put_all(out, at, &text[..k])
+}
+
+pub fn put_field(out: &mut [u8], at: usize, key: &[u8], n: u64) -> usize
+    requires { ⌜ at + length (field (now key) n) ≤ length (now out) ⌝ }
+    ensures { λ r. ⌜ Writes r (now (out .exit)) (now (out .entry)) at (field (now (key .entry)) n) ⌝ }
+{
+    let value = put_all(out, at, key);
+    let end = put_number(out, value, n);
+    put_all(out, end, b"\n")
+}

@@ -1,0 +1,118 @@
+// Closing lists: "224 bytes hold the longest list, 223 don't".
+use crate::print::print;
+use crate::print::print_number;
+use crate::print::print_text;
+use bank::bank::Bank;
+use bank::bank::fresh;
+use closing::list::Listing;
+use closing::list::list;
+use column::tree::Tree;
+
+// What the buffer holds before a call; no list has this byte.
+const FILLED: u8 = 170;
+
+const LISTER: usize = 10;
+
+const TREE: Tree = Tree {
+    columns: 16,
+    root: 0,
+    up: [0; 16],
+};
+
+// The lister's list is the longest.
+fn bank(running: bool, whole: bool) -> Bank {
+    let begun = fresh(TREE);
+    let mut b = begun.bank;
+    let mut c = b.columns[LISTER];
+    c.running = running;
+    c.number = 65535;
+    c.doors = 18446744073709551615;
+    b.columns[LISTER] = c;
+    let mut root = b.columns[0];
+    root.whole = whole;
+    b.columns[0] = root;
+    b
+}
+
+// How many bytes are not as they were filled.
+fn changed(bytes: &[u8]) -> usize {
+    let mut count: usize = 0;
+    let mut i: usize = 0;
+    while i < bytes.len() {
+        if bytes[i] != FILLED {
+            count += 1;
+        }
+        i += 1;
+    }
+    count
+}
+
+// The text that was written from `at` on, and how much else was.
+fn print_written(buffer: &[u8], at: usize, n: usize) {
+    if buffer.len() < at {
+        return;
+    }
+    if buffer.len() - at < n {
+        return;
+    }
+    let end = at + n;
+    print_number(b"length ", n as u64);
+    print_number(b", changed before ", changed(&buffer[0..at]) as u64);
+    print_number(b" and after ", changed(&buffer[end..]) as u64);
+    print(b", ");
+    print_text(&buffer[at..end]);
+}
+
+// The list is lent the first `size` bytes of the buffer.
+fn listed(b: Bank, i: usize, buffer: &mut [u8], size: usize, at: usize) {
+    let heads = [0u64; 512];
+    let doors = [0u64; 512];
+    if buffer.len() < size {
+        return;
+    }
+    match list(b, i, &heads, &doors, &mut buffer[0..size], at) {
+        Listing::Length(n) => print_written(buffer, at, n),
+        Listing::Refused(n) => {
+            print_number(b"refused ", n as u64);
+            print_number(b", changed ", changed(buffer) as u64);
+        }
+    }
+}
+
+fn case(name: &[u8], b: Bank, i: usize, size: usize, at: usize) {
+    let mut buffer = [FILLED; 230];
+    print(name);
+    print_number(b"list of column ", i as u64);
+    print_number(b" of 16, ", size as u64);
+    print_number(b" bytes, place ", at as u64);
+    print(b": ");
+    listed(b, i, &mut buffer, size, at);
+    print(b"\n");
+}
+
+pub fn cases() {
+    let running = bank(true, true);
+    let halted = bank(false, true);
+    let wrong = bank(false, false);
+    case(b"", running, LISTER, 224, 0);
+    case(b"", running, LISTER, 223, 0);
+    case(b"", running, LISTER, 230, 3);
+    case(b"", running, LISTER, 230, 6);
+    case(b"", running, LISTER, 230, 7);
+    case(b"", running, LISTER, 230, 230);
+    case(b"", running, LISTER, 230, 231);
+    case(b"", running, LISTER, 230, 18446744073709551615);
+    case(b"", running, LISTER, 0, 0);
+    case(b"", running, 9, 230, 0);
+    case(b"", running, 16, 230, 0);
+    case(b"", running, 16, 0, 0);
+    case(b"halted, ", halted, LISTER, 230, 0);
+    case(b"halted, ", halted, LISTER, 0, 0);
+    case(
+        b"halted and a root whose goal is own, ",
+        wrong,
+        LISTER,
+        0,
+        0,
+    );
+}

@@ -1,0 +1,73 @@
+// That `unchanged` says what it should: the comparison sees a difference in each part alone, the last places too.
+use crate::print::print;
+use crate::print::print_flag;
+use crate::same::same;
+use crate::state::State;
+use crate::state::TREE;
+use crate::state::UNUSED;
+use crate::state::quiet;
+use crate::state::with_column;
+use crate::state::with_count;
+use crate::state::with_tree;
+use crate::state::with_words;
+use column::state::Column;
+
+fn compared(part: &[u8], s: State) {
+    print(part);
+    print_flag(same(quiet(), s), b": same\n", b": different\n");
+}
+
+fn field(part: &[u8], c: Column) {
+    print(b"column 15, ");
+    compared(part, with_column(quiet(), 15, c));
+}
+
+fn fields() {
+    let mut c = UNUSED;
+    field(b"no field", c);
+    c.running = true;
+    field(b"running", c);
+    c = UNUSED;
+    c.number = 1;
+    field(b"number", c);
+    c = UNUSED;
+    c.doors = 1;
+    field(b"doors", c);
+    c = UNUSED;
+    c.send = 1;
+    field(b"send", c);
+    c = UNUSED;
+    c.awaited = 1;
+    field(b"awaited", c);
+    c = UNUSED;
+    c.owed = 1;
+    field(b"owed", c);
+    c = UNUSED;
+    c.noted = 1;
+    field(b"noted", c);
+    c = UNUSED;
+    c.whole = true;
+    field(b"whole", c);
+}
+
+fn trees() {
+    let mut columns = TREE;
+    let mut root = TREE;
+    let mut up = TREE;
+    columns.columns = 4;
+    root.root = 1;
+    up.up[15] = 1;
+    compared(b"columns", with_tree(quiet(), columns));
+    compared(b"root", with_tree(quiet(), root));
+    compared(b"the last parent", with_tree(quiet(), up));
+}
+
+pub fn cases() {
+    fields();
+    trees();
+    compared(b"count", with_count(quiet(), 1));
+    compared(b"the first head", with_words(quiet(), 0, 1, 0));
+    compared(b"the first doors", with_words(quiet(), 0, 0, 1));
+    compared(b"the last head", with_words(quiet(), 511, 1, 0));
+    compared(b"the last doors", with_words(quiet(), 511, 0, 1));
+}

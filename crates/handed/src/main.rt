@@ -1,0 +1,25 @@
+// The bank's steps on banks handed in that no script reaches: one line a case, with the step, its answer, whether the bank and both
+// arrays are as they were, and what the step did.
+mod case;
+mod comparing;
+mod fine;
+mod full;
+mod halting;
+mod members;
+mod overlaps;
+mod packets;
+mod print;
+mod resting;
+mod same;
+mod state;
+
+fn main() {
+    comparing::cases();
+    members::cases();
+    packets::cases();
+    fine::cases();
+    overlaps::cases();
+    full::cases();
+    halting::cases();
+    resting::cases();
+}

@@ -1,0 +1,68 @@
+"""What holds of every line of the program handed: the bank's steps on banks that no script reaches."""
+import os
+import re
+import subprocess
+import unittest
+
+ROOT = os.path.dirname(os.path.dirname(os.path.abspath(__file__)))
+# name, step and its parameters, answer, whether the state is as it was, and what the step did
+STEP = re.compile(r"(.+), (order|send|take|ack|all|note|halt) ([\d ]+): (ok|refused \d+), (unchanged|changed, rewritten \{(\d*)\})(.*)")
+
+
+class Handed(unittest.TestCase):
+    @classmethod
+    def setUpClass(cls):
+        program = os.path.join(ROOT, "target", "bin", "handed")
+        lines = subprocess.run([program], capture_output=True, text=True, check=True).stdout.splitlines()
+        cls.steps = [found for found in map(STEP.fullmatch, lines) if found]
+        cls.rest = [line.rsplit(": ", 1) for line in lines if line.endswith("at rest")]
+        cls.comparisons = [line.rsplit(": ", 1) for line in lines if line.endswith((": same", ": different"))]
+        cls.lines = lines
+
+    def test_the_count_of_cases(self):
+        self.assertEqual((len(self.steps), len(self.rest), len(self.comparisons)), (212, 29, 17))
+        self.assertEqual(len(self.lines), 212 + 29 + 17)
+        self.assertEqual(len({line.split(": ")[0] for line in self.lines}), len(self.lines))
+
+    def test_the_comparison_sees_every_part(self):
+        self.assertEqual([part for part, answer in self.comparisons if answer == "same"], ["column 15, no field"])
+
+    def test_a_refused_step_changes_nothing_and_an_accepted_one_something(self):
+        for found in self.steps:
+            self.assertEqual(found[4] != "ok", found[5] == "unchanged", found[0])
+
+    def test_an_accepted_step_rewrites_at_most_the_column_it_names(self):
+        for found in self.steps:
+            self.assertIn(found[6] or "", ("", "0", "1", "2"), found[0])
+            if found[6] and found[2] in ("send", "ack", "all", "note", "halt"):
+                self.assertEqual(found[6], found[3].split()[0], found[0])
+
+    def test_every_number_of_a_step_and_every_step_occur(self):
+        self.assertEqual({found[4] for found in self.steps}, {"ok"} | {f"refused {n}" for n in range(2, 11)})
+        for answer in ("ok", "refused 4"):
+            steps = {found[2] for found in self.steps if found[4] == answer}
+            self.assertEqual(steps, {"order", "send", "take", "ack", "all", "note", "halt"}, answer)
+
+    def test_a_name_that_begins_with_a_number_is_refused_with_it(self):
+        named = [(re.match(r"(\d+)(?: over (\d+))?, ", found[1]), found) for found in self.steps]
+        named = [(number, found) for number, found in named if number]
+        self.assertEqual({number[1] for number, _ in named}, {str(n) for n in range(2, 11)})
+        for number, found in named:
+            self.assertEqual(found[4], f"refused {number[1]}", found[0])
+
+    def test_a_full_network_refuses_only_what_puts_a_packet(self):
+        answers = {511: [], 512: []}
+        for found in self.steps:
+            count = re.match(r"(51[12]) packets, ", found[1])
+            if count and found[4] == "refused 9":
+                answers[int(count[1])].append(found[2])
+        self.assertEqual(answers, {511: [], 512: ["send", "ack", "take"]})
+
+    def test_nothing_unused_is_touched(self):
+        kept = [line for line in self.lines if line.endswith(" kept")]
+        self.assertEqual(len(kept), 10)
+        self.assertFalse([line for line in self.lines if line.endswith(" lost")])
+
+
+if __name__ == "__main__":
+    unittest.main()

@@ -1,0 +1,65 @@
+"""The script program on every script of examples/, and at its limits."""
+import glob
+import os
+import re
+import subprocess
+import unittest
+
+ROOT = os.path.dirname(os.path.dirname(os.path.abspath(__file__)))
+PROGRAM = os.path.join(ROOT, "target", "bin", "lockers")
+TABLE = b"columns=3\nroot=0\nup=0,0,1\n"
+LIMIT = 65536
+
+
+def run(data):
+    return subprocess.run([PROGRAM], input=data, capture_output=True, check=True).stdout
+
+
+class Scripts(unittest.TestCase):
+    def test_every_example_prints_what_is_stored(self):
+        scripts = sorted(glob.glob(os.path.join(ROOT, "examples", "*.script")))
+        self.assertGreaterEqual(len(scripts), 5)
+        for path in scripts:
+            with open(path, "rb") as script, open(path[: -len(".script")] + ".out", "rb") as printed:
+                self.assertEqual(run(script.read()), printed.read(), path)
+
+    def test_the_example_of_document_01(self):
+        lines = b"order=0102000000000000\nsend=0\ntake=0\nhalt=0\nlist=1\n"
+        printed = b"table=ok\nstep=ok\nstep=ok\nstep=ok\nstep=ok\ncolumn=1\nnumber=1\noccupied=2\ndoors=1,10\nrest=no\n"
+        self.assertEqual(run(TABLE + lines), printed)
+
+    def test_every_refusal_that_a_script_meets_is_met_by_an_example(self):
+        met = set()
+        for path in glob.glob(os.path.join(ROOT, "examples", "*.out")):
+            with open(path, encoding="ascii") as printed:
+                met |= {int(number) for number in re.findall(r"^refused=(\d+)$", printed.read(), re.M)}
+        self.assertEqual(met, {1, 2, 3, 4, 5, 6, 7, 10, 13})
+
+    def test_past_the_limit_the_refusal_alone(self):
+        for data in (TABLE.ljust(LIMIT + 1, b"\n"), b"x" * (LIMIT + 1), TABLE + b"send=0\n" * 100_000):
+            self.assertEqual(run(data), b"refused=13\n")
+
+    def test_an_input_of_the_limit_is_read(self):
+        empty = LIMIT - len(TABLE)
+        self.assertEqual(run(TABLE.ljust(LIMIT, b"\n")), b"table=ok\n" + b"refused=13\n" * empty + b"rest=yes\n")
+
+    def test_output_is_not_bounded_by_a_buffer(self):
+        lists = (LIMIT - len(TABLE)) // len(b"list=0\n")
+        printed = b"table=ok\n" + b"column=0\nnumber=0\noccupied=0\ndoors=\n" * lists + b"rest=yes\n"
+        self.assertGreater(lists, 9000)
+        self.assertEqual(run(TABLE + b"list=0\n" * lists), printed)
+
+    def test_unended_and_empty(self):
+        self.assertEqual(run(b""), b"refused=1\n")
+        self.assertEqual(run(TABLE[:-1]), b"refused=1\n")
+        self.assertEqual(run(TABLE), b"table=ok\nrest=yes\n")
+        self.assertEqual(run(TABLE + b"\n\njump=1\nsend=0"), b"table=ok\n" + b"refused=13\n" * 4 + b"rest=yes\n")
+
+    def test_twenty_thousand_parents_are_of_the_form(self):
+        many = b"columns=1\nroot=0\nup=" + b",".join([b"0"] * 20_001) + b"\n"
+        self.assertEqual(run(many), b"refused=3\n")
+        self.assertEqual(run(many[:-1] + b"x\n"), b"refused=1\n")
+
+
+if __name__ == "__main__":
+    unittest.main()
