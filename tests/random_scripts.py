@@ -214,7 +214,8 @@ def random_part(count, seed):
             return report("the program and the model differ on:", shortest(data, lambda cut: not compared(cut)))
         if watch.disagreed:
             return report("lit columns disagree after:", data)
-    print(f"seed {seed}: {len(printed)} scripts, {watch.lines} lines, 0 differences")
+    longest = max(data.count(b"\n") for data, _ in printed if len(data) == model.LIMIT) - 3
+    print(f"seed {seed}: {len(printed)} scripts, {watch.lines - longest} lines and {longest} of the script at the limit, 0 differences")
     wanted = [f"accepted {name}" for name, _, _ in model.STEPS] + [f"refused {n}" for n in REFUSALS] + list(BRANCHES)
     watch.counts.update(f"refused {text[8:-1]}" for _, text in printed if text.startswith("refused="))
     for name in wanted:
