@@ -1,12 +1,19 @@
-/* Laps of one step: standard input is a step's letter and a number of laps, as for crates/timing; the number printed must be the same. */
-#include "column.h"
+/* Laps of one step of a lone column or of a bank: standard input as for crates/timing; the number printed must be the same. Letter B
+   prints the bytes of a bank and of its packets. */
+#include "bank.h"
 #include <stdio.h>
+
+static uint64_t fold(uint64_t sum, uint64_t n) {
+    return (sum % 16777216 * 31 + n % 16777216) % 16777216;
+}
+
+/* ---- a lone column */
 
 static struct column column(uint64_t lap, bool whole) {
     return (struct column){.running = true, .number = lap % 1000, .doors = lap, .whole = whole};
 }
 
-static struct column lap_of(char letter, uint64_t lap) {
+static struct column column_lap(char letter, uint64_t lap) {
     struct tree t = {16, 0, {0, 0, 0, 1, 1, 2, 2, 3, 3, 4, 4, 5, 5, 6, 6, 6 + lap % 2}};
     struct column c = column(lap, letter == 'o' || letter == 's' || letter == 'e' || letter == 'n' || letter == 'r');
     switch (letter) {
@@ -23,17 +30,69 @@ static struct column lap_of(char letter, uint64_t lap) {
     return c;
 }
 
-int main(void) {
-    char letter;
-    unsigned long long laps;
-    if (scanf(" %c %llu", &letter, &laps) != 2)
-        return 1;
+static uint64_t column_laps(char letter, uint64_t laps) {
     uint64_t sum = 0;
     for (uint64_t lap = 0; lap < laps; lap++) {
-        struct column c = lap_of(letter, lap);
-        uint64_t sets = (uint64_t)c.send + c.awaited + c.owed + c.noted;
-        sum = (sum % 16777216 * 31 + c.number + sets + c.running) % 16777216;
+        struct column c = column_lap(letter, lap);
+        sum = fold(sum, (uint64_t)c.number + c.send + c.awaited + c.owed + c.noted + c.running);
     }
-    printf("%llu\n", (unsigned long long)sum);
+    return sum;
+}
+
+/* ---- a bank */
+
+static struct bank bank = {.tree = {0, 0, {0, 0, 0, 1, 1, 2, 2, 3, 3, 4, 4, 5, 5, 6, 6, 7}}};
+
+static void start(size_t columns) {
+    bank.tree.columns = columns;
+    for (size_t i = 0; i < columns && i < 16; i++)
+        bank.columns[i] = (struct column){.running = i != 2, .whole = i == 0};
+}
+
+static void sent(uint64_t lap) {
+    bank.columns[0].send = 2;
+    bank.columns[0].doors = lap;
+    bank_send(&bank, 0);
+}
+
+static void bank_lap(char letter, uint64_t lap) {
+    if (letter == 'N') {
+        bank.columns[0].send = 0;
+        bank.columns[0].awaited = 4;
+        bank.columns[0].noted = 0;
+        bank_note(&bank, 0, 2);
+        return;
+    }
+    sent(lap);
+    bank_take(&bank, 0);
+}
+
+static uint64_t bank_laps(char letter, uint64_t columns, uint64_t packets, uint64_t laps) {
+    start(columns);
+    for (uint64_t k = 0; k < packets; k++)
+        sent(k);
+    uint64_t sum = 0;
+    for (uint64_t lap = 0; lap < laps; lap++) {
+        bank_lap(letter, lap);
+        const struct column *c = &bank.columns[0];
+        uint64_t sets = (uint64_t)c->send + c->awaited + c->noted + bank.columns[1].owed;
+        sum = fold(sum, sets + bank.count % 65536 + bank.packets[0].doors % 65536);
+    }
+    return sum;
+}
+
+int main(void) {
+    char line[64], letter;
+    unsigned long long columns, packets, laps;
+    if (!fgets(line, sizeof line, stdin))
+        return 1;
+    if (line[0] == 'B')
+        printf("%zu %zu\n", offsetof(struct bank, packets), sizeof bank.packets);
+    else if (sscanf(line, "%c %llu %llu %llu", &letter, &columns, &packets, &laps) == 4)
+        printf("%llu\n", (unsigned long long)bank_laps(letter, columns, packets, laps));
+    else if (sscanf(line, "%c %llu", &letter, &laps) == 2)
+        printf("%llu\n", (unsigned long long)column_laps(letter, laps));
+    else
+        return 1;
     return 0;
 }

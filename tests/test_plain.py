@@ -6,7 +6,7 @@ import unittest
 
 ROOT = os.path.dirname(os.path.dirname(os.path.abspath(__file__)))
 LONE = [f"{letter} 1000" for letter in "osmealnhr"]
-BANK = [f"{letter} {columns} {packets} 200" for letter in "nt" for columns in ("03", "16") for packets in ("002", "100", "400", "512")]
+BANK = [f"{letter} {columns} {packets} 200" for letter in "NT" for columns in ("03", "16") for packets in ("002", "100", "400", "512")]
 
 
 def folded(program, line):
@@ -14,21 +14,21 @@ def folded(program, line):
 
 
 class Plain(unittest.TestCase):
-    def agree(self, name, lines, *sources):
+    def agree(self, lines):
         with tempfile.TemporaryDirectory() as folder:
             plain = os.path.join(folder, "plain")
-            files = [os.path.join(ROOT, "bench", source) for source in sources]
+            files = [os.path.join(ROOT, "bench", source) for source in ("column.c", "bank.c", "laps.c")]
             subprocess.run(["gcc", "-O3", "-Wall", "-Wextra", "-Werror", "-o", plain, *files], check=True)
-            proved = os.path.join(ROOT, "target", "bin", name)
+            proved = os.path.join(ROOT, "target", "bin", "timing")
             sums = {line: folded(proved, line) for line in lines}
             self.assertEqual(sums, {line: folded(plain, line) for line in lines})
             self.assertGreater(len(set(sums.values())), len(lines) // 2)
 
     def test_every_step_of_a_column_agrees(self):
-        self.agree("timing", LONE, "column.c", "laps.c")
+        self.agree(LONE)
 
     def test_steps_of_a_bank_agree(self):
-        self.agree("bank_timing", BANK, "column.c", "bank.c", "bank_laps.c")
+        self.agree(BANK)
 
 
 if __name__ == "__main__":

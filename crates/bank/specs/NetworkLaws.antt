@@ -178,10 +178,6 @@ module _ (s : State) (w : Whole s) where
     kept-same : length (keeping (elsewhere i) hs hs) ≡ length (keeping (elsewhere i) hs ds)
     kept-same = keeping-same (elsewhere i) hs hs ds (same-length count)
 
-    pub vanished-count : vanished s i .bank .count ≤ count
-    unfolding vanished
-    vanished-count = kept-few hs
-
     pub vanished-meant : packetsOf (vanished s i) ≡ others i (packetsOf s)
     unfolding vanished
     vanished-meant =

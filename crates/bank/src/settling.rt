@@ -86,7 +86,7 @@ fn deliver(
     done(append(d, p, heads, doors))
 }
 
-// The core's outcome o for column i, in a step that takes no packet off.
+// The core's outcome o for column i, once a packet that the step takes is off.
 pub fn settle(
     b: Bank,
     i: usize,

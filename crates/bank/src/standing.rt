@@ -4,6 +4,7 @@ use crate::bank::CAPACITY;
 use crate::words::ACKNOWLEDGING;
 use crate::words::receiver_in;
 use crate::words::sender_in;
+use column::precedence::refuse_if;
 use column::state::state_refusal;
 use column::tree::tree_refusal;
 ghost use mathlib.Core.Path.{_≡_};
@@ -102,13 +103,6 @@ pub fn bank_refusal(b: Bank, heads: &[u64; 512]) -> u8
 pub fn acting_refusal(b: Bank, i: usize, heads: &[u64; 512]) -> u8
     ensures { λ r. ⌜ RefusesActing r b (now (heads .entry)) i ⌝ }
 {
-    let n = bank_refusal(b, heads);
-    if n != 0 {
-        return n;
-    }
     let t = b.tree;
-    if t.columns <= i {
-        return 4;
-    }
-    0
+    refuse_if(bank_refusal(b, heads), t.columns <= i, 4)
 }

@@ -15,6 +15,7 @@ use crate::standing::bank_refusal;
 use crate::words::packet;
 use column::packet::Packet;
 use column::packet::receiver;
+use column::precedence::refuse_if;
 use column::step::Answer;
 use column::step::Outcome;
 ghost use mathlib.Core.Path.{_≡_};
@@ -54,14 +55,7 @@ pub fn send(b: Bank, i: usize, heads: &mut [u64; 512], doors: &mut [u64; 512]) -
 fn take_refusal(b: Bank, place: usize, heads: &[u64; 512]) -> u8
     ensures { λ r. ⌜ RefusesTaking r b (now (heads .entry)) place ⌝ }
 {
-    let n = bank_refusal(b, heads);
-    if n != 0 {
-        return n;
-    }
-    if b.count <= place {
-        return 10;
-    }
-    0
+    refuse_if(bank_refusal(b, heads), b.count <= place, 10)
 }
 
 // Packet p, which stands at a place, goes to its receiver.

@@ -1,19 +1,18 @@
 -- The parents of an `up` line as the reader holds them: how many, and the first sixteen.
 use Prim.Native.Nat.{ℕ, zero, suc, _+_, _-_, _≤_, _<_}
 use mathlib.Core.Path.{_≡_, refl, sym, ap, ap₂, _∙_}
-use mathlib.Core.Bool.{Bool, true, false, not, cond}
+use mathlib.Core.Bool.{Bool, true, false, cond}
 use mathlib.Core.List.{List, [], _∷_, _++_, append-assoc, append-nil}
 use native.Mathlib.Omega.{arith}
 use lib.Dec.{eqb, ltb}
 use lib.ListN.{length, take, drop, set, replicate, length-append}
 use lib.Seq.{take-append-le}
 use borrow.Author.Tests.{ltb-true, ltb-false}
-use Rattle.column.specs.Refusals.{first, earlier}
-use Rattle.column.specs.Trees.{treeOf, treeRefusal}
+use Rattle.column.specs.Trees.{treeOf}
 use Rattle.column.specs.declared.tree.Tree.{Tree}
 use Rattle.bank.specs.Steps.{Outcome, accepted, refused}
 use Rattle.closing.specs.Text.{columnsKey, rootKey, comma, Reading, read, unread, numeral}
-use Rattle.closing.specs.Tables.{withNumber, numerals, keyed, parents, joined, sixteen, tableRefusal, Placed, placedAt, noTree, judged}
+use Rattle.closing.specs.Tables.{withNumber, numerals, keyed, parents, joined, sixteen, countedRefusal, tableRefusal, Placed, placedAt, noTree, judged}
 use Rattle.closing.specs.Cutting.{Found, piecesFrom, piece-from, pieces-end}
 use Rattle.closing.specs.declared.table.Parents.{Parents}
 use Rattle.closing.specs.declared.table.UpLine.{UpLine}
@@ -31,14 +30,10 @@ held unread = unread
 unfoldable pub withParent : Parents → ℕ → Parents
 withParent p n = record { count = p .count + 1; up = cond (ltb (p .count) 16) (set (p .up) (p .count) n) (p .up) }
 
--- a tree whose `up` line has `count` parents: "Tables are checked in the order 1, 2, 3"
-abbrev pub treeRefusalOf : Tree → ℕ → ℕ
-treeRefusalOf t count =
-    earlier (first ((2, eqb (t .columns) 0) ∷ (2, ltb 16 (t .columns)) ∷ (3, not (eqb count (t .columns))) ∷ [])) (treeRefusal t)
-
+-- a tree whose `up` line has `count` parents
 unfoldable pub treeJudged : Tree → ℕ → ℕ → Outcome Placed
 treeJudged t count end =
-    cond (eqb (treeRefusalOf t count) 0) (accepted (placedAt t end)) (refused (treeRefusalOf t count) noTree)
+    cond (eqb (countedRefusal t count) 0) (accepted (placedAt t end)) (refused (countedRefusal t count) noTree)
 
 -- what a line's parents make of the two lines before it
 unfoldable pub upJudged : ℕ → ℕ → Reading Parents → ℕ → Outcome Placed

@@ -1,6 +1,6 @@
 -- The bank's table as text, after document 01, "The bank and its table".
 use Prim.Native.Nat.{ℕ, _+_}
-use mathlib.Core.Bool.{not, cond}
+use mathlib.Core.Bool.{Bool, not, cond}
 use mathlib.Core.List.{List, [], _∷_, _++_}
 use lib.Dec.{eqb, ltb}
 use lib.ListN.{length, take, replicate}
@@ -101,11 +101,15 @@ sixteen up = take 16 (up ++ replicate 16 0)
 abbrev pub treeIn : Table → Tree
 treeIn t = treeOf (t .columns) (t .root) (sixteen (t .up))
 
--- "3: .. `up` of another length"
+-- "Tables are checked in the order 1, 2, 3"; "3: .. `up` of another length": a tree whose `up` line has `count` parents
+abbrev pub countedConditions : Tree → ℕ → List (ℕ × Bool)
+countedConditions t count = (2, eqb (t .columns) 0) ∷ (2, ltb 16 (t .columns)) ∷ (3, not (eqb count (t .columns))) ∷ []
+
+abbrev pub countedRefusal : Tree → ℕ → ℕ
+countedRefusal t count = earlier (first (countedConditions t count)) (treeRefusal t)
+
 unfoldable pub tableRefusal : Table → ℕ
-tableRefusal t =
-    earlier (first ((2, eqb (t .columns) 0) ∷ (2, ltb 16 (t .columns)) ∷ (3, not (eqb (length (t .up)) (t .columns))) ∷ []))
-    (treeRefusal (treeIn t))
+tableRefusal t = countedRefusal (treeIn t) (length (t .up))
 
 -- a tree, and the place after its table
 pub record Placed : Type 0 where

@@ -234,6 +234,7 @@ pub fn advance(
     out: &mut [u8; 224],
 ) -> Run
     ensures { λ q. ⌜ Advanced q (now (heads .exit)) (now (doors .exit)) (now (out .exit)) (now (out .entry)) (advance (now (input .entry)) (progressOf r (now (heads .entry)) (now (doors .entry)) (now (out .entry)))) ⌝ }
+    ensures { λ q. ⌜ q .length ≤ 224 ⌝ }
 {
     if r.over {
         let mut done = r;

@@ -5,12 +5,14 @@ use crate::reading::numeral;
 use crate::reading::starts_with;
 use bank::bank::Answer;
 use bytes::scan::find;
+use column::precedence::earlier;
+use column::precedence::refuse_if;
 use column::tree::Tree;
 use column::tree::tree_refusal;
 ghost use Prim.Native.Nat.{_^_, _<_};
 ghost use mathlib.Core.Path.{_≡_};
 ghost use Rattle.bank.specs.Steps.{answered, refused};
-ghost use Rattle.closing.specs.Tables.{parents, pieces, numerals, placedAt, noTree, readTable};
+ghost use Rattle.closing.specs.Tables.{parents, pieces, numerals, countedRefusal, placedAt, noTree, readTable};
 ghost use Rattle.closing.specs.Parents.{withParent, upMeant, held, treeJudged, linesJudged};
 
 // The parents of an `up` line: how many, and the first sixteen.
@@ -56,7 +58,7 @@ fn parents_in(text: &[u8]) -> UpLine
     };
     let mut from: usize = 0;
     while from <= text.len() {
-        let to = find(text, from, text.len(), 44);
+        let to = find(text, from, text.len(), b',');
         match numeral(&text[from..to], 2) {
             Number::Is(parent) => parents = with_parent(parents, parent),
             Number::Unread => return UpLine {
@@ -101,23 +103,22 @@ fn refused(number: u8) -> Table
     }
 }
 
-// A tree whose `up` line has `count` parents.
+// By which number a tree is refused whose `up` line has `count` parents.
+fn counted_refusal(tree: Tree, count: usize) -> u8
+    ensures { λ r. ⌜ r ≡ countedRefusal tree count ⌝ }
+{
+    let mut n = refuse_if(0, tree.columns == 0, 2);
+    n = refuse_if(n, 16 < tree.columns, 2);
+    n = refuse_if(n, count != tree.columns, 3);
+    earlier(n, tree_refusal(tree))
+}
+
 fn judge(tree: Tree, count: usize, end: usize) -> Table
     ensures { λ r. ⌜ answered (r .answer) (placedAt (r .tree) (r .end)) ≡ treeJudged tree count end ⌝ }
 {
-    let columns = tree.columns;
-    if columns == 0 {
-        return refused(2);
-    }
-    if 16 < columns {
-        return refused(2);
-    }
-    if count != columns {
-        return refused(3);
-    }
-    let number = tree_refusal(tree);
-    if number != 0 {
-        return refused(number);
+    let n = counted_refusal(tree, count);
+    if n != 0 {
+        return refused(n);
     }
     Table {
         answer: Answer::Done,
@@ -150,15 +151,15 @@ fn read_lines(one: &[u8], two: &[u8], three: &[u8], end: usize) -> Table
 pub fn read_table(input: &[u8]) -> Table
     ensures { λ r. ⌜ answered (r .answer) (placedAt (r .tree) (r .end)) ≡ readTable (now (input .entry)) ⌝ }
 {
-    let one = find(input, 0, input.len(), 10);
+    let one = find(input, 0, input.len(), b'\n');
     if one == input.len() {
         return refused(1);
     }
-    let two = find(input, one + 1, input.len(), 10);
+    let two = find(input, one + 1, input.len(), b'\n');
     if two == input.len() {
         return refused(1);
     }
-    let three = find(input, two + 1, input.len(), 10);
+    let three = find(input, two + 1, input.len(), b'\n');
     if three == input.len() {
         return refused(1);
     }

@@ -1,5 +1,5 @@
 -- The children of a column as a set. Assumes nothing.
-use Prim.Native.Nat.{ℕ, _^_, _≤_, _<_}
+use Prim.Native.Nat.{ℕ, _^_, _<_}
 use mathlib.Core.Path.{_≡_, refl, sym, _∙_}
 use mathlib.Core.Bool.{true, false, not}
 use mathlib.Core.Logic.{⊎-elim}
@@ -8,7 +8,7 @@ use lib.Dec.{eqb}
 use borrow.Author.Tests.{eq-eqb, ne-eqb, eqb-true, eqb-false, not-true}
 use Rattle.column.specs.Cases.{truth, and-left, and-right}
 use Rattle.column.specs.Sets.{has}
-use Rattle.column.specs.SetLaws.{has-above, member-lt, selected-lt, selected-has}
+use Rattle.column.specs.SetLaws.{member-lt, selected-lt, selected-has}
 use Rattle.column.specs.Trees.{parent, isChild, children}
 use Rattle.column.specs.declared.tree.Tree.{Tree}
 
@@ -18,9 +18,6 @@ module _ (t : Tree) (c : ℕ) where
 
   pub children-has : (j : ℕ) → j < t .columns → has (children t c) j ≡ isChild t c j
   children-has j h = selected-has (isChild t c) (t .columns) j h
-
-  pub children-above : (j : ℕ) → t .columns ≤ j → has (children t c) j ≡ false
-  children-above j h = has-above (t .columns) (children t c) j children-lt h
 
   pub child-below : (q : ℕ) → has (children t c) q ≡ true → q < t .columns
   child-below q e = member-lt (t .columns) (children t c) q children-lt e

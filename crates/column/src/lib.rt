@@ -4,7 +4,7 @@ pub mod codec;
 mod effect;
 mod number_bytes;
 pub mod packet;
-mod precedence;
+pub mod precedence;
 pub mod refusal;
 mod sets;
 pub mod state;

@@ -1,4 +1,5 @@
 // The tree of a bank.
+use crate::precedence::refuse_if;
 use crate::sets::within;
 use crate::traversal::children_of;
 use crate::traversal::climbs_end;
@@ -53,15 +54,7 @@ pub fn tree_refusal(t: Tree) -> u8
 pub fn column_refusal(t: Tree, c: usize) -> u8
     ensures { λ r. ⌜ r ≡ columnRefusal t c ⌝ }
 {
-    let n = tree_refusal(t);
-    if n != 0 {
-        return n;
-    }
-    let columns = t.columns;
-    if columns <= c {
-        return 4;
-    }
-    0
+    refuse_if(tree_refusal(t), t.columns <= c, 4)
 }
 
 pub fn children(t: Tree, c: usize) -> Members
@@ -87,12 +80,9 @@ pub fn subtree(t: Tree, c: usize) -> Members
 pub fn subtrees(t: Tree, set: u16) -> Members
     ensures { λ r. ⌜ membersMeant r ≡ subtreesGiven t set ⌝ }
 {
-    let n = tree_refusal(t);
+    let n = refuse_if(tree_refusal(t), !within(set, t.columns), 4);
     if n != 0 {
         return Members::Refused(n);
-    }
-    if !within(set, t.columns) {
-        return Members::Refused(4);
     }
     Members::Set(subtrees_in(t, set, DESCENT))
 }

@@ -4,12 +4,12 @@ use crate::print::print_flag;
 use crate::same::same;
 use crate::state::State;
 use crate::state::TREE;
-use crate::state::UNUSED;
 use crate::state::quiet;
 use crate::state::with_column;
 use crate::state::with_count;
 use crate::state::with_tree;
 use crate::state::with_words;
+use bank::bank::NO_COLUMN;
 use column::state::Column;
 
 fn compared(part: &[u8], s: State) {
@@ -23,29 +23,29 @@ fn field(part: &[u8], c: Column) {
 }
 
 fn fields() {
-    let mut c = UNUSED;
+    let mut c = NO_COLUMN;
     field(b"no field", c);
     c.running = true;
     field(b"running", c);
-    c = UNUSED;
+    c = NO_COLUMN;
     c.number = 1;
     field(b"number", c);
-    c = UNUSED;
+    c = NO_COLUMN;
     c.doors = 1;
     field(b"doors", c);
-    c = UNUSED;
+    c = NO_COLUMN;
     c.send = 1;
     field(b"send", c);
-    c = UNUSED;
+    c = NO_COLUMN;
     c.awaited = 1;
     field(b"awaited", c);
-    c = UNUSED;
+    c = NO_COLUMN;
     c.owed = 1;
     field(b"owed", c);
-    c = UNUSED;
+    c = NO_COLUMN;
     c.noted = 1;
     field(b"noted", c);
-    c = UNUSED;
+    c = NO_COLUMN;
     c.whole = true;
     field(b"whole", c);
 }

@@ -1,6 +1,7 @@
 // A bank with the two arrays that it is lent, as a caller may hand them in, and the parts that the cases are made of. Unless a case says
 // otherwise the tree is that of three columns, 1 the child of root 0 and 2 the child of 1, and column 2 is halted.
 use bank::bank::Bank;
+use bank::bank::NO_COLUMN;
 use column::packet::Number;
 use column::state::Column;
 use column::tree::Tree;
@@ -29,17 +30,6 @@ pub const TREE: Tree = Tree {
     columns: 3,
     root: 0,
     up: [0, 0, 1, 0, 0, 0, 0, 0, 0, 0, 0, 0, 0, 0, 0, 0],
-};
-
-pub const UNUSED: Column = Column {
-    running: false,
-    number: 0,
-    doors: 0,
-    send: 0,
-    awaited: 0,
-    owed: 0,
-    noted: 0,
-    whole: false,
 };
 
 pub fn member(send: u16, awaited: u16, owed: u16, noted: u16) -> Column {
@@ -88,7 +78,7 @@ pub fn acknowledgement(from: u64, to: u64, number: u64) -> u64 {
 
 // No packet; nothing to do for anyone but to note column 2.
 pub fn quiet() -> State {
-    let mut columns = [UNUSED; 16];
+    let mut columns = [NO_COLUMN; 16];
     columns[0] = root(0, 0, 0, 0);
     columns[1] = member(0, 0, 0, 0);
     columns[2] = halted(member(0, 0, 0, 0));

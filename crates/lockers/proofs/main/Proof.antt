@@ -1,17 +1,16 @@
 use borrow.Author.Needs.{needs}
 use Prim.Native.Nat.{_+_, _-_, _≤_}
-use mathlib.Core.Path.{sym}
+use mathlib.Core.Path.{_≡_, sym}
 use lib.ListN.{length}
 use lib.Seq.{length-take-le}
-use Rattle.closing.specs.ScriptLaws.{text-within}
 use Rattle.lockers.proofs.main.Statement.{statement}
 use Rattle.lockers.proofs.main.Tie as tie
 
 abbrev Inv-loop : tie.InvT-loop
-Inv-loop input n heads₀ doors₀ text₀ run₀ k₀ heads doors text run k = (n ≤ length input) × (k ≤ n + 2)
+Inv-loop input n heads₀ doors₀ gathered₀ run₀ k₀ heads doors gathered run k = (n ≤ length input) × (k ≤ n + 2) × (length gathered ≡ 14336)
 
 abbrev μ-loop : tie.MeasureT-loop
-μ-loop input n heads₀ doors₀ text₀ run₀ k₀ heads doors text run k = n + 2 - k
+μ-loop input n heads₀ doors₀ gathered₀ run₀ k₀ heads doors gathered run k = n + 2 - k
 
 slice-aggregate-read-full : tie.Need-slice-aggregate-read-full Inv-loop μ-loop
 slice-aggregate-read-full c = search needs
@@ -31,17 +30,20 @@ add-loop c = search needs
 array-share-prefix-input : tie.Need-array-share-prefix-input Inv-loop μ-loop
 array-share-prefix-input c = search needs
 
-slice-aggregate-advance : tie.Need-slice-aggregate-advance Inv-loop μ-loop
-slice-aggregate-advance c = search needs
+slice-aggregate-gather : tie.Need-slice-aggregate-gather Inv-loop μ-loop
+slice-aggregate-gather c = search needs
 
-advance-requires : tie.Need-advance-requires Inv-loop μ-loop
-advance-requires c κs = search needs
+slice-aggregate-gather-2 : tie.Need-slice-aggregate-gather-2 Inv-loop μ-loop
+slice-aggregate-gather-2 c = search needs
 
-array-share-prefix-text : tie.Need-array-share-prefix-text Inv-loop μ-loop
-array-share-prefix-text c = text-within (c .advance .ensures)
+gather-requires : tie.Need-gather-requires Inv-loop μ-loop
+gather-requires c κs = search needs
+
+array-share-prefix-gathered : tie.Need-array-share-prefix-gathered Inv-loop μ-loop
+array-share-prefix-gathered c = search needs
 
 slice-aggregate-write-all : tie.Need-slice-aggregate-write-all Inv-loop μ-loop
-slice-aggregate-write-all c = sym (length-take-le _ _ (text-within (c .before .advance .ensures)))
+slice-aggregate-write-all c = sym (length-take-le _ _ (array-share-prefix-gathered (c .before)))
 
 write-all-requires : tie.Need-write-all-requires Inv-loop μ-loop
 write-all-requires c κs = search needs
@@ -76,9 +78,10 @@ main-spec =
     loop-holds
     add-loop
     array-share-prefix-input
-    slice-aggregate-advance
-    advance-requires
-    array-share-prefix-text
+    slice-aggregate-gather
+    slice-aggregate-gather-2
+    gather-requires
+    array-share-prefix-gathered
     slice-aggregate-write-all
     write-all-requires
     returns

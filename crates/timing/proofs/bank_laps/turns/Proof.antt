@@ -1,7 +1,7 @@
 use borrow.Author.Needs.{needs}
 use Prim.Native.Nat.{_-_}
-use Rattle.bank_timing.proofs.turns.Statement.{statement}
-use Rattle.bank_timing.proofs.turns.Tie as tie
+use Rattle.timing.proofs.bank_laps.turns.Statement.{statement}
+use Rattle.timing.proofs.bank_laps.turns.Tie as tie
 
 abbrev Inv-loop : tie.InvT-loop
 Inv-loop laps heads₀ doors₀ d₀ sum₀ lap₀ heads doors d sum lap = Unit {0}

@@ -1,7 +1,7 @@
 use borrow.Author.Needs.{needs}
 use Prim.Native.Nat.{_-_}
-use Rattle.bank_timing.proofs.filled.Statement.{statement}
-use Rattle.bank_timing.proofs.filled.Tie as tie
+use Rattle.timing.proofs.bank_laps.filled.Statement.{statement}
+use Rattle.timing.proofs.bank_laps.filled.Tie as tie
 
 abbrev Inv-loop : tie.InvT-loop
 Inv-loop packets heads₀ doors₀ d₀ k₀ heads doors d k = Unit {0}

@@ -1,23 +1,12 @@
-// Many laps of a bank's steps, for the benchmark beside plain C: standard input is a letter, the columns in two digits, the packets
-// under way in three and the number of laps, as `t 16 100 1000`. What is printed folds the banks after the laps into one number.
+// Laps of a bank's steps.
+use crate::laps::fold;
+use crate::laps::heap;
 use bank::bank::Bank;
 use bank::bank::fresh;
 use bank::step::note;
 use bank::step::send;
 use bank::step::take;
 use column::state::Column;
-use column::tree::Tree;
-use libc::STDIN_FILENO;
-use libc::STDOUT_FILENO;
-
-// The columns as a heap: the parent of columns 2k + 1 and 2k + 2 is k.
-fn heap(columns: usize) -> Tree {
-    Tree {
-        columns,
-        root: 0,
-        up: [0, 0, 0, 1, 1, 2, 2, 3, 3, 4, 4, 5, 5, 6, 6, 7],
-    }
-}
 
 // The root sends a message with the lap as its doors to column 1.
 fn sent(b: Bank, lap: u64, heads: &mut [u64; 512], doors: &mut [u64; 512]) -> Bank {
@@ -50,25 +39,7 @@ fn folded(sum: u64, b: Bank, oldest: u64) -> u64 {
     let d = b.columns[1];
     let sets = c.send as u64 + c.awaited as u64 + c.noted as u64 + d.owed as u64;
     let packets = b.count as u64 % 65536 + oldest % 65536;
-    (sum % 16777216 * 31 + sets + packets) % 16777216
-}
-
-fn number(s: &[u8]) -> u64 {
-    let mut n: u64 = 0;
-    let mut i = 0;
-    while i < s.len() {
-        let b = s[i];
-        match b {
-            48..=57 => {
-                n = n % 100000000 * 10 + (b - 48) as u64;
-            }
-            _ => {
-                return n;
-            }
-        }
-        i += 1;
-    }
-    n
+    fold(sum, sets + packets)
 }
 
 // A fresh bank in which column 2 is halted.
@@ -117,23 +88,13 @@ fn turns(b: Bank, laps: u64, heads: &mut [u64; 512], doors: &mut [u64; 512]) -> 
     sum
 }
 
-fn run(letter: u8, b: Bank, laps: u64, heads: &mut [u64; 512], doors: &mut [u64; 512]) -> u64 {
-    match letter {
-        b'n' => notes(b, laps, heads, doors),
-        _ => turns(b, laps, heads, doors),
-    }
-}
-
-fn main() {
-    let mut input = [0u8; 32];
-    io::read_full(STDIN_FILENO, &mut input);
-    let letter = input[0];
-    let columns = number(&input[2..4]) as usize;
-    let packets = number(&input[5..8]);
-    let laps = number(&input[9..]);
+// Letter N: notes. Any other: a packet put and one taken, in turn.
+pub fn run(letter: u8, columns: u64, packets: u64, laps: u64) -> u64 {
     let mut heads = [0u64; 512];
     let mut doors = [0u64; 512];
-    let b = filled(started(columns), packets, &mut heads, &mut doors);
-    io::print_decimal(STDOUT_FILENO, run(letter, b, laps, &mut heads, &mut doors));
-    io::write_all(STDOUT_FILENO, b"\n");
+    let b = filled(started(columns as usize), packets, &mut heads, &mut doors);
+    match letter {
+        b'N' => notes(b, laps, &mut heads, &mut doors),
+        _ => turns(b, laps, &mut heads, &mut doors),
+    }
 }

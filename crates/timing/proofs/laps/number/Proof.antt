@@ -1,8 +1,8 @@
 use borrow.Author.Needs.{needs}
 use Prim.Native.Nat.{_-_}
 use lib.ListN.{length}
-use Rattle.timing.proofs.laps_of.Statement.{statement}
-use Rattle.timing.proofs.laps_of.Tie as tie
+use Rattle.timing.proofs.laps.number.Statement.{statement}
+use Rattle.timing.proofs.laps.number.Tie as tie
 
 abbrev Inv-loop : tie.InvT-loop
 Inv-loop s n₀ i₀ n i = Unit {0}
@@ -43,8 +43,8 @@ loop-again c = search needs
 returns-3 : tie.Need-returns-3 Inv-loop μ-loop
 returns-3 c = search needs
 
-pub laps-of-spec : {M : Type 1} → statement M
-laps-of-spec =
+pub number-spec : {M : Type 1} → statement M
+number-spec =
     tie.close
     (tie.spec
     Inv-loop

@@ -1,7 +1,7 @@
 use borrow.Author.Needs.{needs}
 use Prim.Native.Nat.{_-_}
-use Rattle.timing.proofs.run.Statement.{statement}
-use Rattle.timing.proofs.run.Tie as tie
+use Rattle.timing.proofs.column_laps.run.Statement.{statement}
+use Rattle.timing.proofs.column_laps.run.Tie as tie
 
 abbrev Inv-loop : tie.InvT-loop
 Inv-loop letter laps sum₀ lap₀ sum lap = Unit {0}

@@ -1,0 +1,129 @@
+// Laps of one step of a lone column.
+use crate::laps::fold;
+use crate::laps::heap;
+use column::packet::Packet;
+use column::state::Column;
+use column::step::Outcome;
+use column::step::ack;
+use column::step::all;
+use column::step::halt;
+use column::step::note;
+use column::step::order;
+use column::step::send;
+use column::step::take;
+use column::tree::Tree;
+ghost use Prim.Native.Nat.{_<_};
+
+// Sixteen columns, the last one's parent different from lap to lap, so that no check of the tree is done once for all laps.
+fn tree(lap: u64) -> Tree {
+    let mut t = heap(16);
+    t.up[15] = 6 + (lap % 2) as usize;
+    t
+}
+
+fn column(lap: u64, whole: bool) -> Column {
+    Column {
+        running: true,
+        number: (lap % 1000) as u16,
+        doors: lap,
+        send: 0,
+        awaited: 0,
+        owed: 0,
+        noted: 0,
+        whole,
+    }
+}
+
+fn ordered(lap: u64) -> Outcome {
+    order(tree(lap), 0, column(lap, true), lap)
+}
+
+fn sent(lap: u64) -> Outcome {
+    let mut c = column(lap, true);
+    c.send = 6;
+    send(tree(lap), 0, c)
+}
+
+fn received(lap: u64) -> Outcome {
+    let p = Packet::Message {
+        from: 0,
+        to: 1,
+        number: 1000,
+        doors: lap,
+    };
+    take(tree(lap), 1, column(lap, false), p)
+}
+
+fn ended(lap: u64) -> Outcome {
+    let mut c = column(lap, true);
+    c.awaited = 6;
+    let p = Packet::Acknowledgement {
+        from: 2,
+        to: 0,
+        number: c.number,
+    };
+    take(tree(lap), 0, c, p)
+}
+
+fn acknowledged(lap: u64) -> Outcome {
+    let mut c = column(lap, false);
+    c.owed = 9;
+    ack(tree(lap), 2, c)
+}
+
+fn took_over(lap: u64) -> Outcome {
+    let mut c = column(lap, false);
+    c.noted = 1;
+    all(tree(lap), 3, c)
+}
+
+fn noted(lap: u64) -> Outcome {
+    let mut c = column(lap, true);
+    c.awaited = 6;
+    note(tree(lap), 0, c, 1)
+}
+
+fn halted(lap: u64) -> Outcome {
+    halt(tree(lap), 5, column(lap, false))
+}
+
+fn refused(lap: u64) -> Outcome {
+    send(tree(lap), 0, column(lap, true))
+}
+
+fn step(letter: u8, lap: u64) -> Outcome {
+    match letter {
+        b'o' => ordered(lap),
+        b's' => sent(lap),
+        b'm' => received(lap),
+        b'e' => ended(lap),
+        b'a' => acknowledged(lap),
+        b'l' => took_over(lap),
+        b'n' => noted(lap),
+        b'h' => halted(lap),
+        _ => refused(lap),
+    }
+}
+
+fn flag(b: bool) -> u64
+    ensures { λ r. ⌜ r < 2 ⌝ }
+{
+    if b { 1 } else { 0 }
+}
+
+// The doors are the lap's own and the goal follows from the step: what tells steps apart is in the number, the sets and whether it runs.
+fn folded(sum: u64, c: Column) -> u64 {
+    let sets = c.send as u64 + c.awaited as u64 + c.owed as u64 + c.noted as u64;
+    fold(sum, c.number as u64 + sets + flag(c.running))
+}
+
+pub fn run(letter: u8, laps: u64) -> u64 {
+    let mut sum: u64 = 0;
+    let mut lap: u64 = 0;
+    while lap < laps {
+        let o = step(letter, lap);
+        sum = folded(sum, o.column);
+        lap += 1;
+    }
+    sum
+}
