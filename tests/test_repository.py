@@ -58,6 +58,14 @@ class Repository(unittest.TestCase):
         done = subprocess.run(["rt", "fmt", "--check"], cwd=ROOT, capture_output=True, text=True)
         self.assertEqual(done.returncode, 0, done.stdout + done.stderr)
 
+    def test_every_mutant_is_on_the_list_of_refused_ones(self):
+        folder = os.path.join(ROOT, "tests", "mutants")
+        edits = {os.path.relpath(path, folder).removesuffix(".edit") for path in glob.glob(os.path.join(folder, "*", "*.edit"))}
+        lines = read(os.path.join(folder, "refused.txt")).splitlines()
+        totals = [int(line.removesuffix(" refused for a fact, 0 not")) for line in lines if ": " not in line]
+        self.assertEqual({line.split(": ")[0] for line in lines if ": " in line}, edits)
+        self.assertEqual(sum(totals), len(edits))
+
     def test_every_mutant_fits_its_file_once(self):
         edits = sorted(glob.glob(os.path.join(ROOT, "tests", "mutants", "*", "*.edit"))) + sources("*/must-fail/*.edit")
         self.assertGreater(len(edits), 10)

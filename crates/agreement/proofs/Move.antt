@@ -50,10 +50,10 @@ noting c send awaited noted =
       whole = c .whole;
     }
 
-abbrev pub halted : Column → Column
-halted c =
+abbrev pub withRunning : Bool → Column → Column
+withRunning running c =
     record {
-      running = false;
+      running = running;
       number = c .number;
       doors = c .doors;
       send = c .send;
@@ -62,6 +62,9 @@ halted c =
       noted = c .noted;
       whole = c .whole;
     }
+
+abbrev pub halted : Column → Column
+halted = withRunning false
 
 -- ---- the moves
 

@@ -2,7 +2,7 @@
 use Prim.Native.Nat.{ℕ, zero, suc, _+_, _<_}
 use native.Mathlib.Omega.{arith}
 use native.Mathlib.Numerals.{add-one}
-use mathlib.Core.Path.{_≡_, refl, sym, subst, _∙_}
+use mathlib.Core.Path.{_≡_, refl, sym, ap, subst, _∙_}
 use mathlib.Core.Logic.{_≢_}
 use mathlib.Core.Bool.{Bool, true, false, cond, and-false}
 use mathlib.Core.List.{List, [], _∷_, _++_}
@@ -184,16 +184,7 @@ module _ (s : State) (formed : Formed s) (orders : List ℕ) where
       stops : (s' : State) → Becomes (modelOf s orders) (modelOf s' orders) i (view t i (move.halted c)) (packetsOf (vanished s i)) orders
           → Becomes (modelOf s orders) (modelOf s' orders) i (move.halted (view t i c)) (others i (packetsOf s)) orders
       stops s' z = record {
-        mine = z .mine ∙ (λ k. record {
-          running = and-false (ltb i (t .columns)) k;
-          number = c .number;
-          doors = c .doors;
-          send = c .send;
-          awaited = c .awaited;
-          owed = c .owed;
-          noted = c .noted;
-          whole = c .whole;
-        });
+        mine = z .mine ∙ ap (λ (r : Bool). move.withRunning r c) (and-false (ltb i (t .columns)));
         same = z .same;
         packets = z .packets ∙ vanished-meant s (formed .whole) i;
         told = z .told;

@@ -18,17 +18,7 @@ use Rattle.agreement.proofs.Move as move
 
 -- a column past the tree's never runs
 abbrev pub view : Tree → ℕ → Column → Column
-view t i c =
-    record {
-      running = ltb i (t .columns) && c .running;
-      number = c .number;
-      doors = c .doors;
-      send = c .send;
-      awaited = c .awaited;
-      owed = c .owed;
-      noted = c .noted;
-      whole = c .whole;
-    }
+view t i c = move.withRunning (ltb i (t .columns) && c .running) c
 
 abbrev pub modelOf : State → List ℕ → model.State
 modelOf s orders =

@@ -14,13 +14,13 @@ use Rattle.column.specs.Refusals.{first, earlier}
 use Rattle.column.specs.RefusalLaws.{Passed, numbered, passed, earlier-none}
 use Rattle.column.specs.Sets.{has, choose}
 use Rattle.column.specs.Columns.{standing}
-use Rattle.column.specs.Packets.{receiver}
 use Rattle.column.specs.Steps as core
 use Rattle.column.specs.declared.tree.Tree.{Tree}
 use Rattle.column.specs.declared.state.Column.{Column}
 use Rattle.column.specs.declared.packet.Packet.{Packet}
 use Rattle.bank.specs.Banks.{State, columnAt, runs, capacity, bankRefusal, actingRefusal}
-use Rattle.bank.specs.Networks.{withPacket, put, puts}
+use Rattle.bank.specs.Networks.{put, puts}
+use Rattle.bank.specs.StepLaws.{put-count}
 use Rattle.bank.specs.Steps.{withColumn, fitting, settled, acted, refused, tested, send, ack, all, note}
 use Rattle.bank.specs.StandingLaws.{stands, acting-passes}
 use Rattle.bank.specs.Rest.{isRefused, Refused}
@@ -59,14 +59,6 @@ few-all t c = omega arith
 few-note : (t : Tree) (c : Column) (j : ℕ) → Few (core.noteEffect t c j)
 unfolding core.noteEffect
 few-note t c j = omega arith
-
-put-count : (s : State) (p : Packet) → put s p .bank .count ≤ s .bank .count + 1
-unfolding put
-put-count s p = go (runs (s .bank) (receiver p))
-  where
-    go : (b : Bool) → cond b (withPacket s p) s .bank .count ≤ s .bank .count + 1
-    go true = omega arith
-    go false = omega arith
 
 puts-count : (l : List Packet) (s : State) → puts s l .bank .count ≤ s .bank .count + length l
 unfolding puts

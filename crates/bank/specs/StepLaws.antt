@@ -80,9 +80,9 @@ takesOff (core-is.Put p) = true
 takesOff (core-is.Left p) = false
 takesOff (core-is.Refused n) = false
 
-put-few : (s : State) (p : Packet) → put s p .bank .count ≤ s .bank .count + 1
+pub put-count : (s : State) (p : Packet) → put s p .bank .count ≤ s .bank .count + 1
 unfolding put
-put-few s p = go (runs (s .bank) (receiver p))
+put-count s p = go (runs (s .bank) (receiver p))
   where
     go : (b : Bool) → cond b (withPacket s p) s .bank .count ≤ s .bank .count + 1
     go true = omega arith
@@ -104,7 +104,7 @@ module _ (s gone : State) (i : ℕ) (c : Column) where
         → settled gone gone i (core.answered c a) ≡ settled s gone i (core.answered c a)
     unfolding puts
     settled-off core-is.Done e = fits-both (withColumn gone i c) (omega (arith, room))
-    settled-off (core-is.Put p) e = fits-both (put (withColumn gone i c) p) (omega (arith, room, put-few (withColumn gone i c) p))
+    settled-off (core-is.Put p) e = fits-both (put (withColumn gone i c) p) (omega (arith, room, put-count (withColumn gone i c) p))
     settled-off (core-is.Left p) e = absurd (true≢false (sym e))
     settled-off (core-is.Refused n) e = absurd (true≢false (sym e))
 

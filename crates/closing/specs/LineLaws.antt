@@ -73,20 +73,22 @@ module _ (l : List ℕ) where
     starts-not 108 (drop 1 listKey) l i,
   )
 
+first-byte : (b : ℕ) (f : List ℕ → Reading Command) → 0 < b → ((l : List ℕ) → commandOf (b ∷ l) ≡ f (b ∷ l))
+    → (l : List ℕ) → getD l 0 0 ≡ b → commandOf l ≡ f l
+first-byte b f p h [] e = absurd (omega (arith, p, e))
+first-byte b f p h (x ∷ l) e = rw e (h l)
+
 pub order-line : (l : List ℕ) → getD l 0 0 ≡ 111 → commandOf l ≡ doorsIn (afterKey orderKey l)
 unfolding commandOf startsWith afterKey asking doorsIn noteIn orElse numeralIn
-order-line [] e = absurd (omega arith)
-order-line (b ∷ l) e = rw e (or-unread _)
+order-line = first-byte 111 _ (omega arith) (λ l. or-unread _)
 
 pub send-line : (l : List ℕ) → getD l 0 0 ≡ 115 → commandOf l ≡ asking (asked asked-is.Send) (keyed sendKey 2 l)
 unfolding commandOf startsWith afterKey asking doorsIn noteIn orElse numeralIn
-send-line [] e = absurd (omega arith)
-send-line (b ∷ l) e = rw e (or-unread _)
+send-line = first-byte 115 _ (omega arith) (λ l. or-unread _)
 
 pub take-line : (l : List ℕ) → getD l 0 0 ≡ 116 → commandOf l ≡ asking (asked asked-is.Take) (keyed takeKey 3 l)
 unfolding commandOf startsWith afterKey asking doorsIn noteIn orElse numeralIn
-take-line [] e = absurd (omega arith)
-take-line (b ∷ l) e = rw e (or-unread _)
+take-line = first-byte 116 _ (omega arith) (λ l. or-unread _)
 
 pub ack-line : (l : List ℕ) → getD l 0 0 ≡ 97 → getD l 1 0 ≡ 99 → commandOf l ≡ asking (asked asked-is.Ack) (keyed ackKey 2 l)
 unfolding commandOf startsWith afterKey asking doorsIn noteIn orElse numeralIn
@@ -102,18 +104,15 @@ all-line (a ∷ b ∷ l) e ne = rw (e, ne-eqb 99 b (λ z. ne (sym z))) (or-unrea
 
 pub note-line : (l : List ℕ) → getD l 0 0 ≡ 110 → commandOf l ≡ noteIn (afterKey noteKey l)
 unfolding commandOf startsWith afterKey asking doorsIn noteIn orElse numeralIn
-note-line [] e = absurd (omega arith)
-note-line (b ∷ l) e = rw e (or-unread _)
+note-line = first-byte 110 _ (omega arith) (λ l. or-unread _)
 
 pub halt-line : (l : List ℕ) → getD l 0 0 ≡ 104 → commandOf l ≡ asking (asked asked-is.Halt) (keyed haltKey 2 l)
 unfolding commandOf startsWith afterKey asking doorsIn noteIn orElse numeralIn
-halt-line [] e = absurd (omega arith)
-halt-line (b ∷ l) e = rw e (or-unread _)
+halt-line = first-byte 104 _ (omega arith) (λ l. or-unread _)
 
 pub list-line : (l : List ℕ) → getD l 0 0 ≡ 108 → commandOf l ≡ asking (asked asked-is.List) (keyed listKey 2 l)
 unfolding commandOf startsWith afterKey asking doorsIn noteIn orElse numeralIn
-list-line [] e = absurd (omega arith)
-list-line (b ∷ l) e = rw e
+list-line = first-byte 108 _ (omega arith) (λ l. refl)
 
 -- ---- notes
 

@@ -49,9 +49,11 @@ wrong =
     -- equal ends, and an end above 15
     ∷ (2 ∷ 1 ∷ 1 ∷ 0 ∷ 7 ∷ [])
     ∷ (2 ∷ 16 ∷ 0 ∷ 0 ∷ 7 ∷ [])
+    -- "4 bytes"
+    ∷ (2 ∷ 1 ∷ 0 ∷ 0 ∷ [])
     ∷ []
 
-wrong-refused : map read wrong ≡ replicate 5 (refused 12)
+wrong-refused : map read wrong ≡ replicate 6 (refused 12)
 unfolding read lowValue
 wrong-refused = refl
 
