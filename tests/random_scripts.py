@@ -22,6 +22,8 @@ PROGRAM = os.path.join(ROOT, "target", "bin", "lockers")
 REFUSALS = (1, 2, 3, 4, 5, 6, 7, 10, 13)
 BRANCHES = ("packet left", "lower number", "takeover", "children of a noted column", "sent to itself", "rest with the root running",
             "rest with the root halted", "rest with nobody running")
+# Each of 15 columns has a packet under way for each of the 14 others, under each of two order numbers.
+CROWDED = 15 * 14 * 2
 
 
 def program(data):
@@ -34,10 +36,12 @@ class Watch:
     def __init__(self):
         self.counts = collections.Counter()
         self.lines = 0
+        self.most_packets = 0
         self.disagreed = False
 
     def __call__(self, bank, name, printed):
         self.lines += 1
+        self.most_packets = max(self.most_packets, len(bank.network))
         self.counts["refused " + printed[8:-1] if printed.startswith("refused=") else f"accepted {name}"] += 1
         self.counts.update(bank.branches)
         bank.branches.clear()
@@ -99,38 +103,78 @@ def blind(rng, bank):
                        "take=1000", "note=1", "order=0", "SEND=0", f"list={number()},"])
 
 
+class Script:
+    """A table and lines; each is done on the model's bank, so that the next can be chosen by what the bank holds."""
+
+    def __init__(self, text):
+        self.text = text
+        self.bank, _ = model.table(text)
+
+    def do(self, line):
+        self.text += line + "\n"
+        model.line(self.bank, line)
+
+    def order(self, rng):
+        self.do(f"order={rng.randbytes(8).hex()}")
+
+    def send_all(self, i):
+        while self.bank.columns[i].send:
+            self.do(f"send={i}")
+
+    def to_rest(self, rng):
+        while moves(self.bank):
+            self.do(rng.choice(moves(self.bank)))
+
+    def listed(self):
+        return (self.text + "".join(f"list={i}\n" for i in range(len(self.bank.columns)))).encode()
+
+
 def guided(rng, length):
     """Mostly steps that are accepted, with orders, halts at some rate and a few blind lines; sometimes on to rest."""
-    text = tree(rng)
-    bank, _ = model.table(text)
-    lines = []
+    script = Script(tree(rng))
+    bank = script.bank
     halts, orders, blinds = rng.choice([0, 0, 0, 0.01, 0.03, 0.2]), rng.choice([0.02, 0.1, 0.3]), rng.choice([0, 0.1, 0.3])
     newest = rng.random() < 0.5
     root_halts = rng.randrange(2 * length)
-
-    def do(line):
-        lines.append(line)
-        model.line(bank, line)
-
-    do(f"order={rng.randbytes(8).hex()}")
+    script.order(rng)
     for step in range(length):
         if step == root_halts:
-            do(f"halt={bank.root}")
+            script.do(f"halt={bank.root}")
         enabled = moves(bank)
         draw = rng.random()
         if draw < halts:
-            do(f"halt={rng.choice([bank.root, rng.randrange(len(bank.columns))])}")
+            script.do(f"halt={rng.choice([bank.root, rng.randrange(len(bank.columns))])}")
         elif draw < halts + blinds:
-            do(rng.choice([blind(rng, bank), f"{rng.choice(['send', 'ack', 'all', 'all'])}={rng.randrange(len(bank.columns))}"]))
+            script.do(rng.choice([blind(rng, bank), f"{rng.choice(['send', 'ack', 'all', 'all'])}={rng.randrange(len(bank.columns))}"]))
         elif draw < halts + blinds + orders or not enabled:
-            do(f"order={rng.randbytes(8).hex()}")
+            script.order(rng)
         else:
-            do(f"take={len(bank.network) - 1}" if newest and bank.network and rng.random() < 0.5 else rng.choice(enabled))
+            script.do(f"take={len(bank.network) - 1}" if newest and bank.network and rng.random() < 0.5 else rng.choice(enabled))
     if rng.random() < 0.6:
-        while moves(bank):
-            do(rng.choice(moves(bank)))
-    lines += [f"list={i}" for i in range(len(bank.columns))]
-    return (text + "".join(line + "\n" for line in lines)).encode()
+        script.to_rest(rng)
+    return script.listed()
+
+
+def crowded(rng):
+    """The fullest network that is known: the root halts with its order under way, and every other column takes over before it receives the order
+    and once more after it. Then on to rest."""
+    root = rng.randrange(16)
+    script = Script(f"columns=16\nroot={root}\nup={','.join([str(root)] * 16)}\n")
+    script.order(rng)
+    script.send_all(root)
+    script.do(f"halt={root}")
+    others = [i for i in range(16) if i != root]
+    for i in others:
+        script.do(f"note={i},{root}")
+        script.do(f"all={i}")
+        script.send_all(i)
+    for i in others:
+        script.do(f"take={[packet[1:3] for packet in script.bank.network].index((root, i))}")
+        script.do(f"ack={i}")
+        script.do(f"all={i}")
+        script.send_all(i)
+    script.to_rest(rng)
+    return script.listed()
 
 
 def damaged(rng, data):
@@ -169,6 +213,7 @@ def scripts(rng, count):
             data = damaged(rng, data)
         lines += data.count(b"\n")
         yield data
+    yield crowded(rng)
     table = b"columns=3\nroot=0\nup=0,0,1\n"
     for size in (model.LIMIT, model.LIMIT + 1):
         yield table.ljust(size, b"\n")
@@ -220,7 +265,8 @@ def random_part(count, seed):
     watch.counts.update(f"refused {text[8:-1]}" for _, text in printed if text.startswith("refused="))
     for name in wanted:
         print(f"  {name}: {watch.counts[name]}")
-    missing = [name for name in wanted if not watch.counts[name]]
+    print(f"  most packets at once: {watch.most_packets}")
+    missing = [name for name in wanted if not watch.counts[name]] + ["a crowded network"] * (watch.most_packets < CROWDED)
     for slip in model.SLIPS:
         caught = sum(text != model.script(data, slips=(slip,)) for data, text in printed)
         print(f"  slip caught, {slip}: in {caught} scripts")
