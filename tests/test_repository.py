@@ -37,6 +37,14 @@ class Repository(unittest.TestCase):
             self.assertIn("ensures", text, name)
             self.assertNotIn("requires", text, name)
 
+    def test_every_helper_that_asks_something_is_named_with_its_reason(self):
+        table = read(os.path.join(ROOT, "docs", "DECISIONS.md"))
+        asking = [found for path in sources("*/src/*.rt") for found in re.findall(r"^pub(?:\(crate\))? fn (\w+)(.*?)^\{", read(path), re.M | re.S)]
+        names = [name for name, text in asking if "requires" in text]
+        self.assertGreater(len(names), 20)
+        for name in names:
+            self.assertRegex(table, rf"(?m)^\| `\w+::\w+` \|.*`{name}`", name)
+
     def test_upper_crates_cite_no_proofs_of_lower_ones(self):
         for path in sources("*/proofs/**/*.antt") + sources("*/specs/**/*.antt"):
             crate = os.path.relpath(path, os.path.join(ROOT, "crates")).split(os.sep)[0]

@@ -1,5 +1,5 @@
-// A script's run, one text at a time: the table's answer, then each line's, last whether the bank is at rest. A caller prints each text as it
-// comes, so that no buffer bounds what a script prints.
+// A script's run, one text at a time: the table's answer, then each line's, last whether the bank is at rest. A caller prints them in
+// their order, as they come or some together, so that no buffer bounds what a script prints.
 use crate::line::Line;
 use crate::line::parse;
 use crate::list::list_refusal;
