@@ -12,10 +12,10 @@ struct tree {
 };
 
 struct column {
-    bool running;
-    uint16_t number;
     uint64_t doors;
     uint16_t send, awaited, owed, noted;
+    uint16_t number;
+    bool running;
     bool whole;
 };
 

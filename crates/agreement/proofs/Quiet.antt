@@ -77,17 +77,17 @@ module _ (s : State) (orders : List ℕ) (good : bankRefusal s ≡ 0) (rest : At
 
   -- a step of a running column is refused by the core
   no-send : (i : ℕ) → Running s i → sendRefusal t i (column i) ≢ 0
-  no-send i r = refused-not (sendRefusal t i (column i)) (sym (send-refused s (rest .no-packet) good i (r .0)) ∙ rest .no-send i r)
+  no-send i r = refused-not (sendRefusal t i (column i)) (sym (send-refused s (rest .no-packet) good i) ∙ rest .no-send i r)
 
   no-ack : (i : ℕ) → Running s i → ackRefusal t i (column i) ≢ 0
-  no-ack i r = refused-not (ackRefusal t i (column i)) (sym (ack-refused s (rest .no-packet) good i (r .0)) ∙ rest .no-ack i r)
+  no-ack i r = refused-not (ackRefusal t i (column i)) (sym (ack-refused s (rest .no-packet) good i) ∙ rest .no-ack i r)
 
   no-all : (i : ℕ) → Running s i → allRefusal t i (column i) ≢ 0
-  no-all i r = refused-not (allRefusal t i (column i)) (sym (all-refused s (rest .no-packet) good i (r .0)) ∙ rest .no-all i r)
+  no-all i r = refused-not (allRefusal t i (column i)) (sym (all-refused s (rest .no-packet) good i) ∙ rest .no-all i r)
 
   no-note : (i j : ℕ) → Running s i → runs (s .bank) j ≡ false → noteRefusal t i (column i) j ≢ 0
   no-note i j r h = refused-not (noteRefusal t i (column i) j)
-      (sym (ap (λ (b : Bool). b || refuses (noteRefusal t i (column i) j)) h) ∙ sym (note-refused s (rest .no-packet) good i (r .0) j) ∙ rest .no-note i j r)
+      (sym (ap (λ (b : Bool). b || refuses (noteRefusal t i (column i) j)) h) ∙ sym (note-refused s (rest .no-packet) good i j) ∙ rest .no-note i j r)
 
   ok : treeRefusal t ≡ 0
   ok = stands s good .tree

@@ -10,6 +10,8 @@ use lib.Pow.{pow-mono}
 use native.Mathlib.Nat.{lt-of-lt-of-le}
 use borrow.Author.Tests.{eqb-true, eqb-false, lt-ltb}
 use Rattle.column.specs.Cases.{and-right}
+use Rattle.column.specs.Refusals.{first}
+use Rattle.column.specs.RefusalLaws.{passed, earlier-none}
 use Rattle.column.specs.Sets.{has, join, insert, without, choose, lowest}
 use Rattle.column.specs.SetLaws.{lowest-member}
 use Rattle.column.specs.Trees.{treeRefusal, children}
@@ -25,13 +27,14 @@ use Rattle.bank.specs.Banks.{State, columnAt, runs, actingRefusal}
 use Rattle.bank.specs.Networks.{puts}
 use Rattle.bank.specs.NetworkLaws.{packetsOf}
 use Rattle.bank.specs.StandingLaws.{Stands, acting}
-use Rattle.bank.specs.Steps.{fitting, withColumn, settled, acted, order, send, ack, all, tested, note}
+use Rattle.bank.specs.Steps as bank
+use Rattle.bank.specs.Steps.{fitting, withColumn, settled, acted, order, send, ack, all, note}
 use Rattle.agreement.proofs.Model.{In, Runs, Becomes, post}
 use Rattle.agreement.proofs.Move as move
 use Rattle.agreement.proofs.Move.{Move}
 use Rattle.agreement.proofs.Conditions.{member, not-member, widths, order-in, send-in, ack-in, all-in, note-in}
 use Rattle.agreement.proofs.View.{view, modelOf, Formed}
-use Rattle.agreement.proofs.Refining.{Refines, refines-refused, refines-unless, refines-core, refines-quiet, refines-put}
+use Rattle.agreement.proofs.Refining.{Refines, refines-unless, refines-core, refines-quiet, refines-put}
 
 -- ---- a column of a bank that stands
 
@@ -159,10 +162,11 @@ module _ (s : State) (formed : Formed s) (orders : List ℕ) where
 
   -- a column that the bank tests to be halted: awaited, or not
   pub refines-note : (i j : ℕ) → Refines s orders orders (move.notes i j) (note s i j)
-  unfolding acted noteEffect
+  unfolding noteEffect
   refines-note i j =
-      refines-unless s orders orders e (actingRefusal s i) _ (λ ok.
-      believed (acting s i ok .0) (acting s i ok .1) (eqb (noteRefusal t i c j) 0) refl (runs (s .bank) j) refl)
+      refines-acting i (bank.noteRefusal (s .bank) i j) (noteEffect t c j) orders e (λ st below no.
+      let q = earlier-none (noteRefusal t i c j) (first ((6, runs (s .bank) j) ∷ [])) no in
+      go st below (q .0) (passed ((6, runs (s .bank) j) ∷ []) tt (q .1) .0) (has (c .awaited) j) refl)
     where
       c : Column
       c = columnAt (s .bank) i
@@ -184,9 +188,3 @@ module _ (s : State) (formed : Formed s) (orders : List ℕ) where
           let k = note-in t i c j ok in
           refines-quiet s formed st i below _ (formed .numbers-fit i) s refl refl (formed .whole) orders orders e
           (λ s' z. move.note-other i j (model-runs s st i below orders (k .1)) (k .0) (halted h) (not-member a) z)
-
-      believed : Stands s → i < t .columns → (b : Bool) → eqb (noteRefusal t i c j) 0 ≡ b → (r : Bool) → runs (s .bank) j ≡ r
-          → Refines s orders orders e (settled s s i (tested r (cond b (noteEffect t c j) (core.refused (noteRefusal t i c j) c))))
-      believed st below true p true h = refines-refused s orders orders e 6 s
-      believed st below true p false h = go st below (eqb-true (noteRefusal t i c j) 0 p) h (has (c .awaited) j) refl
-      believed st below false p r h = refines-refused s orders orders e (noteRefusal t i c j) s

@@ -3,3 +3,4 @@ pub mod History
 pub mod Agreement
 pub mod Companions
 pub mod Runs
+pub mod Premises

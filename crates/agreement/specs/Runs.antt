@@ -1,8 +1,8 @@
--- Lists of steps that come to rest, computed: agreement speaks of banks that do their work.
+-- Lists of steps, computed: agreement speaks of banks that do their work.
 use Prim.Native.Nat.{ℕ}
 use mathlib.Core.Path.{_≡_, refl}
-use mathlib.Core.Bool.{Bool, true, not, _&&_, _||_}
-use mathlib.Core.List.{List, [], _∷_}
+use mathlib.Core.Bool.{Bool, true, false, not, _&&_, _||_}
+use mathlib.Core.List.{List, [], _∷_, _++_}
 use lib.Count.{trailingZeros}
 use lib.Dec.{eqb}
 use lib.ListN.{replicate}
@@ -13,73 +13,196 @@ use Rattle.column.specs.Steps as core
 use Rattle.column.specs.declared.tree.Tree.{Tree}
 use Rattle.bank.specs.Words.{packetOf}
 use Rattle.bank.specs.Lists.{closedUp, keeping, padded}
-use Rattle.bank.specs.Banks.{columnAt, runs, capacity, places, freshPlace, bankRefusal}
+use Rattle.bank.specs.Banks.{State, columnAt, runs, capacity, places, freshPlace, bankRefusal}
 use Rattle.bank.specs.Networks.{put, puts, vanished}
-use Rattle.bank.specs.Steps.{perform, fitting, acted, delivered}
-use Rattle.bank.specs.Rest.{isRefused, atRest}
+use Rattle.bank.specs.Steps as bank
+use Rattle.bank.specs.Steps.{Outcome, perform, fitting, acted, delivered}
+use Rattle.bank.specs.Rest.{atRest}
 use Rattle.bank.specs.declared.step.Step.{Step}
 use Rattle.bank.specs.declared.step.Step.the-variants.{Order, Send, Take, Ack, All, Note, Halt}
-use Rattle.agreement.specs.History.{World, told, run}
+use Rattle.agreement.specs.Orders.{given}
+use Rattle.agreement.specs.History.{World, rootOf, told, run}
 use Rattle.agreement.specs.Agreement.{begin}
+
+-- what is told of the root after a list: the set of columns that it awaits, and the number by which a send of it and an order are
+-- refused then, none where they are not
+pub record Root : Type 0 where
+  pub awaits : ℕ
+  pub send : List ℕ
+  pub order : List ℕ
+
+-- a list of steps from the fresh bank of a tree, and what is told after it
+pub record Row : Type 0 where
+  pub tree : Tree
+  pub steps : List Step
+  -- the numbers of its refused steps, in their order
+  pub refusals : List ℕ
+  -- the doors of its accepted orders, the newest first; what each column has received
+  pub orders : List ℕ
+  pub received : List ℕ
+  -- the set of columns that run, and the number that each of them holds, with the doors given under it
+  pub running : ℕ
+  pub number : ℕ
+  -- how many packets are under way, and whether the bank is at rest
+  pub packets : ℕ
+  pub rest : Bool
+  pub root : Root
+
+abbrev pub rowOf : Tree → List Step → List ℕ → List ℕ → List ℕ → ℕ → ℕ → ℕ → Bool → Root → Row
+rowOf tree steps refusals orders received running number packets rest root =
+    record {
+      tree = tree;
+      steps = steps;
+      refusals = refusals;
+      orders = orders;
+      received = received;
+      running = running;
+      number = number;
+      packets = packets;
+      rest = rest;
+      root = root;
+    }
+
+abbrev pub fromFresh : Tree → World
+fromFresh t = begin t (replicate capacity 0) (replicate capacity 0)
+
+abbrev pub after : Row → World
+after r = run (fromFresh (r .tree)) (r .steps)
+
+-- ---- a row is what is computed
+
+abbrev pub refusal : Outcome State → List ℕ
+refusal (bank.accepted s) = []
+refusal (bank.refused n s) = n ∷ []
+
+unfoldable pub refusals : World → List Step → List ℕ
+refusals w [] = []
+refusals w (x ∷ xs) = let o = perform (w .state) x in refusal o ++ refusals (told w x o) xs
+
+-- `awaits` is looked at up to 16, the lowest of an empty set
+abbrev pub rootIn : World → Root
+rootIn w =
+    record {
+      awaits = selected (w .awaits) 17;
+      send = refusals w (Send (rootOf (w .state)) ∷ []);
+      order = refusals w (Order 0 ∷ []);
+    }
+
+-- a world read as a row of these steps, refusals and number
+abbrev pub rowIn : World → List Step → List ℕ → ℕ → Row
+rowIn w steps refused number =
+    let b = w .state .bank in
+    let n = b .tree .columns in
+    rowOf (b .tree) steps refused (w .orders) (places (w .received) n) (selected (runs b) n) number (b .count) (atRest (w .state)) (rootIn w)
+
+-- column i has a number, with the doors given under it
+abbrev pub recordIs : World → ℕ → ℕ → Bool
+recordIs w number i =
+    let c = columnAt (w .state .bank) i in
+    eqb (c .number) number && eqb (c .doors) (given (w .orders) number)
+
+abbrev pub holds : World → ℕ → ℕ → Bool
+holds w number i = not (runs (w .state .bank) i) || recordIs w number i
+
+-- the row of what a list leads to, the refusals of its tree and of the bank after it, and whether every running column holds the number
+abbrev pub computed : Row → Row × ℕ × ℕ × Bool
+computed r =
+    let w = after r in (
+      rowIn w (r .steps) (refusals (fromFresh (r .tree)) (r .steps)) (r .number),
+      treeRefusal (r .tree),
+      bankRefusal (w .state),
+      every (holds w (r .number)) (r .tree .columns),
+    )
+
+-- ---- the rows
 
 -- columns=3, root=0, up=0,0,1
 abbrev pub chain : Tree
 chain = treeOf 3 0 (0 ∷ 0 ∷ 1 ∷ replicate 13 0)
 
-abbrev pub fromFresh : List Step → World
-fromFresh = run (begin chain (replicate capacity 0) (replicate capacity 0))
+-- columns=5, root=2, up=2,0,2,2,3
+abbrev pub fork : Tree
+fork = treeOf 5 2 (2 ∷ 0 ∷ 2 ∷ 2 ∷ 3 ∷ replicate 11 0)
 
--- no step of a list is refused
-unfoldable pub accepted : World → List Step → Bool
-accepted w [] = true
-accepted w (x ∷ xs) = not (isRefused (perform (w .state) x)) && accepted (told w x (perform (w .state) x)) xs
+pub data Case : Type 0 where
+  noStep : Case
+  servedByRoot : Case
+  secondOrder : Case
+  takenOver : Case
+  neverReceived : Case
+  leftInPlace : Case
+  leftThenReceived : Case
+  besidesAHalted : Case
+  aroundTheHalted : Case
+  everyoneHalted : Case
 
--- a list, and the record that every running column holds after it, at rest
-pub record Row : Type 0 where
-  pub steps : List Step
-  pub number : ℕ
-  pub doors : ℕ
+-- an order that reaches everybody of the chain
+abbrev serving : List Step
+serving = Send 0 ∷ Take 0 ∷ Send 1 ∷ Take 0 ∷ Ack 2 ∷ Take 0 ∷ Ack 1 ∷ Take 0 ∷ []
 
-abbrev holds : World → ℕ → ℕ → ℕ → Bool
-holds w number doors i =
-    not (runs (w .state .bank) i)
-    || (eqb (columnAt (w .state .bank) i .number) number && eqb (columnAt (w .state .bank) i .doors) doors)
+-- The root halts when its message is under way to column 1. Column 2 takes over at number 0, and column 1 owes it when it takes the
+-- root's message, which is left.
+abbrev leaving : List Step
+leaving = Order 3 ∷ Send 0 ∷ Halt 0 ∷ Note 2 0 ∷ All 2 ∷ Send 2 ∷ Send 2 ∷ Take 1 ∷ Take 0 ∷ []
 
-unfoldable pub passes : Row → Bool
-passes r =
-    let w = fromFresh (r .steps) in
-    accepted (begin chain (replicate capacity 0) (replicate capacity 0)) (r .steps)
-    && (atRest (w .state) && every (holds w (r .number) (r .doors)) 3)
+abbrev idleRoot : Root
+idleRoot = record { awaits = 0; send = 6 ∷ []; order = [] }
 
--- the root is halted half way, and the two that run take over: number 1 everywhere
-abbrev pub takenOver : Row
-takenOver = record {
-  steps = Order 513 ∷ Send 0 ∷ Take 0 ∷ Halt 0 ∷ Send 1 ∷ Take 0 ∷ Ack 2 ∷ Take 0 ∷ Ack 1 ∷ Note 1 0 ∷ All 1 ∷ Send 1 ∷ Send 1
-      ∷ Note 2 0 ∷ All 2 ∷ Send 2 ∷ Send 2 ∷ Take 0 ∷ Ack 1 ∷ Take 0 ∷ [];
-  number = 1;
-  doors = 513;
-}
+-- halted while it awaited these
+abbrev haltedRoot : ℕ → Root
+haltedRoot awaits = record { awaits = awaits; send = 5 ∷ []; order = 5 ∷ [] }
 
--- nobody that runs has received the order: number 0 everywhere
-abbrev pub neverReceived : Row
-neverReceived = record {
-  steps = Order 1 ∷ Halt 0 ∷ Note 1 0 ∷ All 1 ∷ Send 1 ∷ Send 1 ∷ Note 2 0 ∷ All 2 ∷ Send 2 ∷ Send 2 ∷ Take 0 ∷ Ack 1 ∷ Take 0 ∷ [];
-  number = 0;
-  doors = 0;
-}
-
+-- each by its tree and steps; refusals, orders, received; running, number, packets, rest, root
+abbrev pub row : Case → Row
+-- "the empty list too"
+row noStep = rowOf chain [] [] [] (0 ∷ 0 ∷ 0 ∷ []) 7 0 0 true idleRoot
 -- everybody runs, and the order reaches everybody
-abbrev pub servedByRoot : Row
-servedByRoot = record {
-  steps = Order 3 ∷ Send 0 ∷ Take 0 ∷ Send 1 ∷ Take 0 ∷ Ack 2 ∷ Take 0 ∷ Ack 1 ∷ Take 0 ∷ [];
-  number = 1;
-  doors = 3;
-}
+row servedByRoot = rowOf chain (Order 3 ∷ serving) [] (3 ∷ []) (1 ∷ 1 ∷ 1 ∷ []) 7 1 0 true idleRoot
+-- a second order after that, and steps that are refused
+row secondOrder =
+    rowOf chain (Order 3 ∷ (serving ++ (Send 0 ∷ Order 5 ∷ Order 6 ∷ Send 3 ∷ Note 0 1 ∷ Take 0 ∷ serving)))
+    (6 ∷ 7 ∷ 4 ∷ 6 ∷ 10 ∷ []) (5 ∷ 3 ∷ []) (2 ∷ 2 ∷ 2 ∷ []) 7 2 0 true idleRoot
+-- the root halts half way, and the two that run take over: number 1 everywhere
+row takenOver =
+    rowOf chain
+    (Order 513 ∷ Send 0 ∷ Take 0 ∷ Halt 0 ∷ Send 1 ∷ Take 0 ∷ Ack 2 ∷ Take 0 ∷ Ack 1 ∷ Note 1 0 ∷ All 1 ∷ Send 1 ∷ Send 1
+    ∷ Note 2 0 ∷ All 2 ∷ Send 2 ∷ Send 2 ∷ Take 0 ∷ Ack 1 ∷ Take 0 ∷ [])
+    [] (513 ∷ []) (1 ∷ 1 ∷ 1 ∷ []) 6 1 0 true (haltedRoot 2)
+-- nobody that runs has received the order: number 0 everywhere
+row neverReceived =
+    rowOf chain
+    (Order 1 ∷ Halt 0 ∷ Note 1 0 ∷ All 1 ∷ Send 1 ∷ Send 1 ∷ Note 2 0 ∷ All 2 ∷ Send 2 ∷ Send 2 ∷ Take 0 ∷ Ack 1 ∷ Take 0 ∷ [])
+    [] (1 ∷ []) (1 ∷ 0 ∷ 0 ∷ []) 6 0 0 true (haltedRoot 0)
+-- column 1 has not received the message that it left
+row leftInPlace = rowOf chain leaving [] (3 ∷ []) (1 ∷ 0 ∷ 0 ∷ []) 6 0 2 false (haltedRoot 2)
+-- taken again, it is received, and goes on to column 2
+row leftThenReceived =
+    rowOf chain
+    (leaving ++ (Take 0 ∷ Take 0 ∷ Send 1 ∷ Take 0 ∷ Ack 2 ∷ Take 0 ∷ Ack 1 ∷ Note 1 0 ∷ All 1 ∷ Send 1 ∷ Send 1
+    ∷ All 2 ∷ Send 2 ∷ Send 2 ∷ Take 0 ∷ Ack 1 ∷ Take 0 ∷ []))
+    [] (3 ∷ []) (1 ∷ 1 ∷ 1 ∷ []) 6 1 0 true (haltedRoot 2)
+-- column 1 halts after it has sent. The root notes it and serves its child; the halted one's message is still under way
+row besidesAHalted =
+    rowOf chain (Order 3 ∷ Send 0 ∷ Take 0 ∷ Send 1 ∷ Halt 1 ∷ Note 0 1 ∷ Send 0 ∷ Take 1 ∷ Ack 2 ∷ Take 1 ∷ [])
+    [] (3 ∷ []) (1 ∷ 1 ∷ 1 ∷ []) 5 1 1 false idleRoot
+-- column 0 is awaited when the root notes it, column 3 is noted when it is served: the root sends to their children
+row aroundTheHalted =
+    rowOf fork
+    (Order 6 ∷ Send 2 ∷ Halt 0 ∷ Note 2 0 ∷ Halt 3 ∷ Note 2 3 ∷ Send 2 ∷ Send 2 ∷ Send 2 ∷ Take 0 ∷ Take 0 ∷ Ack 1 ∷ Ack 4
+    ∷ Take 0 ∷ Take 0 ∷ Note 1 0 ∷ Note 1 3 ∷ Note 4 0 ∷ Note 4 3 ∷ [])
+    [] (6 ∷ []) (0 ∷ 1 ∷ 1 ∷ 0 ∷ 1 ∷ []) 22 1 0 true idleRoot
+row everyoneHalted =
+    rowOf chain (Order 3 ∷ Send 0 ∷ Halt 1 ∷ Halt 0 ∷ Halt 2 ∷ []) [] (3 ∷ []) (1 ∷ 0 ∷ 0 ∷ []) 0 0 0 true (haltedRoot 2)
 
-unfoldable pub allPass : List Row → Bool
-allPass [] = true
-allPass (r ∷ l) = passes r && allPass l
-
-pub runs-pass : allPass (takenOver ∷ neverReceived ∷ servedByRoot ∷ []) ≡ true
-unfolding allPass passes run told accepted perform atRest every closedUp keeping padded places freshPlace bankRefusal packetOf put puts vanished fitting acted delivered climbsIn treeRefusal stateRefusal selected trailingZeros core.orderRefusal core.sendRefusal core.packetRefusal core.takeRefusal core.ackRefusal core.allRefusal core.noteRefusal core.haltRefusal core.orderEffect core.sendEffect core.acknowledgementEffect core.receiveEffect core.messageEffect core.ackEffect core.allEffect core.noteEffect core.haltEffect
-runs-pass = refl
+pub runs-pass : (c : Case) → computed (row c) ≡ (row c, 0, 0, true)
+unfolding refusals given run told perform atRest every closedUp keeping padded places freshPlace bankRefusal packetOf put puts vanished fitting acted delivered climbsIn treeRefusal stateRefusal selected trailingZeros core.orderRefusal core.sendRefusal core.packetRefusal core.takeRefusal core.ackRefusal core.allRefusal core.noteRefusal core.haltRefusal core.orderEffect core.sendEffect core.acknowledgementEffect core.receiveEffect core.messageEffect core.ackEffect core.allEffect core.noteEffect core.haltEffect
+runs-pass noStep = refl
+runs-pass servedByRoot = refl
+runs-pass secondOrder = refl
+runs-pass takenOver = refl
+runs-pass neverReceived = refl
+runs-pass leftInPlace = refl
+runs-pass leftThenReceived = refl
+runs-pass besidesAHalted = refl
+runs-pass aroundTheHalted = refl
+runs-pass everyoneHalted = refl

@@ -10,7 +10,11 @@ pub mod Networks
 pub mod NetworkLaws
 pub mod Steps
 pub mod StepLaws
+pub mod Exact
+pub mod ExactLaws
 pub mod Unchanged
 pub mod Rest
 pub mod RestSteps
 pub mod RestLaws
+pub mod Places
+pub mod StepExamples

@@ -17,12 +17,13 @@ use Rattle.column.specs.Steps.{sendConditions, ackConditions, allConditions, se
 use Rattle.column.specs.declared.tree.Tree.{Tree}
 use Rattle.column.specs.declared.state.Column.{Column}
 use Rattle.bank.specs.Banks.{State, state, columnAt, runs, freshBank, bankRefusal}
-use Rattle.bank.specs.Steps.{send, ack, all, note}
+use Rattle.bank.specs.Steps.{send, ack, all, note, perform}
 use Rattle.bank.specs.StandingLaws.{stands-passes, every-same}
 use Rattle.bank.specs.FreshLaws.{fresh-at, fresh-stands}
 use Rattle.bank.specs.Rest.{isRefused, Refused, Running, AtRest, quiet, atRest}
 use Rattle.bank.specs.RestSteps.{refuses, met, broken-refused, send-refused, ack-refused, all-refused, note-refused, any-note-refused}
 use Rattle.bank.specs.declared.bank.Bank.{Bank}
+use Rattle.bank.specs.declared.step.Step.the-variants.{Send, Ack, All, Note}
 
 abbrev pub allNoted : Bank → ℕ → Column → Bool
 allNoted b i c = every (λ j. runs b j || refuses (noteRefusal (b .tree) i c j)) (b .tree .columns)
@@ -89,13 +90,14 @@ module _ (s : State) where
 
   -- where the bank does not stand
   pub broken-rests : s .bank .count ≡ 0 → (bankRefusal s ≡ 0 → ⊥) → atRest s ≡ true
+  unfolding perform
   broken-rests none ne =
       rested (record {
         no-packet = none;
-        no-send = λ i r. broken-refused s i ne _;
-        no-ack = λ i r. broken-refused s i ne _;
-        no-all = λ i r. broken-refused s i ne _;
-        no-note = λ i j r. broken-refused s i ne _;
+        no-send = λ i r. broken-refused s (Send i) ne;
+        no-ack = λ i r. broken-refused s (Ack i) ne;
+        no-all = λ i r. broken-refused s (All i) ne;
+        no-note = λ i j r. broken-refused s (Note i j) ne;
       })
 
   -- where it stands
@@ -113,11 +115,11 @@ module _ (s : State) where
           let t = s .bank .tree in
           let c = columnAt (s .bank) i in
           let noted = every-same (λ j. runs (s .bank) j || refuses (noteRefusal t i c j)) (λ j. isRefused (note s i j)) (t .columns)
-          (λ j l. sym (note-refused s none good i h j)) in
+          (λ j l. sym (note-refused s none good i j)) in
           and-assoc (refuses (sendRefusal t i c) && refuses (ackRefusal t i c)) (refuses (allRefusal t i c)) (allNoted (s .bank) i c)
           ∙ and-assoc (refuses (sendRefusal t i c)) (refuses (ackRefusal t i c)) (refuses (allRefusal t i c) && allNoted (s .bank) i c)
-          ∙ ap₂ _&&_ (sym (send-refused s none good i h))
-          (ap₂ _&&_ (sym (ack-refused s none good i h)) (ap₂ _&&_ (sym (all-refused s none good i h)) noted))
+          ∙ ap₂ _&&_ (sym (send-refused s none good i))
+          (ap₂ _&&_ (sym (ack-refused s none good i)) (ap₂ _&&_ (sym (all-refused s none good i)) noted))
 
 -- ---- banks that are at rest
 
@@ -157,10 +159,10 @@ fresh-rests t e heads doors =
     let is = fresh-at t e in
     record {
       no-packet = refl;
-      no-send = λ i r. send-refused s refl good i (r .0) ∙ ap (λ (c : Column). refuses (sendRefusal t i c)) (is i (r .0)) ∙ fresh-send t i;
-      no-ack = λ i r. ack-refused s refl good i (r .0) ∙ ap (λ (c : Column). refuses (ackRefusal t i c)) (is i (r .0)) ∙ fresh-ack t i;
-      no-all = λ i r. all-refused s refl good i (r .0) ∙ ap (λ (c : Column). refuses (allRefusal t i c)) (is i (r .0)) ∙ fresh-all t i;
+      no-send = λ i r. send-refused s refl good i ∙ ap (λ (c : Column). refuses (sendRefusal t i c)) (is i (r .0)) ∙ fresh-send t i;
+      no-ack = λ i r. ack-refused s refl good i ∙ ap (λ (c : Column). refuses (ackRefusal t i c)) (is i (r .0)) ∙ fresh-ack t i;
+      no-all = λ i r. all-refused s refl good i ∙ ap (λ (c : Column). refuses (allRefusal t i c)) (is i (r .0)) ∙ fresh-all t i;
       no-note = λ i j r. any-note-refused s i
-          (λ k h. note-refused s refl good i (r .0) k
+          (λ k h. note-refused s refl good i k
           ∙ ap (λ (c : Column). c .running || refuses (noteRefusal t i (columnAt (freshBank t) i) k)) (is k h)) j;
     }

@@ -8,8 +8,8 @@ use native.Mathlib.Omega.{arith}
 use lib.Dec.{eqb, leb}
 use lib.ListN as list
 use borrow.Author.Tests.{eq-eqb, ne-eqb, lt-ltb, le-ltb, leb-false}
-use Rattle.column.specs.Refusals.{first}
-use Rattle.column.specs.RefusalLaws.{passed, earlier-none}
+use Rattle.column.specs.Refusals.{first, earlier}
+use Rattle.column.specs.RefusalLaws.{passed, earlier-none, earlier-zero}
 use Rattle.column.specs.TreeLaws.{tree-sixteen}
 use Rattle.column.specs.Packets.{receiver}
 use Rattle.column.specs.StateLaws.{acceptable}
@@ -19,11 +19,11 @@ use Rattle.column.specs.declared.step.Answer as core-answer
 use Rattle.column.specs.declared.step.Answer.the-variants as core-is
 use Rattle.column.specs.declared.state.Column.{Column}
 use Rattle.column.specs.declared.packet.Packet.{Packet}
-use Rattle.bank.specs.Banks.{State, state, runs, packetAt, capacity, bankRefusal, actingRefusal}
+use Rattle.bank.specs.Banks.{State, state, columnAt, runs, packetAt, capacity, bankRefusal, actingRefusal}
 use Rattle.bank.specs.StandingLaws.{stands, acting}
 use Rattle.bank.specs.Lists.{keeping-few}
 use Rattle.bank.specs.Networks.{withPacket, put, puts, elsewhere, vanished}
-use Rattle.bank.specs.Steps.{Outcome, accepted, refused, answered, outcome, unless, withColumn, fitting, settled, acted, tested}
+use Rattle.bank.specs.Steps.{Outcome, accepted, refused, answered, outcome, unless, withColumn, fitting, settled, acted, noted}
 use Rattle.bank.specs.Steps.{takeRefusal}
 use Rattle.bank.specs.declared.bank.Bank.{Bank}
 use Rattle.bank.specs.declared.bank.Answer.{Answer}
@@ -137,28 +137,25 @@ module _ (s : State) (i n : ℕ) (e : n ≡ actingRefusal s i) where
 
 -- ---- note
 
-pub tested-halted : (r : core.Result) → tested false r ≡ r
-tested-halted (core.accepted c packets left) = refl
-tested-halted (core.refused n c) = refl
+module _ (b : Bank) (i j : ℕ) where
+  pub noted-halted : runs b j ≡ false → core.note (b .tree) i (columnAt b i) j ≡ noted b i j
+  noted-halted e = rw (e, earlier-zero (core.noteRefusal (b .tree) i (columnAt b i) j))
+
+  pub noted-running : runs b j ≡ true → core.refused (earlier (core.noteRefusal (b .tree) i (columnAt b i) j) 6) (columnAt b i) ≡ noted b i j
+  noted-running e = rw e (six (core.noteRefusal (b .tree) i (columnAt b i) j) (eqb (core.noteRefusal (b .tree) i (columnAt b i) j) 0) refl)
+    where
+      six : (n : ℕ) (x : Bool) → eqb n 0 ≡ x → let c = columnAt b i in
+          core.refused (cond x 6 n) c ≡ core.unless (cond x 6 n) c (core.noteEffect (b .tree) c j)
+      six n true z = refl
+      six n false z = rw z
+
+-- ---- what the core refuses
 
 abbrev pub isRefused : core-answer.Answer → Bool
 isRefused core-is.Done = false
 isRefused (core-is.Put p) = false
 isRefused (core-is.Left p) = false
 isRefused (core-is.Refused n) = true
-
-module _ (c : Column) where
-  pub tested-refused : (running : Bool) (a : core-answer.Answer) → isRefused a ≡ true → core.answered c a ≡ tested running (core.answered c a)
-  tested-refused running core-is.Done e = absurd (true≢false (sym e))
-  tested-refused running (core-is.Put p) e = absurd (true≢false (sym e))
-  tested-refused running (core-is.Left p) e = absurd (true≢false (sym e))
-  tested-refused running (core-is.Refused n) e = refl
-
-  pub tested-accepted : (a : core-answer.Answer) → isRefused a ≡ false → core.refused 6 c ≡ tested true (core.answered c a)
-  tested-accepted core-is.Done e = refl
-  tested-accepted (core-is.Put p) e = refl
-  tested-accepted (core-is.Left p) e = refl
-  tested-accepted (core-is.Refused n) e = absurd (true≢false e)
 
 -- ---- take
 
@@ -197,18 +194,18 @@ module _ (s : State) (i : ℕ) (c : Column) where
   halted-accepted (core-is.Left p) e = refl
   halted-accepted (core-is.Refused n) e = absurd (true≢false e)
 
-module _ (s : State) (i : ℕ) (c : Column) (room : s .bank .count ≤ 512) where
-  few : vanished s i .bank .count ≤ 512
-  unfolding vanished
-  few =
-      let h = list.take (s .bank .count) (s .heads) in
-      omega (arith, room, keeping-few (elsewhere i) h h, list.length-take (s .bank .count) (s .heads))
+pub vanished-few : (s : State) (i : ℕ) → s .bank .count ≤ capacity → vanished s i .bank .count ≤ capacity
+unfolding vanished
+vanished-few s i room =
+    let h = list.take (s .bank .count) (s .heads) in
+    omega (arith, room, keeping-few (elsewhere i) h h, list.length-take (s .bank .count) (s .heads))
 
+module _ (s : State) (i : ℕ) (c : Column) (room : s .bank .count ≤ capacity) where
   pub halted-settled : halted s i (core.halt (s .bank .tree) i c) ≡ settled s (vanished s i) i (core.halt (s .bank .tree) i c)
   unfolding haltEffect puts
   halted-settled = go (eqb (haltRefusal (s .bank .tree) i c) 0)
     where
       go : (b : Bool) → let r = cond b (haltEffect c) (core.refused (haltRefusal (s .bank .tree) i c) c) in
           halted s i r ≡ settled s (vanished s i) i r
-      go true = fits s (withColumn (vanished s i) i _) few
+      go true = fits s (withColumn (vanished s i) i _) (vanished-few s i room)
       go false = refl

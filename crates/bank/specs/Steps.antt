@@ -1,6 +1,6 @@
 -- The steps of a bank, after document 01, "Steps" and "Refused, and by which number": the core's step on one place, and its packet.
 use Prim.Native.Nat.{ℕ}
-use mathlib.Core.Bool.{Bool, cond}
+use mathlib.Core.Bool.{cond}
 use mathlib.Core.List.{List, [], _∷_}
 use lib.Dec.{eqb, leb, ltb}
 use lib.ListN.{set}
@@ -88,13 +88,15 @@ ack s i = acted s i (core.ack (s .bank .tree) i (columnAt (s .bank) i))
 abbrev pub all : State → ℕ → Outcome State
 all s i = acted s i (core.all (s .bank .tree) i (columnAt (s .bank) i))
 
--- "Alone, the core believes note's caller that j is halted ..; the bank tests the one": "j is halted" is a condition of 6
-abbrev pub tested : Bool → core.Result → core.Result
-tested running (core.accepted c packets left) = cond running (core.refused 6 c) (core.accepted c packets left)
-tested running (core.refused n c) = core.refused n c
+-- "Alone, the core believes note's caller that j is halted ..; the bank tests the one": a condition of 6, after those of the core
+abbrev pub noteRefusal : Bank → ℕ → ℕ → ℕ
+noteRefusal b i j = earlier (core.noteRefusal (b .tree) i (columnAt b i) j) (first ((6, runs b j) ∷ []))
+
+abbrev pub noted : Bank → ℕ → ℕ → core.Result
+noted b i j = core.unless (noteRefusal b i j) (columnAt b i) (core.noteEffect (b .tree) (columnAt b i) j)
 
 abbrev pub note : State → ℕ → ℕ → Outcome State
-note s i j = acted s i (tested (runs (s .bank) j) (core.note (s .bank .tree) i (columnAt (s .bank) i) j))
+note s i j = acted s i (noted (s .bank) i j)
 
 -- "10: take at a place not below the packet count"
 abbrev pub takeRefusal : State → ℕ → ℕ

@@ -52,7 +52,7 @@ fn fresh_column(t: Tree, i: usize) -> Column
     }
 }
 
-// Of a tree that is refused: a bank in which nobody runs.
+// The bank of a tree as it begins; of a tree that is refused with 2 or 3, a bank in which nobody runs.
 pub fn fresh(t: Tree) -> Result
     ensures { λ r. ⌜ answered (r .answer) (r .bank) ≡ fresh t ⌝ }
 {

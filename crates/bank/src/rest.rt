@@ -59,7 +59,7 @@ fn columns_rest(b: Bank) -> bool
     rest
 }
 
-// A bank that every step refuses is at rest where no packet is under way.
+// Whether nothing is left to do. A bank that every step refuses is at rest where no packet is under way.
 pub fn at_rest(b: Bank, heads: &[u64; 512], doors: &[u64; 512]) -> bool
     ensures { λ r. ⌜ r ≡ atRest (state b (now (heads .entry)) (now (doors .entry))) ⌝ }
 {

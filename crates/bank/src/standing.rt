@@ -79,7 +79,7 @@ fn heads_stand(columns: usize, root: usize, running: u16, count: usize, heads: &
     stand
 }
 
-// The doors that packets carry are not looked at.
+// 2, 3 or 4 of the bank, which every step tests first, else 0. The doors that packets carry are not looked at.
 pub fn bank_refusal(b: Bank, heads: &[u64; 512]) -> u8
     ensures { λ r. ⌜ RefusesBank r b (now (heads .entry)) ⌝ }
 {
@@ -100,6 +100,7 @@ pub fn bank_refusal(b: Bank, heads: &[u64; 512]) -> u8
     0
 }
 
+// The same, and 4 of a column that the bank has not.
 pub fn acting_refusal(b: Bank, i: usize, heads: &[u64; 512]) -> u8
     ensures { λ r. ⌜ RefusesActing r b (now (heads .entry)) i ⌝ }
 {

@@ -15,7 +15,9 @@ use crate::standing::bank_refusal;
 use crate::words::packet;
 use column::packet::Packet;
 use column::packet::receiver;
+use column::precedence::earlier;
 use column::precedence::refuse_if;
+use column::refusal::note_refusal;
 use column::step::Answer;
 use column::step::Outcome;
 ghost use mathlib.Core.Path.{_≡_};
@@ -24,7 +26,7 @@ ghost use Rattle.column.specs.Packets.{receiver};
 ghost use Rattle.column.specs.Steps.{meant};
 ghost use Rattle.bank.specs.Banks.{state};
 ghost use Rattle.bank.specs.StepLaws.{RefusesTaking, isRefused, halted};
-ghost use Rattle.bank.specs.Steps.{outcome, delivered, order, send, take, ack, all, tested, note, halt, perform};
+ghost use Rattle.bank.specs.Steps.{outcome, delivered, order, send, take, ack, all, noted, note, halt, perform};
 
 pub enum Step {
     Order(u64),
@@ -36,6 +38,7 @@ pub enum Step {
     Halt(usize),
 }
 
+// The bank with these doors given to its root under the next number.
 pub fn order(b: Bank, given: u64, heads: &mut [u64; 512], doors: &mut [u64; 512]) -> Result
     ensures { λ r. ⌜ outcome r (now (heads .exit)) (now (doors .exit)) ≡ order (state b (now (heads .entry)) (now (doors .entry))) given ⌝ }
 {
@@ -45,6 +48,7 @@ pub fn order(b: Bank, given: u64, heads: &mut [u64; 512], doors: &mut [u64; 512]
     act(b, i, o, heads, doors)
 }
 
+// The bank after column i served the lowest that it is to send to; a message to a running one is put.
 pub fn send(b: Bank, i: usize, heads: &mut [u64; 512], doors: &mut [u64; 512]) -> Result
     ensures { λ r. ⌜ outcome r (now (heads .exit)) (now (doors .exit)) ≡ send (state b (now (heads .entry)) (now (doors .entry))) i ⌝ }
 {
@@ -74,6 +78,7 @@ fn receive(
     settle_taken(b, place, i, o, heads, doors)
 }
 
+// The bank after the packet at a place went to its receiver.
 pub fn take(b: Bank, place: usize, heads: &mut [u64; 512], doors: &mut [u64; 512]) -> Result
     ensures { λ r. ⌜ outcome r (now (heads .exit)) (now (doors .exit)) ≡ take (state b (now (heads .entry)) (now (doors .entry))) place ⌝ }
 {
@@ -85,6 +90,7 @@ pub fn take(b: Bank, place: usize, heads: &mut [u64; 512], doors: &mut [u64; 512
     receive(b, place, p, heads, doors)
 }
 
+// The bank after column i acknowledged its record to the lowest owed.
 pub fn ack(b: Bank, i: usize, heads: &mut [u64; 512], doors: &mut [u64; 512]) -> Result
     ensures { λ r. ⌜ outcome r (now (heads .exit)) (now (doors .exit)) ≡ ack (state b (now (heads .entry)) (now (doors .entry))) i ⌝ }
 {
@@ -92,6 +98,7 @@ pub fn ack(b: Bank, i: usize, heads: &mut [u64; 512], doors: &mut [u64; 512]) ->
     act(b, i, o, heads, doors)
 }
 
+// The bank after column i took over.
 pub fn all(b: Bank, i: usize, heads: &mut [u64; 512], doors: &mut [u64; 512]) -> Result
     ensures { λ r. ⌜ outcome r (now (heads .exit)) (now (doors .exit)) ≡ all (state b (now (heads .entry)) (now (doors .entry))) i ⌝ }
 {
@@ -111,28 +118,26 @@ fn is_refused(a: Answer) -> bool
 }
 
 // The core believes that the column to note is halted; the bank tests it.
-fn tested(running: bool, o: Outcome) -> Outcome
-    ensures { λ r. ⌜ meant r ≡ tested running (meant o) ⌝ }
+fn noted(b: Bank, i: usize, j: usize) -> Outcome
+    ensures { λ r. ⌜ meant r ≡ noted b i j ⌝ }
 {
-    if !running {
-        return o;
+    let t = b.tree;
+    let c = column_at(b, i);
+    if !runs(b, j) {
+        return column::step::note(t, i, c, j);
     }
-    let a = o.answer;
-    if is_refused(a) {
-        return o;
-    }
-    let c = o.column;
+    let n = earlier(note_refusal(t, i, c, j), 6);
     Outcome {
         column: c,
-        answer: Answer::Refused(6),
+        answer: Answer::Refused(n),
     }
 }
 
+// The bank after column i noted that j is halted.
 pub fn note(b: Bank, i: usize, j: usize, heads: &mut [u64; 512], doors: &mut [u64; 512]) -> Result
     ensures { λ r. ⌜ outcome r (now (heads .exit)) (now (doors .exit)) ≡ note (state b (now (heads .entry)) (now (doors .entry))) i j ⌝ }
 {
-    let o = column::step::note(b.tree, i, column_at(b, i), j);
-    act(b, i, tested(runs(b, j), o), heads, doors)
+    act(b, i, noted(b, i, j), heads, doors)
 }
 
 // The core's outcome o of a halt of column i: packets to it vanish.
@@ -153,6 +158,7 @@ fn settle_halted(
     done(with_column(vanish(b, i, heads, doors), i, o.column))
 }
 
+// The bank without column i and the packets to it.
 pub fn halt(b: Bank, i: usize, heads: &mut [u64; 512], doors: &mut [u64; 512]) -> Result
     ensures { λ r. ⌜ outcome r (now (heads .exit)) (now (doors .exit)) ≡ halt (state b (now (heads .entry)) (now (doors .entry))) i ⌝ }
 {
@@ -164,6 +170,7 @@ pub fn halt(b: Bank, i: usize, heads: &mut [u64; 512], doors: &mut [u64; 512]) -
     settle_halted(b, i, o, heads, doors)
 }
 
+// The bank after any of the seven steps.
 pub fn perform(b: Bank, x: Step, heads: &mut [u64; 512], doors: &mut [u64; 512]) -> Result
     ensures { λ r. ⌜ outcome r (now (heads .exit)) (now (doors .exit)) ≡ perform (state b (now (heads .entry)) (now (doors .entry))) x ⌝ }
 {

@@ -1,12 +1,16 @@
--- How long a closing list can be, and lists in full.
+-- How long a closing list can be, what its writer leaves of the whole buffer, and lists in full.
 -- Assumes nothing.
 use Prim.Native.Nat.{ℕ, _+_, _^_, _-_, _≤_, _<_}
 use mathlib.Core.Path.{_≡_, refl, ap, _∙_}
 use mathlib.Core.Bool.{true, false, not}
+use mathlib.Core.Logic.{⊎-elim}
 use mathlib.Core.List.{List, [], _∷_, _++_}
 use native.Mathlib.Omega.{arith}
 use lib.Count.{ones, ones-le, ones-ones}
-use lib.ListN.{length, length-append}
+use lib.Dec.{leb}
+use lib.ListN.{length, take, drop, length-take, length-drop, length-append, take-append-drop}
+use borrow.Author.Tests.{leb-true, leb-false, le-leb, lt-leb}
+use Rattle.column.specs.Cases.{truth}
 use Rattle.column.specs.Refusals.{first}
 use Rattle.column.specs.RefusalLaws.{earlier-none}
 use Rattle.column.specs.TreeLaws.{tree-sixteen}
@@ -16,7 +20,8 @@ use Rattle.bank.specs.StandingLaws.{acting}
 use Rattle.closing.specs.Text.{columnKey, numberKey, occupiedKey, doorsKey, newline, decimalIn, field}
 use Rattle.closing.specs.DecimalLaws.{decimal-length}
 use Rattle.closing.specs.DoorLaws.{doors-length}
-use Rattle.closing.specs.Closing.{doorsUpTo, moreDivided, divided, listText, listRefusal}
+use Rattle.closing.specs.Writing.{written-part}
+use Rattle.closing.specs.Closing.{doorsUpTo, moreDivided, divided, listText, listRefusal, Listed, placed}
 
 -- "The longest list is 224 bytes": two digits of the column, five of the number, two of the count, and all doors
 pub list-longest : (i : ℕ) (c : Column) → i < 16 → c .number < 65536 → c .doors < 2 ^ 64 → length (listText i c) ≤ 224
@@ -39,6 +44,35 @@ acting-sixteen s i e =
 
 pub list-sixteen : (s : State) (i : ℕ) → listRefusal s i ≡ 0 → i < 16
 list-sixteen s i e = acting-sixteen s i (earlier-none (actingRefusal s i) (first ((5, not (runs (s .bank) i)) ∷ [])) e .0)
+
+-- ---- what the writer leaves of the whole buffer
+
+module _ (old : List ℕ) (at : ℕ) where
+  abbrev part : List ℕ
+  part = take (length old - at) (drop at old)
+
+  -- the buffer of which the part was left so
+  abbrev pub whole : Listed → Listed
+  whole l = record { answer = l .answer; buffer = take at old ++ (l .buffer ++ drop (length old - at) (drop at old)) }
+
+  -- what is placed at the start of the part is placed at `at` in the whole
+  pub placed-part : (text : List ℕ) → at ≤ length old → whole (placed part 0 text) ≡ placed old at text
+  unfolding placed
+  placed-part text h = ⊎-elim fits short (truth (leb (at + length text) (length old)))
+    where
+      size : length part ≡ length old - at
+      size = simp (length-take, length-drop) (omega arith)
+
+      fits : leb (at + length text) (length old) ≡ true → whole (placed part 0 text) ≡ placed old at text
+      fits e =
+          let room = leb-true (at + length text) (length old) e in
+          rw (e, le-leb (0 + length text) (length part) (omega (arith, size, room)), written-part old at text)
+
+      short : leb (at + length text) (length old) ≡ false → whole (placed part 0 text) ≡ placed old at text
+      short e =
+          let room = leb-false (at + length text) (length old) e in
+          rw (e, lt-leb (0 + length text) (length part) (omega (arith, size, room)))
+          (rw (take-append-drop (length old - at) (drop at old), take-append-drop at old))
 
 -- ---- lists in full
 

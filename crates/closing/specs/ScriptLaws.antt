@@ -18,9 +18,9 @@ use Rattle.bank.specs.declared.bank.Bank.{Bank}
 use Rattle.bank.specs.declared.bank.Result.{Result}
 use Rattle.bank.specs.declared.bank.Answer.{Answer}
 use Rattle.bank.specs.declared.bank.Answer.the-variants.{Done, Refused}
-use Rattle.closing.specs.Text.{newline, written, Reading, read, unread}
+use Rattle.closing.specs.Text.{newline, Reading, read, unread}
 use Rattle.closing.specs.DecimalLaws.{decimal-length}
-use Rattle.closing.specs.Writing.{Writes, written-taken}
+use Rattle.closing.specs.Writing.{Writes, written-taken, writes-within}
 use Rattle.closing.specs.Tables.{cut, Table, tableOf, treeIn, tableRefusal, Placed, placedAt, noTree, judged, readTable}
 use Rattle.closing.specs.Cutting.{Found, line-ended, line-unended, line-length}
 use Rattle.closing.specs.Lines.{commandOf}
@@ -161,7 +161,4 @@ fresh-bank input t r e made =
 
 -- the text lies within the buffer
 pub text-within : {q : Run} {heads doors out old : List ℕ} {next : Progress} → Advanced q heads doors out old next → q .length ≤ length out
-unfolding written
-text-within {q} {heads} {doors} {out} {old} {next} a =
-    let w = next .text in
-    omega (arith, a .length-is, ap length (a .buffer-is), length-append w (drop (0 + length w) old))
+text-within a = writes-within (record { place = omega (arith, a .length-is); left = a .buffer-is })

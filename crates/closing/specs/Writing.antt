@@ -76,6 +76,11 @@ written-part old at w =
 pub writes-none : (old : List ℕ) (at : ℕ) → Writes at old old at []
 writes-none old at = record { place = sym (add-zero at); left = sym (written-none old at) }
 
+-- a text written at 0 lies within the buffer
+pub writes-within : {r : ℕ} {new old w : List ℕ} → Writes r new old 0 w → r ≤ length new
+unfolding written
+writes-within {old} {w} h = omega (arith, h .place, ap length (h .left), length-append w (drop (0 + length w) old))
+
 -- a text that has room has it for its first part
 pub room-first : {n : ℕ} (at : ℕ) (v w : List ℕ) → at + length (v ++ w) ≤ n → at + length v ≤ n
 room-first at v w room = omega (arith, room, length-append v w)

@@ -86,7 +86,7 @@ fn note(line: &[u8]) -> Line
     }
 }
 
-// No two keys but `ack=` and `all=` begin with the same byte.
+// What a line asks for, its byte 10 left out; `Unread` where it is of no form. No two keys but `ack=` and `all=` begin with the same byte.
 pub fn parse(line: &[u8]) -> Line
     ensures { λ r. ⌜ lineMeant r ≡ commandOf (now (line .entry)) ⌝ }
 {

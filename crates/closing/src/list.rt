@@ -49,12 +49,12 @@ fn put_doors(out: &mut [u8], at: usize, doors: u64) -> usize
     next
 }
 
-// The four lines.
-pub(crate) fn put_list(out: &mut [u8], at: usize, i: usize, c: Column) -> usize
-    requires { ⌜ at + length (listText i c) ≤ length (now out) ⌝ }
-    ensures { λ r. ⌜ Writes r (now (out .exit)) (now (out .entry)) at (listText i c) ⌝ }
+// The four lines, at the start of what is lent.
+pub(crate) fn put_list(out: &mut [u8], i: usize, c: Column) -> usize
+    requires { ⌜ (i < 16) × (224 ≤ length (now out)) ⌝ }
+    ensures { λ r. ⌜ Writes r (now (out .exit)) (now (out .entry)) 0 (listText i c) ⌝ }
 {
-    let number = put_field(out, at, b"column=", i as u64);
+    let number = put_field(out, 0, b"column=", i as u64);
     let occupied = put_field(out, number, b"number=", c.number as u64);
     let key = put_field(out, occupied, b"occupied=", u64::count_ones(c.doors) as u64);
     let doors = put_all(out, key, b"doors=");
@@ -62,20 +62,17 @@ pub(crate) fn put_list(out: &mut [u8], at: usize, i: usize, c: Column) -> usize
     put_all(out, end, b"\n")
 }
 
-// The list from `at` on, where it fits; otherwise the buffer is as it was.
-fn place_list(i: usize, c: Column, buf: &mut [u8], at: usize) -> Listing
+// "The list writer is lent the mutable part that starts at that place": the list at its start, where it fits; otherwise every byte is as it was.
+fn write_list(i: usize, c: Column, out: &mut [u8]) -> Listing
     requires { ⌜ i < 16 ⌝ }
-    ensures { λ r. ⌜ listed r (now (buf .exit)) ≡ placed (now (buf .entry)) at (listText i c) ⌝ }
+    ensures { λ r. ⌜ listed r (now (out .exit)) ≡ placed (now (out .entry)) 0 (listText i c) ⌝ }
 {
     let mut scratch = [0u8; 224];
-    let n = put_list(&mut scratch, 0, i, c);
-    if buf.len() < at {
+    let n = put_list(&mut scratch, i, c);
+    if out.len() < n {
         return Listing::Refused(11);
     }
-    if buf.len() - at < n {
-        return Listing::Refused(11);
-    }
-    put_all(&mut buf[at..], 0, &scratch[..n]);
+    put_all(out, 0, &scratch[..n]);
     Listing::Length(n)
 }
 
@@ -94,7 +91,7 @@ pub fn list_refusal(b: Bank, i: usize, heads: &[u64; 512]) -> u8
     0
 }
 
-// The doors that packets carry are not looked at.
+// The length of the list that is written from `at` on, or by which number it is refused. The doors that packets carry are not looked at.
 pub fn list(
     b: Bank,
     i: usize,
@@ -109,5 +106,8 @@ pub fn list(
     if n != 0 {
         return Listing::Refused(n);
     }
-    place_list(i, b.columns[i], buf, at)
+    if buf.len() < at {
+        return Listing::Refused(11);
+    }
+    write_list(i, b.columns[i], &mut buf[at..])
 }

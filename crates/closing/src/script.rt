@@ -15,7 +15,6 @@ use bank::rest::at_rest;
 use bank::step::Step;
 use bank::step::perform;
 use bytes::scan::find;
-use column::state::Column;
 use column::tree::Tree;
 ghost use Prim.Native.Nat.{_≤_, _<_};
 ghost use mathlib.Core.Path.{_≡_};
@@ -24,7 +23,6 @@ ghost use Rattle.bank.specs.Banks.{state};
 ghost use Rattle.bank.specs.Steps.{perform};
 ghost use Rattle.closing.specs.Lines.{commandOf};
 ghost use Rattle.closing.specs.Scripts.{refusedText, restText, answered};
-ghost use Rattle.closing.specs.Closing.{listText};
 ghost use Rattle.closing.specs.Advances.{progressOf, startRun, Advanced, laterAdvance, advance};
 ghost use Rattle.closing.specs.Writing.{Writes};
 ghost use Rattle.closing.specs.ScriptLaws.{WritesStep, WritesListed, AdvancedFirst, runTo, replied, stepReplied, nextLine};
@@ -84,13 +82,6 @@ fn put_step(answer: Answer, out: &mut [u8]) -> usize
     }
 }
 
-fn put_column(i: usize, c: Column, out: &mut [u8]) -> usize
-    requires { ⌜ (i < 16) × (224 ≤ length (now out)) ⌝ }
-    ensures { λ r. ⌜ Writes r (now (out .exit)) (now (out .entry)) 0 (listText i c) ⌝ }
-{
-    put_list(out, 0, i, c)
-}
-
 fn put_listed(b: Bank, i: usize, heads: &[u64; 512], out: &mut [u8]) -> usize
     requires { ⌜ 224 ≤ length (now out) ⌝ }
     ensures { λ r. ⌜ WritesListed r (now (out .exit)) (now (out .entry)) b (now (heads .entry)) i ⌝ }
@@ -99,7 +90,7 @@ fn put_listed(b: Bank, i: usize, heads: &[u64; 512], out: &mut [u8]) -> usize
     if n != 0 {
         return put_refused(out, n);
     }
-    put_column(i, b.columns[i], out)
+    put_list(out, i, b.columns[i])
 }
 
 // The line's end is before `next`.
@@ -205,7 +196,7 @@ fn first(r: Run, input: &[u8], out: &mut [u8]) -> Run
     }
 }
 
-// Before the table is read there is no bank.
+// The run to begin with. Before the table is read there is no bank.
 pub fn start() -> Run
     ensures { λ r. ⌜ r ≡ startRun ⌝ }
 {
@@ -226,6 +217,7 @@ pub fn start() -> Run
     }
 }
 
+// The run after its next text, which is the first `length` bytes of `out`; a run that is over has none left.
 pub fn advance(
     r: Run,
     input: &[u8],

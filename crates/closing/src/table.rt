@@ -148,6 +148,7 @@ fn read_lines(one: &[u8], two: &[u8], three: &[u8], end: usize) -> Table
     }
 }
 
+// The tree of the three lines that the input begins with, and the place after them; or 1, 2 or 3.
 pub fn read_table(input: &[u8]) -> Table
     ensures { λ r. ⌜ answered (r .answer) (placedAt (r .tree) (r .end)) ≡ readTable (now (input .entry)) ⌝ }
 {

@@ -1,11 +1,16 @@
 -- Worked examples of packets and their bytes, after document 01, "Packets". Assumes nothing.
-use Prim.Native.Nat.{ℕ}
+use Prim.Native.Nat.{ℕ, zero, suc}
+use native.Mathlib.Omega.{arith}
 use mathlib.Core.Path.{_≡_, refl}
-use mathlib.Core.Bool.{true, false}
+use mathlib.Core.Bool.{Bool, true, false, _&&_}
 use mathlib.Core.List.{List, [], _∷_, map}
+use lib.Dec.{ltb}
 use lib.ListN.{take, replicate}
+use borrow.Author.Tests.{ltb-true}
+use Rattle.column.specs.Cases.{and-left, and-right}
 use Rattle.column.specs.Refusals.{given, refused}
-use Rattle.column.specs.Packets.{lowFirst, lowValue, bytesOf, occupied, write, read}
+use Rattle.column.specs.Packets.{lowFirst, lowValue, bytesOf, goodEnds, occupied, write, read}
+use Rattle.column.specs.PacketLaws.{Bytes, read-write, write-read}
 use Rattle.column.specs.declared.packet.Packet.{Packet}
 use Rattle.column.specs.declared.packet.Packet.the-variants.{Message, Acknowledgement}
 
@@ -64,3 +69,20 @@ wrong-ends-refused = refl
 -- "doors byte 7 = 128 is door 64", and neither door 63 nor door 1
 last-door : map (occupied (0 ∷ 0 ∷ 0 ∷ 0 ∷ 0 ∷ 0 ∷ 0 ∷ 128 ∷ [])) (64 ∷ 63 ∷ 1 ∷ []) ≡ true ∷ false ∷ false ∷ []
 last-door = refl
+
+-- ---- what the laws of packets ask for holds of these
+
+pub message-back : read (bytesOf message) ≡ given message
+message-back = read-write message (record { number = omega arith; doors = omega arith }) refl
+
+abbrev allBytes : List ℕ → Bool
+allBytes [] = true
+allBytes (b ∷ s) = ltb b 256 && allBytes s
+
+are-bytes : (s : List ℕ) → allBytes s ≡ true → Bytes s
+are-bytes [] e i = omega arith
+are-bytes (b ∷ s) e zero = ltb-true b 256 (and-left _ _ e)
+are-bytes (b ∷ s) e (suc i) = are-bytes s (and-right (ltb b 256) _ e) i
+
+pub message-again : (bytesOf message ≡ messageBytes) × (goodEnds message ≡ true)
+message-again = write-read messageBytes (are-bytes messageBytes refl) message message-read

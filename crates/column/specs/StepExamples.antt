@@ -9,7 +9,7 @@ use lib.ListN.{replicate}
 use Rattle.column.specs.Sets.{selected}
 use Rattle.column.specs.Trees.{every, climbsIn, treeRefusal}
 use Rattle.column.specs.Columns.{stateRefusal, standing}
-use Rattle.column.specs.Steps.{accepted, packetRefusal, orderRefusal, sendRefusal, sendEffect, send, takeRefusal, acknowledgementEffect, receiveEffect, messageEffect, ackRefusal, allRefusal, noteRefusal, noteEffect, haltRefusal}
+use Rattle.column.specs.Steps.{accepted, packetRefusal, orderRefusal, orderEffect, sendRefusal, sendEffect, send, takeRefusal, acknowledgementEffect, receiveEffect, messageEffect, ackRefusal, allRefusal, noteRefusal, noteEffect, haltRefusal, haltEffect}
 use Rattle.column.specs.declared.tree.Tree.{Tree}
 use Rattle.column.specs.declared.state.Column.{Column}
 use Rattle.column.specs.declared.packet.Packet.the-variants.{Message, Acknowledgement}
@@ -113,6 +113,12 @@ every-refusal = refl
 
 -- ---- effects, from good states of column 1 or of the root
 
+-- an order leaves those awaited, owed and noted as they are
+order-owing : orderEffect three 0 (column true 0 0 2 4 true) 77
+    ≡ accepted (record { running = true; number = 5; doors = 77; send = 2; awaited = 0; owed = 2; noted = 4; whole = true }) [] false
+unfolding orderEffect selected
+order-owing = refl
+
 -- a column that is to send to itself has "no more" to do, though it has noted itself
 send-itself : sendEffect three 1 (column true 6 0 0 2 true) ≡ accepted (column true 4 0 0 2 true) [] false
 unfolding sendEffect trailingZeros
@@ -162,3 +168,8 @@ note-awaited = refl
 note-other : noteEffect three (column true 0 4 0 0 true) 1 ≡ accepted (column true 0 4 0 2 true) [] false
 unfolding noteEffect
 note-other = refl
+
+-- a halted column keeps its record, sets, those noted and goal
+halt-keeps : haltEffect (column true 4 2 1 4 true) ≡ accepted (column false 4 2 1 4 true) [] false
+unfolding haltEffect
+halt-keeps = refl

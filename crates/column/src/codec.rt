@@ -68,6 +68,7 @@ fn checked(p: Packet) -> Reading
     }
 }
 
+// The packet that these bytes are, no more and no fewer; or 12.
 pub fn read(s: &[u8]) -> Reading
     ensures { λ r. ⌜ readMeant r ≡ read (now (s .entry)) ⌝ }
 {
@@ -112,6 +113,7 @@ fn without_doors(kind: u8, from: u8, to: u8, number: Number) -> [u8; MESSAGE_SIZ
     bytes
 }
 
+// The bytes of a packet, followed by 0, and its size; or 12 and bytes of 0.
 pub fn write(p: Packet) -> Written
     ensures { λ r. ⌜ writeMeant r ≡ write p ⌝ }
 {

@@ -21,6 +21,7 @@ pub enum Packet {
     },
 }
 
+// Whether it is a message, and no acknowledgement.
 pub fn is_message(p: Packet) -> bool
     ensures { λ r. ⌜ r ≡ isMessage p ⌝ }
 {
@@ -30,6 +31,7 @@ pub fn is_message(p: Packet) -> bool
     }
 }
 
+// The column that it comes from.
 pub fn sender(p: Packet) -> usize
     ensures { λ r. ⌜ r ≡ sender p ⌝ }
 {
@@ -39,6 +41,7 @@ pub fn sender(p: Packet) -> usize
     }
 }
 
+// The column that it is for.
 pub fn receiver(p: Packet) -> usize
     ensures { λ r. ⌜ r ≡ receiver p ⌝ }
 {

@@ -3,6 +3,7 @@ ghost use mathlib.Core.Path.{_≡_};
 ghost use mathlib.Core.List.{[], _∷_};
 ghost use Rattle.column.specs.Refusals.{first, earlier};
 
+// The refusal of two groups of conditions, n that of the first.
 pub fn earlier(n: u8, m: u8) -> u8
     ensures { λ r. ⌜ r ≡ earlier n m ⌝ }
 {

@@ -21,6 +21,7 @@ fn idle(c: Column) -> bool
     (c.send == 0) & (c.awaited == 0)
 }
 
+// Of an order to column i, which must be the root: 2 to 5, 7 while it sends or awaits, 8 at the highest number.
 pub fn order_refusal(t: Tree, i: usize, c: Column) -> u8
     ensures { λ r. ⌜ r ≡ orderRefusal t i c ⌝ }
 {
@@ -31,6 +32,7 @@ pub fn order_refusal(t: Tree, i: usize, c: Column) -> u8
     refuse_if(n, c.number == HIGHEST, 8)
 }
 
+// Of a send by column i: 2 to 5, 6 where nobody is to be sent to.
 pub fn send_refusal(t: Tree, i: usize, c: Column) -> u8
     ensures { λ r. ⌜ r ≡ sendRefusal t i c ⌝ }
 {
@@ -40,7 +42,7 @@ pub fn send_refusal(t: Tree, i: usize, c: Column) -> u8
 }
 
 // 4 where row 4 refuses the packet. Neither the tree nor the addressee is tested.
-pub fn packet_refusal(t: Tree, p: Packet) -> u8
+fn packet_refusal(t: Tree, p: Packet) -> u8
     ensures { λ r. ⌜ r ≡ packetRefusal t p ⌝ }
 {
     let from = sender(p);
@@ -51,6 +53,7 @@ pub fn packet_refusal(t: Tree, p: Packet) -> u8
     refuse_if(n, is_message(p) & (to == t.root), 4)
 }
 
+// Of a packet given to column i: 2 to 5.
 pub fn take_refusal(t: Tree, i: usize, c: Column, p: Packet) -> u8
     ensures { λ r. ⌜ r ≡ takeRefusal t i c p ⌝ }
 {
@@ -59,6 +62,7 @@ pub fn take_refusal(t: Tree, i: usize, c: Column, p: Packet) -> u8
     refuse_if(n, !c.running, 5)
 }
 
+// Of an acknowledgement by column i: 2 to 5, 6 where nobody is owed, or the goal is its own subtree and it still sends or awaits.
 pub fn ack_refusal(t: Tree, i: usize, c: Column) -> u8
     ensures { λ r. ⌜ r ≡ ackRefusal t i c ⌝ }
 {
@@ -68,6 +72,7 @@ pub fn ack_refusal(t: Tree, i: usize, c: Column) -> u8
     refuse_if(n, !(c.whole | idle(c)), 6)
 }
 
+// Of a takeover by column i: 2 to 5, 6 at the root, with the root not noted, after another takeover, or while it sends or awaits.
 pub fn all_refusal(t: Tree, i: usize, c: Column) -> u8
     ensures { λ r. ⌜ r ≡ allRefusal t i c ⌝ }
 {
@@ -79,6 +84,7 @@ pub fn all_refusal(t: Tree, i: usize, c: Column) -> u8
     refuse_if(n, !idle(c), 6)
 }
 
+// Of a note of column j by column i: 2 to 5, 6 where j is i or is noted already. That j is halted is believed.
 pub fn note_refusal(t: Tree, i: usize, c: Column, j: usize) -> u8
     ensures { λ r. ⌜ r ≡ noteRefusal t i c j ⌝ }
 {
@@ -89,6 +95,7 @@ pub fn note_refusal(t: Tree, i: usize, c: Column, j: usize) -> u8
     refuse_if(n, has(c.noted, j), 6)
 }
 
+// Of a halt of column i: 2 to 5.
 pub fn halt_refusal(t: Tree, i: usize, c: Column) -> u8
     ensures { λ r. ⌜ r ≡ haltRefusal t i c ⌝ }
 {

@@ -10,14 +10,15 @@ use crate::tree::tree_refusal;
 ghost use mathlib.Core.Path.{_≡_};
 ghost use Rattle.column.specs.Columns.{freshMeant, freshGiven, stateRefusal, standing};
 
+// Widest fields first, so that a column is 24 bytes.
 pub struct Column {
-    pub running: bool,
-    pub number: Number,
     pub doors: u64,
     pub send: u16,
     pub awaited: u16,
     pub owed: u16,
     pub noted: u16,
+    pub number: Number,
+    pub running: bool,
     // The goal: the whole bank, or its own subtree.
     pub whole: bool,
 }
@@ -27,6 +28,7 @@ pub enum FreshColumn {
     Refused(u8),
 }
 
+// Column i as it begins; or 2, 3, 4.
 pub fn fresh(t: Tree, i: usize) -> FreshColumn
     ensures { λ r. ⌜ freshMeant r ≡ freshGiven t i ⌝ }
 {

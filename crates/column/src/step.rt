@@ -44,6 +44,7 @@ fn refused(c: Column, n: u8) -> Outcome
     }
 }
 
+// The root with the next number, these doors, and its children to send to.
 pub fn order(t: Tree, i: usize, c: Column, doors: u64) -> Outcome
     ensures { λ r. ⌜ meant r ≡ order t i c doors ⌝ }
 {
@@ -54,6 +55,7 @@ pub fn order(t: Tree, i: usize, c: Column, doors: u64) -> Outcome
     order_effect(t, i, c, doors)
 }
 
+// Column i with the lowest to send to served, and the message for it, if there is one to put.
 pub fn send(t: Tree, i: usize, c: Column) -> Outcome
     ensures { λ r. ⌜ meant r ≡ send t i c ⌝ }
 {
@@ -64,6 +66,7 @@ pub fn send(t: Tree, i: usize, c: Column) -> Outcome
     send_effect(t, i, c)
 }
 
+// Column i after a packet, what it answers at once, and whether the packet is left for another take.
 pub fn take(t: Tree, i: usize, c: Column, p: Packet) -> Outcome
     ensures { λ r. ⌜ meant r ≡ take t i c p ⌝ }
 {
@@ -74,6 +77,7 @@ pub fn take(t: Tree, i: usize, c: Column, p: Packet) -> Outcome
     take_effect(t, i, c, p)
 }
 
+// Column i with the lowest owed struck out, and the acknowledgement for that one.
 pub fn ack(t: Tree, i: usize, c: Column) -> Outcome
     ensures { λ r. ⌜ meant r ≡ ack t i c ⌝ }
 {
@@ -84,6 +88,7 @@ pub fn ack(t: Tree, i: usize, c: Column) -> Outcome
     ack_effect(i, c)
 }
 
+// Column i with the whole bank as its goal, and the root alone to send to.
 pub fn all(t: Tree, i: usize, c: Column) -> Outcome
     ensures { λ r. ⌜ meant r ≡ all t i c ⌝ }
 {
@@ -94,6 +99,7 @@ pub fn all(t: Tree, i: usize, c: Column) -> Outcome
     all_effect(t, c)
 }
 
+// Column i with j noted; where j was awaited, its children are to be sent to instead.
 pub fn note(t: Tree, i: usize, c: Column, j: usize) -> Outcome
     ensures { λ r. ⌜ meant r ≡ note t i c j ⌝ }
 {
@@ -104,6 +110,7 @@ pub fn note(t: Tree, i: usize, c: Column, j: usize) -> Outcome
     note_effect(t, c, j)
 }
 
+// Column i halted, with all else that it holds as it was.
 pub fn halt(t: Tree, i: usize, c: Column) -> Outcome
     ensures { λ r. ⌜ meant r ≡ halt t i c ⌝ }
 {

@@ -57,6 +57,7 @@ pub fn column_refusal(t: Tree, c: usize) -> u8
     refuse_if(tree_refusal(t), t.columns <= c, 4)
 }
 
+// The columns that name c as their parent, the root never among them; or 2, 3, 4.
 pub fn children(t: Tree, c: usize) -> Members
     ensures { λ r. ⌜ membersMeant r ≡ childrenGiven t c ⌝ }
 {
@@ -67,6 +68,7 @@ pub fn children(t: Tree, c: usize) -> Members
     Members::Set(children_of(t, c))
 }
 
+// Column c with all below it; or 2, 3, 4.
 pub fn subtree(t: Tree, c: usize) -> Members
     ensures { λ r. ⌜ membersMeant r ≡ subtreeGiven t c ⌝ }
 {
@@ -77,6 +79,7 @@ pub fn subtree(t: Tree, c: usize) -> Members
     Members::Set(subtree_in(t, c, DESCENT))
 }
 
+// The subtrees of the members of a set, joined; or 2, 3, and 4 of a member that the tree has not.
 pub fn subtrees(t: Tree, set: u16) -> Members
     ensures { λ r. ⌜ membersMeant r ≡ subtreesGiven t set ⌝ }
 {

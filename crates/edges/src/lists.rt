@@ -63,14 +63,19 @@ fn print_written(buffer: &[u8], at: usize, n: usize) {
     print_text(&buffer[at..end]);
 }
 
-// The list is lent the first `size` bytes of the buffer.
-fn listed(b: Bank, i: usize, buffer: &mut [u8], size: usize, at: usize) {
+// No packet is under way.
+fn answer(b: Bank, i: usize, buffer: &mut [u8], at: usize) -> Listing {
     let heads = [0u64; 512];
     let doors = [0u64; 512];
+    list(b, i, &heads, &doors, buffer, at)
+}
+
+// The list is lent the first `size` bytes of the buffer.
+fn listed(b: Bank, i: usize, buffer: &mut [u8], size: usize, at: usize) {
     if buffer.len() < size {
         return;
     }
-    match list(b, i, &heads, &doors, &mut buffer[0..size], at) {
+    match answer(b, i, &mut buffer[0..size], at) {
         Listing::Length(n) => print_written(buffer, at, n),
         Listing::Refused(n) => {
             print_number(b"refused ", n as u64);
@@ -90,10 +95,21 @@ fn case(name: &[u8], b: Bank, i: usize, size: usize, at: usize) {
     print(b"\n");
 }
 
+// The four lines as they stand, in a buffer of just their bytes.
+fn longest(b: Bank) {
+    let mut buffer = [FILLED; 224];
+    if let Listing::Length(n) = answer(b, LISTER, &mut buffer, 0) {
+        print_number(b"the longest list, ", n as u64);
+        print(b" bytes:\n");
+        print(&buffer);
+    }
+}
+
 pub fn cases() {
     let running = bank(true, true);
     let halted = bank(false, true);
     let wrong = bank(false, false);
+    longest(running);
     case(b"", running, LISTER, 224, 0);
     case(b"", running, LISTER, 223, 0);
     case(b"", running, LISTER, 230, 3);

@@ -1,5 +1,13 @@
 // Two lone cores, a root and its child, pass one order over bytes: the message down, the acknowledgement up.
 // Each packet is printed as the bytes that go over the line, and each column's record as it is in the end.
+// Then what the core answers of a larger tree.
+mod print;
+mod tree;
+
+use crate::print::print_bytes;
+use crate::print::print_doors;
+use crate::print::print_line;
+use crate::print::wide;
 use column::codec::Reading;
 use column::codec::Size;
 use column::codec::read;
@@ -15,7 +23,6 @@ use column::step::order;
 use column::step::send;
 use column::step::take;
 use column::tree::Tree;
-use libc::STDOUT_FILENO;
 
 const ROOT: usize = 0;
 
@@ -24,49 +31,15 @@ const CHILD: usize = 1;
 // Doors 1 and 10: bit 0 of byte 0 and bit 1 of byte 1.
 const DOORS: u64 = 1 + 2 * 256;
 
-fn print_number(key: &[u8], n: u64) {
-    io::write_all(STDOUT_FILENO, key);
-    io::print_decimal(STDOUT_FILENO, n);
-    io::write_all(STDOUT_FILENO, b"\n");
-}
-
-fn print_bytes(key: &[u8], bytes: &[u8]) {
-    io::write_all(STDOUT_FILENO, key);
-    let mut i = 0;
-    while i < bytes.len() {
-        let byte = bytes[i];
-        io::print_hex(STDOUT_FILENO, wide(byte), 2);
-        i += 1;
-    }
-    io::write_all(STDOUT_FILENO, b"\n");
-}
-
-fn wide(byte: u8) -> u64 {
-    byte as u64
-}
-
-// Byte 0 first, as a packet has them.
-fn print_doors(doors: u64) {
-    let mut bytes = [0u8; 8];
-    let mut rest = doors;
-    let mut i = 0;
-    while i < 8 {
-        bytes[i] = (rest % 256) as u8;
-        rest = rest / 256;
-        i += 1;
-    }
-    print_bytes(b"doors=", &bytes);
-}
-
 fn print_column(i: usize, c: Column) {
     let number = c.number;
-    print_number(b"column=", i as u64);
-    print_number(b"number=", number as u64);
+    print_line(b"column=", i as u64);
+    print_line(b"number=", number as u64);
     print_doors(c.doors);
 }
 
 fn refused(c: Column, n: u8) -> Outcome {
-    print_number(b"refused=", wide(n));
+    print_line(b"refused=", wide(n));
     Outcome {
         column: c,
         answer: Answer::Refused(n),
@@ -104,7 +77,7 @@ fn delivered(t: Tree, i: usize, c: Column, answer: Answer) -> Outcome {
     }
 }
 
-fn main() {
+fn exchange() {
     let t = Tree {
         columns: 2,
         root: ROOT,
@@ -125,4 +98,9 @@ fn main() {
     let ended = delivered(t, ROOT, sent.column, acknowledgement);
     print_column(ROOT, ended.column);
     print_column(CHILD, acknowledged.column);
+}
+
+fn main() {
+    exchange();
+    tree::show();
 }

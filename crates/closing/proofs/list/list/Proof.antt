@@ -1,11 +1,13 @@
 use borrow.Author.Needs.{needs}
-use Prim.Native.Nat.{_<_}
-use mathlib.Core.Path.{_≡_, sym, _∙_}
+use Prim.Native.Nat.{ℕ, _+_, _<_}
+use mathlib.Core.Path.{_≡_, sym, ap, _∙_}
+use mathlib.Core.List.{List}
 use native.Mathlib.Omega.{arith}
-use borrow.Author.Tests.{eq-eqb, ne-eqb}
-use Rattle.bank.specs.Banks.{State, state}
-use Rattle.closing.specs.Closing.{listRefusal, list}
-use Rattle.closing.specs.ClosingLaws.{list-sixteen}
+use lib.ListN.{length}
+use borrow.Author.Tests.{eq-eqb, ne-eqb, lt-leb}
+use Rattle.bank.specs.Banks.{State, state, columnAt}
+use Rattle.closing.specs.Closing.{listText, listRefusal, placed, list}
+use Rattle.closing.specs.ClosingLaws.{list-sixteen, whole, placed-part}
 use Rattle.closing.proofs.list.list.Statement.{statement}
 use Rattle.closing.proofs.list.list.Tie as tie
 
@@ -17,11 +19,19 @@ module _ (c : tie.Else1) where
   abbrev start : tie.Start
   start = c .before .before .before
 
+  abbrev text : List ℕ
+  text = listText (start .args .i) (columnAt (start .args .t1) (start .args .i))
+
   good : listRefusal (given start) (start .args .i) ≡ 0
   good = sym (c .before .list-refusal .ensures (start .args .doors .now)) ∙ c .if1 .left
 
   sixteen : start .args .i < 16
   sixteen = list-sixteen (given start) (start .args .i) good
+
+  passed : let a = start .args in
+      list (given start) (a .i) (a .buf .now) (a .at) ≡ placed (a .buf .now) (a .at) text
+  unfolding list
+  passed = rw (eq-eqb (listRefusal (given start) (start .args .i)) 0 good)
 
 list-refusal-requires : tie.Need-list-refusal-requires
 list-refusal-requires c κs = search needs
@@ -33,24 +43,43 @@ returns c =
     let e = c .before .list-refusal .ensures (s .args .doors .now) in
     rw (ne-eqb (listRefusal (given s) (s .args .i)) 0 (λ z. c .if1 .taken (e ∙ z)), ← e)
 
-mul-place-list : tie.Need-mul-place-list
-mul-place-list c = omega (arith, sixteen c)
+returns-2 : tie.Need-returns-2
+unfolding placed
+returns-2 c =
+    let g = c .before in
+    let a = start g .args in
+    rw (passed g, lt-leb (a .at + length (text g)) (length (a .buf .now)) (omega arith))
 
-element-copy-out-place-list : tie.Need-element-copy-out-place-list
-element-copy-out-place-list c = sixteen c
+mul-write-list : tie.Need-mul-write-list
+mul-write-list c = omega (arith, sixteen (c .before))
 
-place-list-requires : tie.Need-place-list-requires
-place-list-requires c κs = sixteen (c .before .before)
+element-copy-out-write-list : tie.Need-element-copy-out-write-list
+element-copy-out-write-list c = sixteen (c .before)
+
+sub-write-list : tie.Need-sub-write-list
+sub-write-list c = search needs
+
+part-write-list-start : tie.Need-part-write-list-start
+part-write-list-start c = search needs
+
+part-write-list-end : tie.Need-part-write-list-end
+part-write-list-end c = search needs
+
+write-list-requires : tie.Need-write-list-requires
+write-list-requires c κs = sixteen (c .before .before .before)
 
 same-length : tie.Need-same-length
 same-length c = search needs
 
-returns-2 : tie.Need-returns-2
-unfolding list
-returns-2 c =
+returns-3 : tie.Need-returns-3
+returns-3 c =
     let k = c .before .before in
-    let g = k .before .before .before in
-    rw (eq-eqb (listRefusal (given (start g)) (start g .args .i)) 0 (good g)) (k .place-list .ensures)
+    let e = k .before .before .before in
+    let g = e .before in
+    let a = start g .args in
+    ap (whole (a .buf .now) (a .at)) (k .write-list .ensures)
+    ∙ placed-part (a .buf .now) (a .at) (text g) (e .if2 .left)
+    ∙ sym (passed g)
 
 pub list-spec : {M : Type 1} → statement M
 list-spec =
@@ -58,8 +87,12 @@ list-spec =
     (tie.spec
     list-refusal-requires
     returns
-    mul-place-list
-    element-copy-out-place-list
-    place-list-requires
+    returns-2
+    mul-write-list
+    element-copy-out-write-list
+    sub-write-list
+    part-write-list-start
+    part-write-list-end
+    write-list-requires
     same-length
-    returns-2)
+    returns-3)

@@ -7,6 +7,7 @@ use lib.ListN.{length}
 use Rattle.column.specs.declared.state.Column.{Column}
 use Rattle.closing.specs.Text.{columnKey, numberKey, occupiedKey, doorsKey, newline, field}
 use Rattle.closing.specs.Closing.{doorsUpTo, divided, listText}
+use Rattle.closing.specs.ClosingLaws.{list-longest}
 use Rattle.closing.specs.Writing.{room-first, room-rest, writes-more}
 use Rattle.closing.proofs.list.put_list.Statement.{statement}
 use Rattle.closing.proofs.list.put_list.Tie as tie
@@ -57,9 +58,12 @@ fourth c = c .before .before .before .before
 
 -- ---- after each text there is room for what follows
 
-room : (s : tie.Start) → s .args .at + length (field columnKey (s .args .i) ++ from-number (s .args .c)) ≤ length (s .args .out .now)
+room : (s : tie.Start) → 0 + length (field columnKey (s .args .i) ++ from-number (s .args .c)) ≤ length (s .args .out .now)
 unfolding listText
-room s = s .pre
+room s =
+    let number : s .args .c .number < 65536 = search needs in
+    let doors : s .args .c .doors < 2 ^ 64 = search needs in
+    omega (arith, s .pre .1, list-longest (s .args .i) (s .args .c) (s .pre .0) number doors)
 
 room-number : (c : tie.After-put-field) → c .put-field .result + length (from-number (start c .args .c)) ≤ length (c .put-field .last .0)
 room-number c =

@@ -41,14 +41,14 @@ returns c doors =
     let e = t .before .list-refusal .ensures doors in
     rw (ne-eqb (listRefusal (given s doors) (s .args .i)) 0 (λ z. t .if1 .taken (e ∙ z)), ← e) (p .put-refused .ensures)
 
-mul-put-column : tie.Need-mul-put-column
-mul-put-column c = omega (arith, sixteen c)
+mul-put-list : tie.Need-mul-put-list
+mul-put-list c = omega (arith, sixteen (c .before))
 
-element-copy-out-put-column : tie.Need-element-copy-out-put-column
-element-copy-out-put-column c = sixteen c
+element-copy-out-put-list : tie.Need-element-copy-out-put-list
+element-copy-out-put-list c = sixteen (c .before)
 
-put-column-requires : tie.Need-put-column-requires
-put-column-requires c κs = (sixteen (c .before .before), start (c .before .before) .pre)
+put-list-requires : tie.Need-put-list-requires
+put-list-requires c κs = (sixteen (c .before .before), start (c .before .before) .pre)
 
 same-length-2 : tie.Need-same-length-2
 same-length-2 c = search needs
@@ -57,7 +57,7 @@ returns-2 : tie.Need-returns-2
 returns-2 c doors =
     let p = c .before .before in
     let g = p .before .before .before in
-    rw (eq-eqb (listRefusal (given (start g) doors) (start g .args .i)) 0 (good g doors)) (p .put-column .ensures)
+    rw (eq-eqb (listRefusal (given (start g) doors) (start g .args .i)) 0 (good g doors)) (p .put-list .ensures)
 
 pub put-listed-spec : {M : Type 1} → statement M
 put-listed-spec =
@@ -67,8 +67,8 @@ put-listed-spec =
     put-refused-requires
     same-length
     returns
-    mul-put-column
-    element-copy-out-put-column
-    put-column-requires
+    mul-put-list
+    element-copy-out-put-list
+    put-list-requires
     same-length-2
     returns-2)

@@ -2,8 +2,8 @@ use borrow.Author.Needs.{needs}
 use Prim.Native.Nat.{_-_}
 use mathlib.Core.Path.{_≡_}
 use lib.ListN.{length}
-use Rattle.pair.proofs.print_doors.Statement.{statement}
-use Rattle.pair.proofs.print_doors.Tie as tie
+use Rattle.pair.proofs.print.print_doors.Statement.{statement}
+use Rattle.pair.proofs.print.print_doors.Tie as tie
 
 abbrev Inv-loop : tie.InvT-loop
 Inv-loop doors bytes₀ rest₀ i₀ t5 bytes rest i = length bytes ≡ 8

@@ -1,8 +1,8 @@
 use borrow.Author.Needs.{needs}
 use Prim.Native.Nat.{_≤_, _-_}
 use lib.ListN.{length}
-use Rattle.pair.proofs.print_bytes.Statement.{statement}
-use Rattle.pair.proofs.print_bytes.Tie as tie
+use Rattle.pair.proofs.print.print_bytes.Statement.{statement}
+use Rattle.pair.proofs.print.print_bytes.Tie as tie
 
 abbrev Inv-loop : tie.InvT-loop
 Inv-loop key bytes i₀ t5 i = i ≤ length bytes
@@ -10,8 +10,8 @@ Inv-loop key bytes i₀ t5 i = i ≤ length bytes
 abbrev μ-loop : tie.MeasureT-loop
 μ-loop key bytes i₀ t5 i = length bytes - i
 
-write-all-requires : tie.Need-write-all-requires Inv-loop μ-loop
-write-all-requires c κs = search needs
+print-requires : tie.Need-print-requires Inv-loop μ-loop
+print-requires c κs = search needs
 
 loop-holds : tie.Need-loop-holds Inv-loop μ-loop
 loop-holds c = search needs
@@ -34,11 +34,11 @@ loop-less c = search needs
 loop-again : tie.Need-loop-again Inv-loop μ-loop
 loop-again c = search needs
 
-slice-aggregate-write-all : tie.Need-slice-aggregate-write-all Inv-loop μ-loop
-slice-aggregate-write-all c = search needs
+slice-aggregate-print : tie.Need-slice-aggregate-print Inv-loop μ-loop
+slice-aggregate-print c = search needs
 
-write-all-requires-2 : tie.Need-write-all-requires-2 Inv-loop μ-loop
-write-all-requires-2 c κs = search needs
+print-requires-2 : tie.Need-print-requires-2 Inv-loop μ-loop
+print-requires-2 c κs = search needs
 
 returns : tie.Need-returns Inv-loop μ-loop
 returns c = search needs
@@ -49,7 +49,7 @@ print-bytes-spec =
     (tie.spec
     Inv-loop
     μ-loop
-    write-all-requires
+    print-requires
     loop-holds
     shared-slice-read-byte
     wide-requires
@@ -57,6 +57,6 @@ print-bytes-spec =
     add-i
     loop-less
     loop-again
-    slice-aggregate-write-all
-    write-all-requires-2
+    slice-aggregate-print
+    print-requires-2
     returns)

@@ -1,0 +1,150 @@
+-- A step rewrites the place of the column that acts, which runs, and no other: "unused ones never change", and a halted column keeps its
+-- record and sets. Assumes nothing.
+use Prim.Native.Nat.{ℕ, _≤_}
+use mathlib.Core.Path.{_≡_, refl, sym, ap, subst, _∙_}
+use mathlib.Core.Bool.{Bool, true, false, not, cond, true≢false}
+use mathlib.Core.List.{List, [], _∷_}
+use native.Mathlib.Omega.{arith}
+use lib.Dec.{eqb, leb, ltb}
+use lib.ListN.{getD}
+use lib.Seq.{getD-set-other}
+use borrow.Author.Tests.{eqb-true, not-false}
+use Rattle.column.specs.Refusals.{first, earlier}
+use Rattle.column.specs.RefusalLaws.{passed, earlier-none}
+use Rattle.column.specs.Columns.{standing}
+use Rattle.column.specs.StateLaws.{standing-sound}
+use Rattle.column.specs.Packets.{receiver}
+use Rattle.column.specs.Steps as core
+use Rattle.column.specs.declared.tree.Tree.{Tree}
+use Rattle.column.specs.declared.state.Column.{Column}
+use Rattle.column.specs.declared.packet.Packet.{Packet}
+use Rattle.bank.specs.Banks.{State, columnAt, runs, packetAt, capacity, noColumn, bankRefusal, actingRefusal}
+use Rattle.bank.specs.Networks.{withPacket, put, puts, removed, vanished}
+use Rattle.bank.specs.Steps.{Outcome, accepted, refused, after, unless, fitting, settled, acted, delivered, takeRefusal, perform}
+use Rattle.bank.specs.Exact.{ownRefusal, refusalOf}
+use Rattle.bank.specs.ExactLaws.{exact}
+use Rattle.bank.specs.Rest.{Running}
+use Rattle.bank.specs.declared.step.Step.{Step}
+use Rattle.bank.specs.declared.step.Step.the-variants.{Order, Send, Take, Ack, All, Note, Halt}
+
+-- whose place a step may rewrite: "order: the root; note: the first"; of a take "the packet goes to its receiver"
+abbrev pub acting : State → Step → ℕ
+acting s (Order doors) = s .bank .tree .root
+acting s (Send i) = i
+acting s (Take place) = receiver (packetAt s place)
+acting s (Ack i) = i
+acting s (All i) = i
+acting s (Note i j) = i
+acting s (Halt i) = i
+
+-- ---- the other places
+
+put-columns : (s : State) (p : Packet) → put s p .bank .columns ≡ s .bank .columns
+unfolding put
+put-columns s p = go (runs (s .bank) (receiver p))
+  where
+    go : (b : Bool) → cond b (withPacket s p) s .bank .columns ≡ s .bank .columns
+    go true = refl
+    go false = refl
+
+puts-columns : (l : List Packet) (s : State) → puts s l .bank .columns ≡ s .bank .columns
+unfolding puts
+puts-columns [] s = refl
+puts-columns (p ∷ l) s = puts-columns l (put s p) ∙ put-columns s p
+
+module _ (s : State) (i j : ℕ) (other : j ≡ i → ⊥) where
+  abbrev Kept : Outcome State → Type 0
+  Kept o = columnAt (after o .bank) j ≡ columnAt (s .bank) j
+
+  kept-unless : (n : ℕ) (o : Outcome State) → Kept o → Kept (unless n s o)
+  kept-unless n o h = go (eqb n 0)
+    where
+      go : (b : Bool) → Kept (cond b o (refused n s))
+      go true = h
+      go false = refl
+
+  kept-fitting : (next : State) → columnAt (next .bank) j ≡ columnAt (s .bank) j → Kept (fitting s next)
+  unfolding fitting
+  kept-fitting next h = go (ltb capacity (next .bank .count))
+    where
+      go : (b : Bool) → Kept (cond b (refused 9 s) (accepted next))
+      go true = refl
+      go false = h
+
+  kept-settled : (gone : State) → gone .bank .columns ≡ s .bank .columns → (r : core.Result) → Kept (settled s gone i r)
+  kept-settled gone same (core.refused n c) = refl
+  kept-settled gone same (core.accepted c packets left) =
+      kept-fitting _ (ap (λ (l : List Column). getD l j noColumn) (puts-columns packets _)
+      ∙ getD-set-other (cond left s gone .bank .columns) i j c noColumn other ∙ go left)
+    where
+      go : (b : Bool) → columnAt (cond b s gone .bank) j ≡ columnAt (s .bank) j
+      go true = refl
+      go false = ap (λ (l : List Column). getD l j noColumn) same
+
+  kept-acted : (r : core.Result) → Kept (acted s i r)
+  unfolding acted
+  kept-acted r = kept-unless (actingRefusal s i) _ (kept-settled s refl r)
+
+pub others-kept : (s : State) (x : Step) (j : ℕ) → (j ≡ acting s x → ⊥) → columnAt (after (perform s x) .bank) j ≡ columnAt (s .bank) j
+unfolding perform delivered vanished
+others-kept s (Order doors) j other = kept-acted s _ j other _
+others-kept s (Send i) j other = kept-acted s i j other _
+others-kept s (Take place) j other =
+    kept-unless s _ j other (takeRefusal s place) _ (kept-settled s _ j other (removed s place) refl (core.take _ _ _ _))
+others-kept s (Ack i) j other = kept-acted s i j other _
+others-kept s (All i) j other = kept-acted s i j other _
+others-kept s (Note i k) j other = kept-acted s i j other _
+others-kept s (Halt i) j other =
+    kept-unless s i j other (actingRefusal s i) _ (kept-settled s i j other (vanished s i) refl (core.halt _ _ _))
+
+-- ---- who acts
+
+abbrev t : State → Tree
+t s = s .bank .tree
+
+abbrev c : State → ℕ → Column
+c s i = columnAt (s .bank) i
+
+module _ (s : State) (i : ℕ) where
+  -- the core tests the column first, and among the step's own conditions that it runs
+  runs-by : (m : ℕ) → (m ≡ 0 → not (c s i .running) ≡ false) → earlier (standing (t s) i (c s i)) m ≡ 0 → Running s i
+  runs-by m five e =
+      let q = earlier-none (standing (t s) i (c s i)) m e in
+      (standing-sound (t s) i (c s i) (q .0) .below, not-false (c s i .running) (five (q .1)))
+
+own-runs : (s : State) (x : Step) → ownRefusal s x ≡ 0 → Running s (acting s x)
+unfolding core.orderRefusal core.sendRefusal core.takeRefusal core.ackRefusal core.allRefusal core.noteRefusal core.haltRefusal
+own-runs s (Order doors) e = runs-by s (t s .root) _ (λ z. passed (core.orderConditions (t s) (t s .root) (c s (t s .root))) tt z .1 .0) e
+own-runs s (Send i) e = runs-by s i _ (λ z. passed (core.sendConditions (t s) i (c s i)) tt z .0) e
+own-runs s (Take place) e =
+    let p = packetAt s place in
+    let l = core.takeConditions (t s) (receiver p) (c s (receiver p)) p in
+    runs-by s (receiver p) _ (λ z. passed l tt (earlier-none (core.packetRefusal (t s) p) (first l) z .1) .1 .0)
+    (earlier-none (first ((10, leb (s .bank .count) place) ∷ [])) _ e .1)
+own-runs s (Ack i) e = runs-by s i _ (λ z. passed (core.ackConditions (t s) i (c s i)) tt z .0) e
+own-runs s (All i) e = runs-by s i _ (λ z. passed (core.allConditions (t s) i (c s i)) tt z .0) e
+own-runs s (Note i j) e =
+    runs-by s i _ (λ z. passed (core.noteConditions (t s) i (c s i) j) tt z .1 .0) (earlier-none _ (first ((6, runs (s .bank) j) ∷ [])) e .0)
+own-runs s (Halt i) e = runs-by s i _ (λ z. passed (core.haltConditions (t s) i (c s i)) tt z .0) e
+
+-- a step that is not refused is one of a column that runs
+pub acting-runs : (s : State) (x : Step) → refusalOf s x ≡ 0 → Running s (acting s x)
+acting-runs s x e = own-runs s x (earlier-none (ownRefusal s x) _ (earlier-none (bankRefusal s) _ e .1) .0)
+
+-- ---- who does not run, and what is unused
+
+module _ (s : State) (x : Step) (j : ℕ) where
+  idle-kept : (Running s j → ⊥) → columnAt (after (perform s x) .bank) j ≡ columnAt (s .bank) j
+  idle-kept idle = go (eqb (refusalOf s x) 0) refl
+    where
+      go : (b : Bool) → eqb (refusalOf s x) 0 ≡ b → columnAt (after (perform s x) .bank) j ≡ columnAt (s .bank) j
+      go true e = others-kept s x j (λ z. idle (subst (Running s) (sym z) (acting-runs s x (eqb-true (refusalOf s x) 0 e))))
+      go false e = ap (λ (o : Outcome State). columnAt (after o .bank) j) (exact s x) ∙ rw e
+
+  -- "i stops for good": number, doors, sets, those noted and goal stay as they were
+  pub halted-kept : runs (s .bank) j ≡ false → columnAt (after (perform s x) .bank) j ≡ columnAt (s .bank) j
+  halted-kept h = idle-kept (λ r. true≢false (sym (r .1) ∙ h))
+
+  -- "All sixteen places are held, whatever the count; unused ones never change."
+  pub unused-kept : s .bank .tree .columns ≤ j → columnAt (after (perform s x) .bank) j ≡ columnAt (s .bank) j
+  unused-kept h = idle-kept (λ r. omega (arith, h, r .0))

@@ -1,0 +1,50 @@
+-- A bank whose network is full, and one with room for one packet more: what the laws of the network and row 9 ask for holds of them.
+-- Assumes nothing.
+use Prim.Native.Nat.{ℕ}
+use native.Mathlib.Omega.{arith}
+use mathlib.Core.Path.{_≡_, refl}
+use mathlib.Core.Bool.{true}
+use mathlib.Core.List.{[], _∷_, _++_}
+use lib.Count.{trailingZeros}
+use lib.ListN.{replicate, length-replicate}
+use Rattle.column.specs.Trees.{treeOf, every, climbsIn, treeRefusal}
+use Rattle.column.specs.Columns.{stateRefusal}
+use Rattle.column.specs.Steps as core
+use Rattle.column.specs.declared.packet.Packet.{Packet}
+use Rattle.column.specs.declared.packet.Packet.the-variants.{Message}
+use Rattle.bank.specs.Words.{headOf, packetOf}
+use Rattle.bank.specs.Banks.{State, state, capacity, places, freshPlace, freshBank, bankRefusal}
+use Rattle.bank.specs.StandingLaws.{Stands, stands}
+use Rattle.bank.specs.Networks.{counting, withPacket, put, puts}
+use Rattle.bank.specs.NetworkLaws.{packetsOf, put-meant}
+use Rattle.bank.specs.Steps.{refused, after, withColumn, perform, fitting, acted}
+use Rattle.bank.specs.declared.step.Step.the-variants.{Send}
+
+abbrev message : Packet
+message = Message 0 1 1 9
+
+-- columns=3, root=0, up=0,0,1; the root has column 1 to send to, and n messages to it are under way
+abbrev crowded : ℕ → State
+crowded n =
+    withColumn
+    (state (counting (freshBank (treeOf 3 0 (0 ∷ 0 ∷ 1 ∷ replicate 13 0))) n) (replicate capacity (headOf message)) (replicate capacity 9))
+    0
+    (record { running = true; number = 1; doors = 9; send = 2; awaited = 0; owed = 0; noted = 0; whole = true })
+
+-- with 512 it passes rows 2 to 4, and "a send at 512 packets" is refused with 9; one at 511 is accepted
+pub full : (bankRefusal (crowded 512) ≡ 0)
+    × (perform (crowded 512) (Send 0) ≡ refused 9 (crowded 512))
+    × (after (perform (crowded 511) (Send 0)) .bank .count ≡ 512)
+unfolding every climbsIn treeRefusal stateRefusal trailingZeros packetOf places freshPlace bankRefusal put puts perform fitting acted core.packetRefusal core.sendRefusal core.sendEffect
+full = (refl, refl, refl)
+
+pub full-stands : Stands (crowded 512)
+full-stands = stands (crowded 512) (full .0)
+
+pub last-put : packetsOf (withPacket (crowded 511) message) ≡ packetsOf (crowded 511) ++ (message ∷ [])
+last-put =
+    put-meant (crowded 511)
+    (record { heads-length = length-replicate {A = ℕ} capacity (headOf message); doors-length = length-replicate {A = ℕ} capacity 9 })
+    message
+    (record { sender-lt = omega arith; receiver-lt = omega arith; number-lt = omega arith })
+    (omega arith)
