@@ -13,6 +13,8 @@ import subprocess
 import sys
 
 import random_scripts
+import script_makers
+import script_texts
 
 LINE = re.compile(rb"(?:table=ok|step=ok|refused=(?:[1-9]|1[0-3])|column=\d{1,2}|number=\d{1,5}|occupied=\d{1,2}|doors=[\d,]*|rest=(?:yes|no))\n")
 VALGRIND = ["valgrind", "--quiet", "--error-exitcode=9", "--leak-check=no"]
@@ -27,9 +29,9 @@ def inputs(rng, count):
         elif k % 4 == 1:
             yield bytes(rng.choices(alphabet, k=rng.choice([1, 30, 300])))
         elif k % 4 == 2:
-            yield random_scripts.tree(rng).encode() + bytes(rng.choices(alphabet, k=rng.choice([1, 30, 300])))
+            yield script_texts.tree(rng, rng.randint(1, 16)).encode() + bytes(rng.choices(alphabet, k=rng.choice([1, 30, 300])))
         else:
-            yield random_scripts.damaged(rng, random_scripts.guided(rng, rng.choice([3, 20])))
+            yield script_makers.damaged(rng)
 
 
 def answered(data, before=()):

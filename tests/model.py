@@ -1,10 +1,9 @@
 #!/usr/bin/env python3
-"""Document 01's script program, written from the paper: sets as sets, packets as tuples, text by string methods. The words of demand 3
-(received, awaits) are tracked beside the bank, from the steps and their answers. `slips` switches on document 01's slips, to see them caught.
+"""Document 01's script program, written from the paper: sets as sets, packets as tuples, text by patterns. Beside the bank stand the words of
+demand 3 (received, awaits), tracked from the steps and their answers. `tell` is told in words which condition or branch each line met.
 
     python3 tests/model.py < script
 """
-import collections
 import re
 import sys
 
@@ -12,15 +11,22 @@ LIMIT = 65536
 CAPACITY = 512
 HIGHEST = 65535
 NUMERAL = r"(0|[1-9][0-9]?)"
-SLIPS = ("early acknowledgement", "halted child struck out", "early takeover", "awaited kept", "own number answered")
+STEPS = {"order": r"order=([0-9a-f]{16})", "take": r"take=(0|[1-9][0-9]{0,2})", "note": rf"note={NUMERAL},{NUMERAL}",
+         **{name: f"{name}={NUMERAL}" for name in ("send", "ack", "all", "halt", "list")}}
 
 
 class Refused(Exception):
-    """A refusal by document 01's number."""
+    """A refusal by document 01's number, for the condition in the words."""
 
-    def __init__(self, number):
-        super().__init__(number)
+    def __init__(self, number, words):
+        super().__init__(f"{number}: {words}")
         self.number = number
+
+
+def refuse(number, words):
+    """Refuses where there are words."""
+    if words:
+        raise Refused(number, words)
 
 
 class Column:
@@ -33,47 +39,76 @@ class Column:
         self.send, self.awaited, self.owed, self.noted = set(), set(), set(), set()
         self.whole = whole
 
-    def idle(self):
-        return not self.send and not self.awaited
-
 
 class Bank:
-    """A bank with its network, and the history words of demand 3 beside it."""
+    """A bank with its network, and beside it the words of demand 3."""
 
-    def __init__(self, columns, root, up, slips=()):
-        self.root, self.up, self.slips = root, up, slips
+    def __init__(self, columns, root, up, tell):
+        self.root, self.up, self.tell = root, up, tell
         self.columns = [Column(i == root) for i in range(columns)]
         self.network = []
         self.orders = []
         self.received = [0] * columns
         self.awaits = set()
-        self.branches = collections.Counter()
+        self.taken_over = set()
 
     def children(self, i):
         return {c for c, parent in enumerate(self.up) if parent == i and c != self.root}
 
     def acting(self, i):
-        if i >= len(self.columns):
-            raise Refused(4)
-        if not self.columns[i].running:
-            raise Refused(5)
+        refuse(4, i >= len(self.columns) and "no such column")
+        refuse(5, not self.columns[i].running and "halted")
         return self.columns[i]
-
-    def fits(self, packet, gone=0):
-        """9: a packet would raise the network above 512."""
-        if self.columns[packet[2]].running and len(self.network) - gone + 1 > CAPACITY:
-            raise Refused(9)
 
     def put(self, packet):
         if self.columns[packet[2]].running:
+            refuse(9, len(self.network) == CAPACITY and "a full network")
             self.network.append(packet)
+
+    def acknowledge(self, i, owed):
+        self.put(("acknowledgement", i, owed, self.columns[i].number, None))
+        self.columns[i].owed.remove(owed)
+
+    # ---- when send, ack, all and note are refused with 6
+
+    def refused_send(self, i):
+        return not self.columns[i].send and "nobody to send to"
+
+    def refused_ack(self, i):
+        column = self.columns[i]
+        if not column.owed:
+            return "nobody is owed"
+        if not column.whole and column.send:
+            return "own goal, sends"
+        return not column.whole and column.awaited and "own goal, awaits"
+
+    def refused_all(self, i):
+        column = self.columns[i]
+        if i == self.root:
+            return "the root"
+        if self.root not in column.noted:
+            return "the root is not noted"
+        if column.whole:
+            return "goal whole"
+        if column.send:
+            return "sends"
+        return column.awaited and "awaits"
+
+    def refused_note(self, i, j):
+        if j == i:
+            return "itself"
+        if self.columns[j].running:
+            return "it runs"
+        return j in self.columns[i].noted and "noted before"
+
+    # ---- steps
 
     def order(self, doors):
         root = self.acting(self.root)
-        if not root.idle():
-            raise Refused(7)
-        if root.number == HIGHEST:
-            raise Refused(8)
+        refuse(7, root.send and "the root sends")
+        refuse(7, root.awaited and "the root awaits")
+        refuse(8, root.number == HIGHEST and "the highest number")
+        self.tell("the first order" if not self.orders else "a further order after rest" if self.at_rest() else "a further order before rest")
         root.number += 1
         root.doors = doors
         root.send = self.children(self.root)
@@ -82,184 +117,189 @@ class Bank:
 
     def send(self, i):
         column = self.acting(i)
-        if not column.send:
-            raise Refused(6)
+        refuse(6, self.refused_send(i))
         c = min(column.send)
-        message = ("message", i, c, column.number, column.doors)
-        if c != i and c not in column.noted:
-            self.fits(message)
+        if c == i:
+            self.tell("send to itself")
+        elif c in column.noted:
+            self.tell("send to a noted column, whose children join" if self.children(c) else "send to a noted column without children")
+            column.send |= self.children(c)
+        else:
+            self.put(("message", i, c, column.number, column.doors))
+            self.tell("send to a running column" if self.columns[c].running else "send to a halted column, not noted")
+            column.awaited.add(c)
         column.send.remove(c)
         if i == self.root and c not in column.noted:
             self.awaits.add(c)
-        if c == i:
-            self.branches["sent to itself"] += 1
-            return
-        if c in column.noted:
-            self.branches["children of a noted column"] += 1
-            column.send |= self.children(c)
-            return
-        column.awaited.add(c)
-        self.put(message)
 
     def take(self, place):
-        if place >= len(self.network):
-            raise Refused(10)
-        packet = self.network[place]
-        kind, sender, to, number = packet[:4]
+        refuse(10, place >= len(self.network) and "no such place")
+        kind, sender, to, number, doors = self.network[place]
         column = self.columns[to]
+        if kind == "message" and number > column.number and column.owed:
+            self.tell("left take, one owed" if len(column.owed) == 1 else "left take, several owed")
+            if not self.columns[min(column.owed)].running:
+                self.tell("left take, the lowest owed halted")
+            if self.columns[self.root].running:
+                self.tell("left take, the root running")
+            self.acknowledge(to, min(column.owed))
+            return
+        del self.network[place]
         if kind == "acknowledgement":
-            if number == column.number:
-                column.awaited.discard(sender)
-                if to == self.root:
-                    self.awaits.discard(sender)
-            del self.network[place]
-        elif number == column.number:
+            self.take_acknowledgement(sender, to, number)
+            return
+        self.received[to] = max(self.received[to], number)
+        if number == column.number:
+            self.tell("equal number")
             column.owed.add(sender)
-            del self.network[place]
         elif number < column.number:
-            self.branches["lower number"] += 1
-            del self.network[place]
-            self.put(("acknowledgement", to, sender, column.number if "own number answered" in self.slips else number))
-        elif column.owed:
-            self.branches["packet left"] += 1
-            lowest = min(column.owed)
-            answer = ("acknowledgement", to, lowest, column.number)
-            self.fits(answer)
-            column.owed.remove(lowest)
-            self.put(answer)
+            self.tell("lower number answered" if self.columns[sender].running else "lower number from a halted sender")
+            self.put(("acknowledgement", to, sender, number, None))
         else:
-            del self.network[place]
-            self.received[to] = max(self.received[to], number)
-            column.number, column.doors, column.whole = number, packet[4], False
-            column.owed, column.send = {sender}, self.children(to)
-            if "awaited kept" not in self.slips:
-                column.awaited = set()
+            self.receive(sender, to, number, doors)
+
+    def take_acknowledgement(self, sender, to, number):
+        column = self.columns[to]
+        which = "the" if number == column.number else "a lower" if number < column.number else "a higher"
+        self.tell(f"acknowledgement of {which} number, its sender {'awaited' if sender in column.awaited else 'not awaited'}")
+        if number == column.number:
+            column.awaited.discard(sender)
+            if to == self.root:
+                self.awaits.discard(sender)
+
+    def receive(self, sender, to, number, doors):
+        column = self.columns[to]
+        self.tell("received after a takeover" if column.whole else "received with own goal")
+        if column.send or column.awaited:
+            self.tell("received while sending" if column.send else "received while awaiting")
+        column.number, column.doors = number, doors
+        column.whole = False
+        column.owed = {sender}
+        column.awaited = set()
+        column.send = self.children(to)
 
     def ack(self, i):
         column = self.acting(i)
-        if not column.owed or not (column.whole or column.idle() or "early acknowledgement" in self.slips):
-            raise Refused(6)
-        lowest = min(column.owed)
-        answer = ("acknowledgement", i, lowest, column.number)
-        self.fits(answer)
-        column.owed.remove(lowest)
-        self.put(answer)
+        refuse(6, self.refused_ack(i))
+        busy = column.send or column.awaited
+        self.tell("ack with goal whole while busy" if busy else "ack with goal whole, idle" if column.whole else "ack with own goal, idle")
+        if not self.columns[min(column.owed)].running:
+            self.tell("ack, the lowest owed halted")
+        self.acknowledge(i, min(column.owed))
 
     def all(self, i):
         column = self.acting(i)
-        busy = bool(column.send) if "early takeover" in self.slips else not column.idle()
-        if i == self.root or self.root not in column.noted or column.whole or busy:
-            raise Refused(6)
-        self.branches["takeover"] += 1
+        refuse(6, self.refused_all(i))
+        self.tell("takeover of a column that took over before" if i in self.taken_over else "takeover, the first of its column")
+        self.taken_over.add(i)
         column.whole = True
         column.send = {self.root}
 
     def note(self, i, j):
-        if i >= len(self.columns) or j >= len(self.columns):
-            raise Refused(4)
+        refuse(4, j >= len(self.columns) and "no such second column")
         column = self.acting(i)
-        if self.columns[j].running or j == i or j in column.noted:
-            raise Refused(6)
+        refuse(6, self.refused_note(i, j))
         column.noted.add(j)
+        if j in column.awaited:
+            self.tell("note of an awaited column with children" if self.children(j) else "note of an awaited column without children")
+            column.awaited.remove(j)
+            column.send |= self.children(j)
+        else:
+            self.tell("note of a column to send to" if j in column.send else "note of a column neither awaited nor to send to")
         if i == self.root:
             self.awaits.discard(j)
-        if j in column.awaited:
-            self.branches["children of a noted column"] += 1
-            column.awaited.remove(j)
-            if "halted child struck out" not in self.slips:
-                column.send |= self.children(j)
 
     def halt(self, i):
         self.acting(i).running = False
+        if any(packet[1] == i for packet in self.network):
+            self.tell("halt with packets from it under way")
+        if any(packet[2] == i for packet in self.network):
+            self.tell("halt with packets to it under way")
         self.network = [packet for packet in self.network if packet[2] != i]
-
-    def at_rest(self):
-        if self.network:
-            return False
-        for i, column in enumerate(self.columns):
-            if not column.running:
-                continue
-            may_all = i != self.root and self.root in column.noted and not column.whole and column.idle()
-            may_ack = column.owed and (column.whole or column.idle())
-            may_note = any(not other.running and j != i and j not in column.noted for j, other in enumerate(self.columns))
-            if column.send or may_ack or may_all or may_note:
-                return False
-        return True
-
-    def agrees(self):
-        """Demand 3, both halves, on the state as it is."""
-        running = [i for i, column in enumerate(self.columns) if column.running]
-        given = [bytes(8)] + self.orders
-        if self.at_rest():
-            highest = max((self.received[i] for i in running), default=0)
-            if any((self.columns[i].number, self.columns[i].doors) != (highest, given[highest]) for i in running):
-                return False
-        root = self.columns[self.root]
-        if root.running and not root.send and not self.awaits:
-            return all((self.columns[i].number, self.columns[i].doors) == (len(self.orders), given[-1]) for i in running)
-        return True
 
     def list(self, i):
         column = self.acting(i)
         doors = [8 * k + bit + 1 for k in range(8) for bit in range(8) if column.doors[k] >> bit & 1]
-        return (f"column={i}\nnumber={column.number}\noccupied={len(doors)}\ndoors={','.join(map(str, doors))}\n")
+        self.tell("list with doors" if doors else "list without doors")
+        return f"column={i}\nnumber={column.number}\noccupied={len(doors)}\ndoors={','.join(map(str, doors))}\n"
+
+    # ---- rest, and demand 3
+
+    def at_rest(self):
+        columns = range(len(self.columns))
+        return not self.network and all(self.refused_send(i) and self.refused_ack(i) and self.refused_all(i)
+                                        and all(self.refused_note(i, j) for j in columns) for i in columns if self.columns[i].running)
+
+    def agrees(self):
+        """Demand 3, both halves, on the state as it is."""
+        records = {i: (column.number, column.doors) for i, column in enumerate(self.columns) if column.running}
+        given = [bytes(8)] + self.orders
+        if self.at_rest():
+            highest = max((self.received[i] for i in records), default=0)
+            if any(record != (highest, given[highest]) for record in records.values()):
+                return False
+        if self.root in records and not self.columns[self.root].send and not self.awaits:
+            return all(record == (len(self.orders), given[-1]) for record in records.values())
+        return True
 
 
-def table(text, slips=()):
+def table(text, tell):
     """The bank of a table at the start of a text, and what follows it."""
     found = re.match(rf"columns={NUMERAL}\nroot={NUMERAL}\nup=({NUMERAL}(?:,{NUMERAL})*)\n", text)
-    if not found:
-        raise Refused(1)
+    refuse(1, not found and "another form")
     columns, root = int(found.group(1)), int(found.group(2))
     up = [int(numeral) for numeral in found.group(3).split(",")]
-    if not 1 <= columns <= 16:
-        raise Refused(2)
-    if root >= columns or len(up) != columns or any(parent >= columns for parent in up) or up[root] != root:
-        raise Refused(3)
+    refuse(2, columns == 0 and "no column")
+    refuse(2, columns > 16 and "more than 16 columns")
+    refuse(3, root >= columns and "root not below columns")
+    refuse(3, any(parent >= columns for parent in up) and "parent not below columns")
+    refuse(3, len(up) != columns and "another length")
+    refuse(3, up[root] != root and "root not its own parent")
     for c in range(columns):
         for _ in range(columns):
             c = up[c]
-        if c != root:
-            raise Refused(3)
-    return Bank(columns, root, up, slips), text[found.end():]
-
-
-STEPS = [("order", r"order=([0-9a-f]{16})", bytes.fromhex), ("send", rf"send={NUMERAL}", int), ("take", r"take=(0|[1-9][0-9]{0,2})", int),
-         ("ack", rf"ack={NUMERAL}", int), ("all", rf"all={NUMERAL}", int), ("note", rf"note={NUMERAL},{NUMERAL}", int),
-         ("halt", rf"halt={NUMERAL}", int), ("list", rf"list={NUMERAL}", int)]
+        refuse(3, c != root and "a climb that misses the root")
+    return Bank(columns, root, up, tell), text[found.end():]
 
 
 def line(bank, text):
-    """The step that a line asks for, if any, and what it prints."""
-    for name, pattern, value in STEPS:
-        found = re.fullmatch(pattern, text)
-        if found:
-            try:
-                return name, getattr(bank, name)(*map(value, found.groups())) or "step=ok\n"
-            except Refused as refusal:
-                return name, f"refused={refusal.number}\n"
-    return None, "refused=13\n"
-
-
-def script(data, watch=lambda bank, name, printed: None, slips=()):
-    """What the program prints for the bytes of a script; `watch` sees the bank after the table and after every line."""
-    if len(data) > LIMIT:
+    """What a line prints."""
+    name = text.split("=")[0]
+    found = name in STEPS and re.fullmatch(STEPS[name], text)
+    if not found:
+        bank.tell("line refused 13: no such form")
         return "refused=13\n"
     try:
-        bank, rest = table(data.decode("latin-1"), slips)
+        printed = getattr(bank, name)(*map(bytes.fromhex if name == "order" else int, found.groups())) or "step=ok\n"
+        bank.tell(f"{name} accepted")
+        return printed
     except Refused as refusal:
+        bank.tell(f"{name} refused {refusal}")
         return f"refused={refusal.number}\n"
-    texts = ["table=ok\n"]
-    watch(bank, None, texts[0])
+
+
+def run(data, tell):
+    """The texts that the program prints for the bytes of a script, each with the bank after it, if there is one."""
+    try:
+        refuse(13, len(data) > LIMIT and "past the limit")
+        bank, rest = table(data.decode("latin-1"), tell)
+    except Refused as refusal:
+        tell(f"input refused {refusal}")
+        yield f"refused={refusal.number}\n", None
+        return
+    yield "table=ok\n", bank
     *lines, last = rest.split("\n")
     for text in lines:
-        name, printed = line(bank, text)
-        texts.append(printed)
-        watch(bank, name, printed)
+        yield line(bank, text), bank
     if last:
-        texts.append("refused=13\n")
-    texts.append("rest=yes\n" if bank.at_rest() else "rest=no\n")
-    return "".join(texts)
+        tell("line refused 13: unended")
+        yield "refused=13\n", bank
+    yield "rest=yes\n" if bank.at_rest() else "rest=no\n", bank
+
+
+def script(data):
+    """All that the program prints for the bytes of a script."""
+    return "".join(printed for printed, _ in run(data, lambda words: None))
 
 
 if __name__ == "__main__":

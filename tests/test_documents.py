@@ -1,12 +1,28 @@
-"""Every name that docs/SPECIFICATION.md and docs/REPORT.md cite stands in the file that they name for it."""
+"""Every name that a page of docs/ cites stands in the file that it names for it; what README.md shows is run, and what it names is there."""
+import glob
 import os
 import re
+import shutil
+import sys
 import unittest
 
-ROOT = os.path.dirname(os.path.dirname(os.path.abspath(__file__)))
+import model
+from test_scripts import PROGRAM, ROOT, run
+
+sys.path.insert(0, os.path.join(ROOT, "bench"))
+from scripts import SCRIPTS
+from stack import ROUNDS, runs_in
+
+CITING = ("SPECIFICATION.md", "REPORT.md", "PROOFS.md")
 SHORT = re.compile(r"^(column|bank|figure|agreement|closing|edges|handed)/(proofs/)?([A-Za-z_]+)(\.rt)?$")
 WHOLE = re.compile(r"^(crates/.+|tests/.+|docs/.+|examples/.+|crates\.txt|README\.md)$")
+BLOCK = re.compile(r"```\n(.*?)```", re.S)
 QUOTED = re.compile(r'"(?:[^"]|"(?:send|await|exactly)")*"')
+
+
+def spans(text):
+    """What stands between single backquotes."""
+    return re.findall(r"`([^`]+)`", BLOCK.sub("", text))
 
 
 def file_of(word):
@@ -19,11 +35,16 @@ def file_of(word):
     return word if WHOLE.match(word) else None
 
 
+def rows(text):
+    """The cells of each row of a table."""
+    return [[cell.strip() for cell in re.split(r"(?<=\s)\|(?=\s)", line.strip("|"))] for line in text.splitlines() if line.startswith("|")]
+
+
 def cells(table):
     """The parts of a table's cells, each with the file that its column's heading names."""
-    rows = [[cell.strip() for cell in row.strip().strip("|").split(" | ")] for row in table.splitlines()]
-    heads = [next((word for word in re.findall(r"`([^`]+)`", cell) if file_of(word)), "") for cell in rows[0]]
-    for row in rows[2:]:
+    heading, _, *body = rows(table)
+    heads = [next((word for word in spans(cell) if file_of(word)), "") for cell in heading]
+    for row in body:
         for head, cell in zip(heads, row):
             for part in re.split(r';(?=(?:[^"]*"[^"]*")*[^"]*$)', cell):
                 yield part + (f" `{head}`" if head else "")
@@ -31,13 +52,12 @@ def cells(table):
 
 def citations(text):
     """Each name with the file that is named after it."""
-    text = re.sub(r"```.*?```", "", text, flags=re.S)
     text = re.sub(r"## How to read a contract.*?\n## ", "## ", text, flags=re.S)
-    for paragraph in re.split(r"\n\s*\n", text):
+    for paragraph in re.split(r"\n\s*\n", BLOCK.sub("", text)):
         parts = cells(paragraph.strip()) if paragraph.lstrip().startswith("|") else [paragraph]
         for part in parts:
             names = []
-            for word in re.findall(r"`([^`]+)`", QUOTED.sub("", part)):
+            for word in spans(QUOTED.sub("", part)):
                 if file_of(word):
                     yield from ((name, file_of(word)) for name in names)
                     yield None, file_of(word)
@@ -46,19 +66,128 @@ def citations(text):
                     names.append(word)
 
 
-class Documents(unittest.TestCase):
+def read(*parts):
+    with open(os.path.join(ROOT, *parts), encoding="utf8") as file:
+        return file.read()
+
+
+def section(document, heading):
+    return re.search(rf"^## {heading}\n(.*?)(?=^## |\Z)", document, re.M | re.S)[1]
+
+
+def blocks(text):
+    """The lines of the text's blocks of code, without what is said beside them."""
+    return [line.split("#")[0].strip() for block in BLOCK.findall(text) for line in block.splitlines()]
+
+
+class Citations(unittest.TestCase):
+    def stands(self, document, name, path):
+        self.assertTrue(os.path.exists(os.path.join(ROOT, path)), f"{document}: {path}")
+        if name:
+            self.assertRegex(read(path), r"(?<![\w\-·])" + re.escape(name) + r"(?![\w\-])", f"{document}: {name} in {path}")
+
+
+class Documents(Citations):
     def test_every_citation_stands_in_its_file(self):
-        count = 0
-        for document in ("SPECIFICATION.md", "REPORT.md"):
-            with open(os.path.join(ROOT, "docs", document), encoding="utf8") as file:
-                cited = list(citations(file.read()))
-            for name, path in cited:
-                self.assertTrue(os.path.exists(os.path.join(ROOT, path)), f"{document}: {path}")
-                if name:
-                    count += 1
-                    with open(os.path.join(ROOT, path), encoding="utf8") as file:
-                        self.assertRegex(file.read(), r"(?<![\w\-·])" + re.escape(name) + r"(?![\w\-])", f"{document}: {name} in {path}")
-        self.assertGreater(count, 500)
+        cited = {document: list(citations(read("docs", document))) for document in CITING}
+        for document, pairs in cited.items():
+            self.assertGreater(len([name for name, _ in pairs if name]), 20, document)
+            for name, path in pairs:
+                self.stands(document, name, path)
+
+    def test_the_layers_are_the_crates_and_their_modules(self):
+        layers = section(read("docs", "PROOFS.md"), "Layers")
+        self.assertEqual(set(re.findall(r"crates/(\w+)", layers)), set(re.findall(r"^(\w+):", read("crates.txt"), re.M)))
+        libraries = ("column", "bank", "closing")
+        modules = {os.path.relpath(path, ROOT) for crate in libraries for path in glob.glob(os.path.join(ROOT, "crates", crate, "src", "*.rt"))}
+        named = {file_of(word) for word in spans(layers)} - {None}
+        self.assertEqual(named, {path for path in modules if not path.endswith("lib.rt")})
+
+
+class Readme(Citations):
+    @classmethod
+    def setUpClass(cls):
+        cls.text = read("README.md")
+        cls.table = blocks(section(cls.text, "The lines of a script"))
+
+    def rows(self, heading):
+        return rows(section(self.text, heading))[2:]
+
+    def test_the_lines_of_a_script_are_those_of_the_model(self):
+        self.assertEqual(model.script("".join(line + "\n" for line in self.table).encode()), "table=ok\nrest=yes\n")
+        lines = [spans(row[0])[0] for row in self.rows("The lines of a script")]
+        self.assertEqual(sorted(line.split("=")[0] for line in lines), sorted(model.STEPS))
+        for line in lines:
+            self.assertRegex(line, rf"\A{model.STEPS[line.split('=')[0]]}\Z")
+        self.assertEqual(re.findall(r"^  (\w+=\S+) ", read("lockers"), re.M), self.table + lines)
+
+    def test_the_run_prints_what_stands_beside_each_line(self):
+        shown = [(spans(row[0]), spans(row[1])) for row in self.rows("A run in which the root halts")]
+        script = "".join(f"{line}\n" for lines, _ in shown for line in lines)
+        self.assertEqual(script, read("examples", "taken-over.script"))
+        for end in range(len(self.table), len(shown)):
+            given = "".join(f"{lines[0]}\n" for lines, _ in shown[:end])
+            printed = run(given.encode()).decode().splitlines()
+            self.assertEqual(printed[:-1], [line for _, prints in shown[:end] for line in prints], given)
+        self.assertEqual(printed[-1:], shown[-1][1])
+
+    def test_every_refusal_is_met_by_its_example(self):
+        refusals = [(int(row[0]), row[2]) for row in self.rows("The thirteen refusals")]
+        self.assertEqual([number for number, _ in refusals], list(range(1, 14)))
+        told = {number: cell for number, cell in refusals if not any("=" in line for line in spans(cell))}
+        self.assertEqual(set(told), {8, 9, 11, 12})
+        for number, cell in refusals:
+            if number not in told:
+                self.refused(number, spans(cell))
+        for number, cell in told.items():
+            pairs = list(citations(cell))
+            self.assertEqual(len(pairs), 2, cell)
+            for name, path in pairs:
+                self.stands("README.md", name, path)
+                printed = os.path.join(*path.split("/")[:2], "stdout")
+                if os.path.exists(os.path.join(ROOT, printed)):
+                    self.assertRegex(read(printed), rf"(?m): refused {number}\b")
+
+    def refused(self, number, lines):
+        """A line with a key of the table stands in the place of its line; the others follow."""
+        keys = [line.split("=")[0] for line in self.table]
+        tables = {line.split("=")[0]: line for line in self.table + lines}
+        steps = [line for line in lines if line.split("=")[0] not in keys]
+        printed = run("".join(f"{line}\n" for line in [tables[key] for key in keys] + steps).encode()).decode().splitlines()
+        accepted = ["table=ok"] + ["step=ok"] * (len(steps) - 1) if steps else []
+        self.assertEqual(printed[: len(accepted) + 1], accepted + [f"refused={number}"], lines)
+
+    def test_every_example_is_in_the_table(self):
+        named = [name for row in self.rows("Examples") for name in spans(row[0])]
+        for ending in (".script", ".out"):
+            files = glob.glob(os.path.join(ROOT, "examples", "*" + ending))
+            self.assertEqual(sorted(named), sorted(os.path.basename(path).removesuffix(ending) for path in files))
+
+    def test_every_file_and_command_is_there(self):
+        first_run = section(self.text, "The first run")
+        needed = spans(first_run.strip().split("\n\n")[0])
+        self.assertEqual(needed[0], "rt")
+        commands = needed + blocks(first_run) + [spans(row[0])[0] for row in self.rows("Tests")] + ["bench/run"]
+        for command in commands:
+            program = command.split()[0]
+            self.assertIsNotNone(shutil.which(os.path.join(ROOT, program) if "/" in program else program), command)
+        paths = [word for text in spans(self.text) + commands for word in text.split() if "/" in word]
+        self.assertGreater(len(paths), 20)
+        for path in paths:
+            self.assertTrue(os.path.exists(os.path.join(ROOT, path)), path)
+
+    def test_the_program_runs_in_the_stack_that_is_told(self):
+        measured = re.search(r"^\| stack in which `lockers`.*\| (\d+) KB \|$", self.text, re.M)[1]
+        for text in (self.text, read("lockers"), read("docs", "DECISIONS.md")):
+            self.assertEqual(re.findall(r"(\d+) KB of stack", text), [measured])
+        for name, script in SCRIPTS:
+            self.assertTrue(all(runs_in(PROGRAM, script, int(measured)) for _ in range(ROUNDS)), name)
+
+    def test_the_times_of_the_first_build_are_those_of_the_newest_gate(self):
+        crates = ("column", "bank", "closing", "lockers")
+        took = [re.search(rf"\b{crate} (?:takes )?(\d+)\b", section(self.text, "The first run"))[1] for crate in crates]
+        gate = re.search(r"By crate, proof and build in seconds: (.*?);", read("docs", "CHANGES.md"), re.S)[1]
+        self.assertEqual(took, [re.search(rf"\b{crate} (\d+)\b", gate)[1] for crate in crates])
 
 
 if __name__ == "__main__":

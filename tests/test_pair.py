@@ -1,5 +1,6 @@
-"""What the program pair writes, held to document 01's packets by a reader of its own."""
+"""What the program pair writes, held to document 01's packets and trees by a reader of its own."""
 import os
+import re
 import subprocess
 import unittest
 
@@ -20,22 +21,62 @@ def packet(data):
     return kind, sender, receiver, int.from_bytes(data[3:5], "big"), occupied(data[5:]) if kind == 1 else None
 
 
+def listed(columns):
+    return ",".join(map(str, sorted(columns)))
+
+
+class Tree:
+    def __init__(self, root, up):
+        self.root, self.up = root, up
+
+    def children(self, c):
+        """'`up` names each column's parent in order; the root names itself, but is nobody's child'."""
+        return {k for k, parent in enumerate(self.up) if parent == c and k != self.root}
+
+    def subtree(self, c):
+        """'The subtree of a column is the column with the subtrees of its children'."""
+        return {c} | self.subtrees(self.children(c))
+
+    def subtrees(self, columns):
+        """'the subtrees of a list are its first member's with those of the rest'."""
+        return set().union(*map(self.subtree, columns))
+
+    def line(self, c):
+        below = self.children(c)
+        return f"column={c} up={self.up[c]} children={listed(below)} subtrees={listed(self.subtrees(below))} subtree={listed(self.subtree(c))}"
+
+
 class Pair(unittest.TestCase):
     @classmethod
     def setUpClass(cls):
         program = os.path.join(ROOT, "target", "bin", "pair")
-        written = subprocess.run([program], capture_output=True, text=True, check=True).stdout
-        cls.lines = [line.split("=") for line in written.splitlines()]
+        written = subprocess.run([program], capture_output=True, text=True, check=True).stdout.splitlines()
+        tree = written.index("columns=5")
+        cls.exchange, cls.tree = [line.split("=") for line in written[:tree]], written[tree:]
 
     def test_one_message_down_and_one_acknowledgement_up(self):
-        packets = [packet(bytes.fromhex(value)) for key, value in self.lines if key == "packet"]
+        packets = [packet(bytes.fromhex(value)) for key, value in self.exchange if key == "packet"]
         self.assertEqual(packets, [(1, 0, 1, 1, DOORS), (2, 1, 0, 1, None)])
 
     def test_both_columns_hold_the_order(self):
-        values = {key: [value for k, value in self.lines if k == key] for key in ("column", "number", "doors")}
+        values = {key: [value for k, value in self.exchange if k == key] for key in ("column", "number", "doors")}
         self.assertEqual(values["column"], ["0", "1"])
         self.assertEqual(values["number"], ["1", "1"])
         self.assertEqual([occupied(bytes.fromhex(doors)) for doors in values["doors"]], [DOORS, DOORS])
+
+    def test_children_and_subtrees_follow_from_the_parents(self):
+        tree = Tree(2, [int(parent) for parent in re.findall(r" up=(\d+)", "\n".join(self.tree))])
+        self.assertEqual(len(tree.up), 5)
+        self.assertEqual(self.tree, [
+            "columns=5",
+            "root=2",
+            "The subtree of a column is the column with the subtrees of its children:",
+            *map(tree.line, range(5)),
+            "column=5 children refused=4 subtree refused=4",
+            "The subtrees of a list are its first member's with those of the rest:",
+            f"set=1,3 subtrees={listed(tree.subtrees({1, 3}))}",
+            "set=1,5 subtrees refused=4",
+        ])
 
 
 if __name__ == "__main__":

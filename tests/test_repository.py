@@ -14,28 +14,38 @@ def read(path):
         return file.read()
 
 
+def files():
+    """The paths of the repository's files; in a source archive, which has no .git, those of the whole tree but for what .gitignore names."""
+    if os.path.exists(os.path.join(ROOT, ".git")):
+        return subprocess.run(["git", "ls-files"], cwd=ROOT, capture_output=True, text=True, check=True).stdout.splitlines()
+    ignored = {name.strip("/") for name in read(os.path.join(ROOT, ".gitignore")).split()}
+    paths = [os.path.relpath(os.path.join(folder, name), ROOT) for folder, _, names in os.walk(ROOT) for name in names]
+    return [path for path in paths if not ignored & set(path.split(os.sep))]
+
+
 def sources(pattern):
     return sorted(glob.glob(os.path.join(ROOT, "crates", pattern), recursive=True))
 
 
 def public_functions(crate):
-    """Each function that another crate can call, with the text up to its body."""
+    """Each function that another crate can call, with the line before it and the text up to its body."""
     top = os.path.join(ROOT, "crates", crate, "src", "lib.rt")
     if not os.path.exists(top):
         return
     modules = re.findall(r"^pub mod (\w+);", read(top), re.M)
     for path in [top] + [os.path.join(os.path.dirname(top), f"{module}.rt") for module in modules]:
-        for found in re.finditer(r"^pub fn (\w+)(.*?)^\{", read(path), re.M | re.S):
-            yield f"{crate}::{found.group(1)}", found.group(2)
+        for found in re.finditer(r"^(.*)\npub fn (\w+)((?:.|\n)*?)^\{", read(path), re.M):
+            yield f"{crate}::{found.group(2)}", found.group(1), found.group(3)
 
 
 class Repository(unittest.TestCase):
     def test_every_public_function_has_a_contract_and_asks_nothing(self):
         functions = [function for crate in CRATES for function in public_functions(crate)]
-        self.assertGreater(len(functions), 20)
-        for name, text in functions:
+        self.assertGreater(len(functions), 40)
+        for name, before, text in functions:
             self.assertIn("ensures", text, name)
             self.assertNotIn("requires", text, name)
+            self.assertRegex(before, "^// ", f"{name}: no line on what it answers")
 
     def test_every_helper_that_asks_something_is_named_with_its_reason(self):
         table = read(os.path.join(ROOT, "docs", "DECISIONS.md"))
@@ -95,8 +105,8 @@ class Repository(unittest.TestCase):
             self.assertGreater(pairs, 0, path)
 
     def test_no_machine_path(self):
-        texts = subprocess.run(["git", "ls-files"], cwd=ROOT, capture_output=True, text=True, check=True).stdout.split("\n")
-        for name in filter(None, texts):
+        self.assertGreater(len(files()), 100)
+        for name in files():
             found = re.search(r"(?<![\w.])/(opt|work|farm|root|home)/", read(os.path.join(ROOT, name)))
             self.assertTrue(found is None or name == "tests/test_repository.py", f"{name}: {found and found.group(0)}")
 

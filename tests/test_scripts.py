@@ -2,7 +2,9 @@
 import glob
 import os
 import re
+import socket
 import subprocess
+import tty
 import unittest
 
 ROOT = os.path.dirname(os.path.dirname(os.path.abspath(__file__)))
@@ -13,6 +15,15 @@ LIMIT = 65536
 
 def run(data):
     return subprocess.run([PROGRAM], input=data, capture_output=True, check=True).stdout
+
+
+def failing(data):
+    """A descriptor from which the data is read, and then a read fails: a terminal's end whose other end is closed."""
+    near, far = os.openpty()
+    tty.setraw(far)
+    os.write(far, data)
+    os.close(far)
+    return os.fdopen(near, "rb")
 
 
 class Scripts(unittest.TestCase):
@@ -48,6 +59,23 @@ class Scripts(unittest.TestCase):
         printed = b"table=ok\n" + b"column=0\nnumber=0\noccupied=0\ndoors=\n" * lists + b"rest=yes\n"
         self.assertGreater(lists, 9000)
         self.assertEqual(run(TABLE + b"list=0\n" * lists), printed)
+
+    def test_64_texts_are_written_at_a_time(self):
+        near, far = socket.socketpair(socket.AF_UNIX, socket.SOCK_SEQPACKET)
+        with near, far:
+            subprocess.run([PROGRAM], input=TABLE + b"jump=1\n" * 130, stdout=far, check=True)
+            far.close()
+            written = list(iter(lambda: near.recv(LIMIT), b""))
+        self.assertEqual(written, [b"table=ok\n" + b"refused=13\n" * 63, b"refused=13\n" * 64, b"refused=13\n" * 3 + b"rest=yes\n"])
+
+    def test_a_read_that_fails_is_the_end_of_the_script(self):
+        data = TABLE + b"send=0\norder=01"
+        with failing(data) as script:
+            self.assertEqual(script.raw.read(len(data)), data)
+            self.assertRaises(OSError, script.raw.read, 1)
+        with failing(data) as script:
+            printed = subprocess.run([PROGRAM], stdin=script, capture_output=True, check=True).stdout
+        self.assertEqual(printed, b"table=ok\nrefused=6\nrefused=13\nrest=yes\n")
 
     def test_unended_and_empty(self):
         self.assertEqual(run(b""), b"refused=1\n")

@@ -5,6 +5,10 @@ HERE = os.path.dirname(os.path.abspath(__file__))
 ROOT = os.path.dirname(os.path.dirname(HERE))
 # An edit that only makes the proof file unfit for the code shows nothing.
 UNFIT = re.compile(r"has no `Need-|no field `|was not admitted|not in scope|expected type `tie\.")
+# What a need of a function's proof asks, by how its name begins or ends.
+FACTS = ((r"(.*-)?returns(-\d+)?$", "would not answer what it ensures"), (r"loop\d*-holds", "would begin its loop without the invariant"),
+         (r"loop\d*-again", "would not keep the invariant of its loop"), (r"loop\d*-less", "would come no nearer to the end of its loop"),
+         (r".*-requires(-\d+)?$", "would call a function without what that asks"), (r"(slice|index|element|part|mul|add|sub|cast|sh[lr])-", "would leave its bounds"))
 
 
 def copied(folder, *left_out):
@@ -13,14 +17,34 @@ def copied(folder, *left_out):
     return copy
 
 
+def function_of(path, line):
+    """The function that a proof file is of, or whose text begins at a line of a source; None where a law is meant."""
+    if path.endswith("Proof.antt"):
+        return os.path.basename(os.path.dirname(path))
+    if path.endswith(".rt"):
+        with open(path, encoding="utf8") as file:
+            return re.search(r"fn (\w+)", file.read().split("\n")[line - 1]).group(1)
+    return None
+
+
+def in_words(path, line, name):
+    """The fact of a name that no longer holds: a function's own, what its proof rests on, or a law."""
+    function = function_of(path, line)
+    if function is None:
+        return f"the law `{name}` no longer holds"
+    told = next((words for pattern, words in FACTS if re.match(pattern, name)), None)
+    return f"`{function}` {told}" if told else f"`{name}`, on which the proof of `{function}` rests, no longer holds"
+
+
 def first_error(log):
-    """Where the first fact is that no longer holds, or None. A function with no proof file tells it in a note."""
+    """The first fact that no longer holds, in words and with its place, or None. A function with no proof file tells it in a note."""
     with open(log, encoding="utf8") as file:
-        for line in file:
-            told = re.match(r"note: (\S+): (it is not proved that .*)", line) or re.match(r"(\S+): error: (.*)", line)
-            if told and not UNFIT.search(line):
-                place = re.sub(r"^.*/(proofs|specs|src)/", r"\1/", told.group(1))
-                return f"{place} {told.group(2)[:110]}"
+        for text in file:
+            told = re.match(r"note: (\S+?):(\d+):\d+: it is not proved that .*\(`(\S+)`\)", text) or re.match(r"(\S+?):(\d+):\d+: error: `(\S+)`: ", text)
+            if told and not UNFIT.search(text):
+                path, line, name = told.group(1), int(told.group(2)), told.group(3)
+                place = re.sub(r"^.*/(proofs|specs|src)/", r"\1/", path)
+                return f"{in_words(path, line, name)} ({place}, {name})"
     return None
 
 

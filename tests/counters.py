@@ -1,0 +1,91 @@
+"""What random scripts must meet, each LEAST times on every seed: every step accepted, every condition of a refusal that a script can meet, every
+branch of every step, every kind of rest, every form near to an accepted one. The model tells the first three."""
+import collections
+
+import model
+import script_texts
+import script_walks
+
+LEAST = 20
+REFUSALS = {
+    "order": ["5: halted", "7: the root sends", "7: the root awaits"],
+    "send": ["4: no such column", "5: halted", "6: nobody to send to"],
+    "take": ["10: no such place"],
+    "ack": ["4: no such column", "5: halted", "6: nobody is owed", "6: own goal, sends", "6: own goal, awaits"],
+    "all": ["4: no such column", "5: halted", "6: the root", "6: the root is not noted", "6: goal whole", "6: sends", "6: awaits"],
+    "note": ["4: no such column", "4: no such second column", "5: halted", "6: itself", "6: it runs", "6: noted before"],
+    "halt": ["4: no such column", "5: halted"],
+    "list": ["4: no such column", "5: halted"],
+    "line": ["13: no such form", "13: unended"],
+    "input": ["1: another form", "2: no column", "2: more than 16 columns", "3: root not below columns", "3: parent not below columns",
+              "3: another length", "3: root not its own parent", "3: a climb that misses the root", "13: past the limit"],
+}
+# The model knows more words, and they fail the run where it tells them: an acknowledgement of a higher number (it has the number of a message that its
+# receiver sent, and numbers rise), 8 (65,535 orders do not fit into a script) and 9 (the fullest network that is known has 420 packets).
+BRANCHES = [
+    "the first order", "a further order after rest", "a further order before rest",
+    "send to itself", "send to a noted column, whose children join", "send to a noted column without children", "send to a running column",
+    "send to a halted column, not noted",
+    "acknowledgement of the number, its sender awaited", "acknowledgement of the number, its sender not awaited",
+    "acknowledgement of a lower number, its sender awaited", "acknowledgement of a lower number, its sender not awaited",
+    "equal number", "lower number answered", "lower number from a halted sender",
+    "left take, one owed", "left take, several owed", "left take, the lowest owed halted", "left take, the root running",
+    "received with own goal", "received after a takeover", "received while sending", "received while awaiting",
+    "ack with goal whole while busy", "ack with goal whole, idle", "ack with own goal, idle", "ack, the lowest owed halted",
+    "takeover, the first of its column", "takeover of a column that took over before",
+    "note of an awaited column with children", "note of an awaited column without children", "note of a column to send to",
+    "note of a column neither awaited nor to send to",
+    "halt with packets from it under way", "halt with packets to it under way",
+    "list with doors", "list without doors",
+]
+RESTS = ["rest with the root running", "rest with the root halted", "rest with nobody running", "no rest, several steps are left",
+         *(f"no rest, only {step} is left" for step in ("take", "send", "ack", "all", "note"))]
+FORMS = script_texts.patterns(script_texts.FORMS)
+TABLE_FORMS = script_texts.patterns(script_texts.TABLE_FORMS)
+WANTED = ([f"{step} accepted" for step in model.STEPS] + [f"{step} refused {words}" for step, conditions in REFUSALS.items() for words in conditions]
+          + BRANCHES + RESTS + [name for name, _ in FORMS + TABLE_FORMS] + ["input at the limit"])
+
+
+def rest(bank):
+    """Which kind of rest it is, or what is left to do."""
+    left = {line.split("=")[0] for line in script_walks.moves(bank)}
+    if left:
+        return f"no rest, only {left.pop()} is left" if len(left) == 1 else "no rest, several steps are left"
+    if bank.columns[bank.root].running:
+        return "rest with the root running"
+    return "rest with the root halted" if any(column.running for column in bank.columns) else "rest with nobody running"
+
+
+class Counters:
+    """What the model met, and whether demand 3 held after every line."""
+
+    def __init__(self):
+        self.met = collections.Counter()
+        self.lines = 0
+        self.most_packets = 0
+        self.agreed = True
+
+    def tell(self, words):
+        self.met[words] += 1
+
+    def script(self, data):
+        """What the model prints for a script."""
+        texts = []
+        for text, bank in model.run(data, self.tell):
+            texts.append(text)
+            if bank:
+                self.lines += 1
+                self.most_packets = max(self.most_packets, len(bank.network))
+                self.agreed = self.agreed and bank.agrees()
+        text = data.decode("latin-1")
+        if bank:
+            self.tell(rest(bank))
+            self.met.update({name: len(pattern.findall(text)) for name, pattern in FORMS})
+        else:
+            self.met.update(name for name, pattern in TABLE_FORMS if pattern.search(text))
+        self.met["input at the limit"] += len(data) == model.LIMIT
+        return "".join(texts)
+
+    def faults(self):
+        """What was met too seldom, and what was told that nobody wants."""
+        return [f"{name}: {self.met[name]}" for name in WANTED if self.met[name] < LEAST] + [name for name in self.met if name not in WANTED]

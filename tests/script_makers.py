@@ -1,0 +1,162 @@
+"""Scripts made at random: orders brought to rest or left half way, columns that halt where it matters, a root that halts late and columns that race
+to take over, lines and tables near to the accepted ones, inputs at the limit. Each maker is given a random.Random and answers the bytes of a script."""
+import model
+import script_texts
+from script_walks import Script, between, root_idle
+
+
+# ---- banks
+
+def calm(rng):
+    """Orders one after the other, each brought to rest, or only until the root may give the next; columns halt, but not the root."""
+    script = Script(rng, script_texts.tree(rng, rng.randint(2, 7)))
+    for _ in range(rng.randint(2, 4)):
+        script.order()
+        script.walk(rng.choice([0, 5, 20]), halts=rng.choice([0, 0.1, 0.2]))
+        script.until(rng.choice([root_idle, model.Bank.at_rest]))
+        if rng.random() < 0.3:
+            script.halt()
+    if rng.random() < 0.2:
+        script.do(f"halt={script.bank.root}")
+    return script.finish()
+
+
+def unserved(rng):
+    """A column halts that is awaited by one and owed by another, who leaves it unserved until the next order comes."""
+    script = Script(rng, script_texts.tree(rng, rng.randint(3, 7)))
+    columns = script.bank.columns
+    serving = lambda line: line.startswith("ack") and not columns[min(columns[int(line.split("=")[1])].owed)].running
+    for _ in range(3):
+        script.order()
+        script.until(between, serving)
+        script.halt()
+        script.until(root_idle, serving)
+    script.walk(10)
+    return script.finish()
+
+
+def race(rng):
+    """An order is half way when the root halts; the others take over, some before they receive the order and once more after it."""
+    script = Script(rng, script_texts.tree(rng, rng.randint(3, 6)))
+    for _ in range(rng.randint(0, 2)):
+        script.order()
+        script.until(model.Bank.at_rest)
+    script.order()
+    script.walk(rng.choice([1, 3, 6]))
+    script.take_over()
+    if rng.random() < 0.5:
+        script.take_equal(script.running())
+    if rng.random() < 0.5:
+        script.halt()
+    script.walk(rng.choice([20, 60]), halts=rng.choice([0, 0.05, 0.1]))
+    return script.finish()
+
+
+def sleeping(rng):
+    """Columns take over before they receive an order and once more after it, while others sleep. Then come the packets that were held back."""
+    script = Script(rng, script_texts.tree(rng, rng.randint(4, 7)))
+    script.order()
+    script.until(model.Bank.at_rest)
+    script.order()
+    script.send_all(script.bank.root)
+    script.take_over()
+    sleepers = sorted(script.running(), key=lambda i: not script.bank.children(i))[:rng.randint(0, 2)]
+    script.take_equal(sleepers)
+
+    def held(line):
+        step, given = line.split("=")
+        if step != "take":
+            return step == "ack" and int(given) in sleepers
+        kind, _, to, number, _ = script.bank.network[int(given)]
+        return number == 1 or to in sleepers or kind == "acknowledgement" and script.bank.columns[to].whole
+
+    script.until(model.Bank.at_rest, held)
+    script.walk(40, halts=rng.choice([0, 0.05]))
+    return script.finish()
+
+
+def crowded(rng):
+    """The fullest network that is known: the root halts with its order under way, and every other column takes over before it receives the order
+    and once more after it."""
+    root = rng.randrange(16)
+    script = Script(rng, script_texts.table(16, root, [root] * 16))
+    script.order()
+    script.send_all(root)
+    script.do(f"halt={root}")
+    others = [i for i in range(16) if i != root]
+    for i in others:
+        script.do(f"note={i},{root}")
+        script.do(f"all={i}")
+        script.send_all(i)
+    for i in others:
+        script.do(f"take={[packet[1:3] for packet in script.bank.network].index((root, i))}")
+        script.do(f"ack={i}")
+        script.do(f"all={i}")
+        script.send_all(i)
+    return script.finish("rest")
+
+
+def wandering(rng):
+    """Steps of any kind in any bank."""
+    script = Script(rng, script_texts.tree(rng, rng.choice([1, 2, 3, 4, 8, 16, rng.randint(1, 16)])))
+    script.walk(rng.choice([5, 40, 80]), halts=rng.choice([0, 0.02, 0.1]), orders=rng.choice([0.05, 0.2]))
+    if rng.random() < 0.3:
+        script.do(f"halt={script.bank.root}")
+        script.walk(40, halts=rng.choice([0, 0.1]))
+    return script.finish()
+
+
+# ---- texts
+
+def blind(rng):
+    """Lines of any numbers, and lines near to the forms, among accepted steps."""
+    columns = rng.randint(1, 8)
+    script = Script(rng, script_texts.tree(rng, columns))
+    for _ in range(30):
+        script.do(script_texts.line(rng, columns))
+        script.do(script_texts.near(rng, rng.choice(rng.choice(script_texts.FORMS)[1:])))
+        script.walk(2)
+    return script.finish()
+
+
+def unended(rng):
+    """A script, or a table alone, with its last bytes cut off."""
+    data = rng.choice([calm(rng), script_texts.tree(rng, rng.randint(1, 16)).encode()])
+    return data[:-rng.choice([1, 1, 2, 3, 10])]
+
+
+def damaged(rng):
+    return script_texts.damaged(rng, calm(rng))
+
+
+def filled(rng, size):
+    """A script that one line fills up to a size, ended or not."""
+    data = calm(rng) + rng.choice([b"send=0", b"x", b""])
+    return data.ljust(size - 1, b"0") + rng.choice([b"\n", b"0"])
+
+
+def at_limit(rng):
+    return filled(rng, model.LIMIT)
+
+
+def past_limit(rng):
+    return filled(rng, model.LIMIT + 1)
+
+
+def refused_tables(rng):
+    """Tables of every near form and with every wrong number, and lines that must not be read."""
+    for k in range(30):
+        tables = [script_texts.malformed_table(rng, templates[k % len(templates)]) for _, *templates in script_texts.TABLE_FORMS]
+        tables += [script_texts.no_tree(rng, wrong) for wrong in range(script_texts.WRONG)]
+        yield from (f"{table}send=0\nlist=0\n".encode() for table in tables)
+
+
+MAKERS = [(calm, 200), (unserved, 80), (race, 200), (sleeping, 120), (crowded, 1), (wandering, 60), (blind, 70), (unended, 60), (damaged, 60),
+          (at_limit, 25), (past_limit, 25)]
+
+
+def scripts(rng):
+    """Every kind of script, in its number."""
+    yield from refused_tables(rng)
+    for maker, count in MAKERS:
+        yield from (maker(rng) for _ in range(count))
