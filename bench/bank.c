@@ -135,14 +135,20 @@ uint8_t bank_note(struct bank *b, size_t i, size_t j) {
     return 0;
 }
 
-uint8_t bank_halt(struct bank *b, size_t i) {
-    uint8_t refusal = acting_refusal(b, i);
+uint8_t bank_halt(struct bank *b, uint32_t set) {
+    uint8_t refusal = bank_refusal(b);
     if (refusal)
         return refusal;
-    b->columns[i].running = false;
+    if (set >> b->tree.columns)
+        return 4;
+    for (uint32_t rest = set; rest; rest &= rest - 1)
+        if (!b->columns[__builtin_ctz(rest)].running)
+            return 5;
+    for (uint32_t rest = set; rest; rest &= rest - 1)
+        b->columns[__builtin_ctz(rest)].running = false;
     size_t kept = 0;
     for (size_t k = 0; k < b->count; k++)
-        if (b->packets[k].to != i)
+        if (!(set >> b->packets[k].to & 1))
             b->packets[kept++] = b->packets[k];
     b->count = kept;
     return 0;

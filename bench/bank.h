@@ -20,7 +20,8 @@ uint8_t bank_take(struct bank *b, size_t place);
 uint8_t bank_ack(struct bank *b, size_t i);
 uint8_t bank_all(struct bank *b, size_t i);
 uint8_t bank_note(struct bank *b, size_t i, size_t j);
-uint8_t bank_halt(struct bank *b, size_t i);
+/* A set of columns; bit 16 stands for every number that no bank has. */
+uint8_t bank_halt(struct bank *b, uint32_t set);
 
 /* Rows 2 to 5 for an acting column, as the list too is refused. */
 uint8_t acting_refusal(const struct bank *b, size_t i);

@@ -55,7 +55,19 @@ static void sent(uint64_t lap) {
     bank_send(&bank, 0);
 }
 
+/* The columns of a set halt, none of which a packet is for, and run again before the next lap. */
+static void halted(uint32_t set, uint64_t lap) {
+    for (uint32_t rest = set; rest; rest &= rest - 1)
+        bank.columns[__builtin_ctz(rest)].running = true;
+    bank.columns[0].doors = lap;
+    bank_halt(&bank, set);
+}
+
 static void bank_lap(char letter, uint64_t lap) {
+    if (letter == 'H' || letter == 'S') {
+        halted(letter == 'H' ? 32768 : 65528, lap);
+        return;
+    }
     if (letter == 'N') {
         bank.columns[0].send = 0;
         bank.columns[0].awaited = 4;
@@ -77,6 +89,7 @@ static uint64_t bank_laps(char letter, uint64_t columns, uint64_t packets, uint6
         const struct column *c = &bank.columns[0];
         uint64_t sets = (uint64_t)c->send + c->awaited + c->noted + bank.columns[1].owed;
         sum = fold(sum, sets + bank.count % 65536 + bank.packets[0].doors % 65536);
+        sum = fold(fold(sum, bank.columns[3].running), bank.columns[15].running);
     }
     return sum;
 }

@@ -150,6 +150,20 @@ static uint8_t noted(struct cursor *c) {
     return bank_note(&bank, i, j);
 }
 
+/* Bit 16 stands for every number that no bank has. */
+static uint8_t halted(struct cursor *c) {
+    uint32_t set = 0;
+    size_t i;
+    if (!literal(c, "halt="))
+        return 13;
+    do {
+        if (!numeral(c, 2, &i))
+            return 13;
+        set |= 1u << (i < 16 ? i : 16);
+    } while (literal(c, ","));
+    return c->at == c->end ? bank_halt(&bank, set) : 13;
+}
+
 /* The refusal of a line that is not a list. */
 static uint8_t step(struct cursor *c) {
     size_t n;
@@ -162,7 +176,7 @@ static uint8_t step(struct cursor *c) {
             return bank_ack(&bank, n);
         return numbered(c, "all=", 2, &n) ? bank_all(&bank, n) : 13;
     case 'n': return noted(c);
-    case 'h': return numbered(c, "halt=", 2, &n) ? bank_halt(&bank, n) : 13;
+    case 'h': return halted(c);
     default: return 13;
     }
 }

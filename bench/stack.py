@@ -2,7 +2,7 @@
 import resource
 import subprocess
 
-ROUNDS = 15
+ROUNDS = 60
 
 
 def runs_in(program, given, kilobytes):

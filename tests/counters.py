@@ -14,7 +14,7 @@ REFUSALS = {
     "ack": ["4: no such column", "5: halted", "6: nobody is owed", "6: own goal, sends", "6: own goal, awaits"],
     "all": ["4: no such column", "5: halted", "6: the root", "6: the root is not noted", "6: goal whole", "6: sends", "6: awaits"],
     "note": ["4: no such column", "4: no such second column", "5: halted", "6: itself", "6: it runs", "6: noted before"],
-    "halt": ["4: no such column", "5: halted"],
+    "halt": ["4: no such column", "4: no such later column", "5: halted", "5: a later one halted"],
     "list": ["4: no such column", "5: halted"],
     "line": ["13: no such form", "13: unended"],
     "input": ["1: another form", "2: no column", "2: more than 16 columns", "3: root not below columns", "3: parent not below columns",
@@ -35,6 +35,7 @@ BRANCHES = [
     "takeover, the first of its column", "takeover of a column that took over before",
     "note of an awaited column with children", "note of an awaited column without children", "note of a column to send to",
     "note of a column neither awaited nor to send to",
+    "halt of one column", "halt of several columns", "halt with a column named twice", "halt of more than sixteen numerals",
     "halt with packets from it under way", "halt with packets to it under way",
     "list with doors", "list without doors",
 ]

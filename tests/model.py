@@ -1,5 +1,5 @@
 #!/usr/bin/env python3
-"""Document 01's script program, written from the paper: sets as sets, packets as tuples, text by patterns. Beside the bank stand the words of
+"""The script program of document 01, with Point 1 of document 02, written from the papers: sets as sets, packets as tuples, text by patterns. Beside the bank stand the words of
 demand 3 (received, awaits), tracked from the steps and their answers. `tell` is told in words which condition or branch each line met.
 
     python3 tests/model.py < script
@@ -11,8 +11,9 @@ LIMIT = 65536
 CAPACITY = 512
 HIGHEST = 65535
 NUMERAL = r"(0|[1-9][0-9]?)"
-STEPS = {"order": r"order=([0-9a-f]{16})", "take": r"take=(0|[1-9][0-9]{0,2})", "note": rf"note={NUMERAL},{NUMERAL}",
-         **{name: f"{name}={NUMERAL}" for name in ("send", "ack", "all", "halt", "list")}}
+NUMERALS = "({0}(?:,{0})*)".format(NUMERAL.replace("(", "(?:"))
+STEPS = {"order": r"order=([0-9a-f]{16})", "take": r"take=(0|[1-9][0-9]{0,2})", "note": rf"note={NUMERAL},{NUMERAL}", "halt": f"halt={NUMERALS}",
+         **{name: f"{name}={NUMERAL}" for name in ("send", "ack", "all", "list")}}
 
 
 class Refused(Exception):
@@ -209,13 +210,22 @@ class Bank:
         if i == self.root:
             self.awaits.discard(j)
 
-    def halt(self, i):
-        self.acting(i).running = False
-        if any(packet[1] == i for packet in self.network):
+    def halt(self, first, *later):
+        named, columns = [first, *later], {first, *later}
+        refuse(4, first >= len(self.columns) and "no such column")
+        refuse(4, any(i >= len(self.columns) for i in later) and "no such later column")
+        refuse(5, not self.columns[first].running and "halted")
+        refuse(5, any(not self.columns[i].running for i in later) and "a later one halted")
+        self.tell("halt of one column" if len(columns) == 1 else "halt of several columns")
+        if len(columns) < len(named):
+            self.tell("halt with a column named twice" if len(named) <= 16 else "halt of more than sixteen numerals")
+        if any(packet[1] in columns for packet in self.network):
             self.tell("halt with packets from it under way")
-        if any(packet[2] == i for packet in self.network):
+        if any(packet[2] in columns for packet in self.network):
             self.tell("halt with packets to it under way")
-        self.network = [packet for packet in self.network if packet[2] != i]
+        for i in columns:
+            self.columns[i].running = False
+        self.network = [packet for packet in self.network if packet[2] not in columns]
 
     def list(self, i):
         column = self.acting(i)
@@ -243,12 +253,16 @@ class Bank:
         return True
 
 
+def numbers(text):
+    return [int(numeral) for numeral in text.split(",")]
+
+
 def table(text, tell):
     """The bank of a table at the start of a text, and what follows it."""
-    found = re.match(rf"columns={NUMERAL}\nroot={NUMERAL}\nup=({NUMERAL}(?:,{NUMERAL})*)\n", text)
+    found = re.match(rf"columns={NUMERAL}\nroot={NUMERAL}\nup={NUMERALS}\n", text)
     refuse(1, not found and "another form")
     columns, root = int(found.group(1)), int(found.group(2))
-    up = [int(numeral) for numeral in found.group(3).split(",")]
+    up = numbers(found.group(3))
     refuse(2, columns == 0 and "no column")
     refuse(2, columns > 16 and "more than 16 columns")
     refuse(3, root >= columns and "root not below columns")
@@ -270,7 +284,8 @@ def line(bank, text):
         bank.tell("line refused 13: no such form")
         return "refused=13\n"
     try:
-        printed = getattr(bank, name)(*map(bytes.fromhex if name == "order" else int, found.groups())) or "step=ok\n"
+        asked = [bytes.fromhex(found.group(1))] if name == "order" else numbers(",".join(found.groups()))
+        printed = getattr(bank, name)(*asked) or "step=ok\n"
         bank.tell(f"{name} accepted")
         return printed
     except Refused as refusal:

@@ -5,6 +5,7 @@ import re
 # A field of a template: the pattern that knows it, and how it is made.
 FIELDS = {
     "step": ("(?:send|ack|all|halt|list)", lambda rng: rng.choice(["send", "ack", "all", "halt", "list"])),
+    "single": ("(?:send|ack|all|list)", lambda rng: rng.choice(["send", "ack", "all", "list"])),
     "shout": ("(?:SEND|Send|ACK|List)", lambda rng: rng.choice(["SEND", "Send", "ACK", "List"])),
     "digit": ("[0-9]", lambda rng: str(rng.randrange(10))),
     "column": ("(?:1[0-5]|[0-9])", lambda rng: str(rng.choice([0, 1, 2, rng.randrange(16)]))),
@@ -29,8 +30,10 @@ FORMS = [
     ("no numeral", "{step}=", "take=", "note=,", "order="),
     ("note of one column", "note={column}", "note={column},", "note=,{column}"),
     ("note of three columns", "note={column},{column},{column}"),
-    ("two columns where one is asked for", "{step}={column},{column}"),
+    ("two columns where one is asked for", "{single}={column},{column}"),
     ("trailing comma", "{step}={column},", "note={column},{column},"),
+    ("empty numeral in a halt", "halt=,{column}", "halt={column},,{column}", "halt={column},{column},"),
+    ("bad numeral in a halt", "halt={column},0{digit}", "halt={column},{three}", "halt={three},{column}", "halt={column}, {column}"),
     ("space before", " {line}"),
     ("space after", "{line} "),
     ("space within", "{step}= {column}", "{step} ={column}", "note={column}, {column}"),
@@ -74,7 +77,8 @@ def line(rng, columns):
     """A line of its form, with numbers of the bank and others."""
     number = lambda: rng.choice([rng.randrange(columns), rng.randrange(columns), columns, rng.randrange(100)])
     return rng.choice([f"order={rng.randbytes(8).hex()}", f"send={number()}", f"take={rng.choice([0, 1, rng.randrange(1000)])}", f"ack={number()}",
-                       f"all={number()}", f"note={number()},{number()}", f"halt={number()}", f"list={number()}"])
+                       f"all={number()}", f"note={number()},{number()}", f"halt={number()}", f"halt={number()},{number()}",
+                       f"list={number()}"])
 
 
 # ---- tables

@@ -45,7 +45,10 @@ def refusals(bank):
     lines = collections.defaultdict(list)
     for step, numbers in asked(bank, range(len(bank.columns))):
         lines[step, refused(bank, step, numbers) or "not"].append(written(step, numbers))
-    lines["halt"] = [f"halt={i}" for i, column in enumerate(bank.columns) if not column.running]
+    running, halted = ([i for i, column in enumerate(bank.columns) if column.running is runs] for runs in (True, False))
+    lines["halt"] = [f"halt={i}" for i in halted]
+    lines["halt, a later one halted"] = [f"halt={i},{j}" for i in running for j in halted]
+    lines["halt, a later one not below columns"] = [f"halt={i},{len(bank.columns)}" for i in running + halted]
     lines["take"] = [f"take={len(bank.network)}"]
     return [group for key, group in lines.items() if group and "not" not in key]
 
@@ -151,11 +154,18 @@ class Script:
         rarer, others = ([columns & set(running) for columns in sets if columns & set(running)] for sets in decisive(self.bank))
         halting = sorted(self.rng.choice(rarer or others or [running]))
         if halting:
-            i = self.rng.choice(halting)
-            self.do(f"halt={i}")
+            strip = self.strip(self.rng.choice(halting))
+            self.do(f"halt={','.join(map(str, strip))}")
             self.do(f"take={len(self.bank.network)}")
             for other in self.running() * (self.rng.random() < 0.5):
-                self.do(f"note={other},{i}")
+                for i in set(strip):
+                    self.do(f"note={other},{i}")
+
+    def strip(self, i):
+        """Columns that halt with i, mostly none; some are named twice, and some so often that there are more numerals than columns."""
+        others = self.running()[:self.rng.randint(1, 2)] if self.rng.random() < 0.25 else []
+        named = self.rng.choice([[i] + others, others + [i]])
+        return named * self.rng.choice([1, 1, 1, 2] + [17] * (self.rng.random() < 0.3))
 
     def tempt(self):
         """A refused line, each condition as often as the others that can be met; or an order or a list, which may be."""
@@ -210,4 +220,5 @@ class Script:
                 size = len(self.lines)
         columns = range(len(self.bank.columns))
         last = [f"halt={i}" for i in self.rng.sample(columns, len(columns))] if end == "nobody" else []
+        last = [f"halt={','.join(map(str, columns))}"] if last and self.rng.random() < 0.3 else last
         return (self.table + "".join(f"{line}\n" for line in self.lines[:size] + [f"list={i}" for i in columns] + last)).encode("latin-1")

@@ -6,7 +6,7 @@ import unittest
 
 ROOT = os.path.dirname(os.path.dirname(os.path.abspath(__file__)))
 # name, step and its parameters, answer, whether the state is as it was, and what the step did
-STEP = re.compile(r"(.+), (order|send|take|ack|all|note|halt) ([\d ]+): (ok|refused \d+), (unchanged|changed, rewritten \{(\d*)\})(.*)")
+STEP = re.compile(r"(.+), (order|send|take|ack|all|note|halt) ([\d ]+|\{[\d,]*\}): (ok|refused \d+), (unchanged|changed, rewritten (\{[\d,]*\}))(.*)")
 
 
 class Handed(unittest.TestCase):
@@ -20,8 +20,8 @@ class Handed(unittest.TestCase):
         cls.lines = lines
 
     def test_the_count_of_cases(self):
-        self.assertEqual((len(self.steps), len(self.rest), len(self.comparisons)), (212, 29, 17))
-        self.assertEqual(len(self.lines), 212 + 29 + 17)
+        self.assertEqual((len(self.steps), len(self.rest), len(self.comparisons)), (221, 29, 17))
+        self.assertEqual(len(self.lines), 221 + 29 + 17)
         self.assertEqual(len({line.split(": ")[0] for line in self.lines}), len(self.lines))
 
     def test_the_comparison_sees_every_part(self):
@@ -29,13 +29,16 @@ class Handed(unittest.TestCase):
 
     def test_a_refused_step_changes_nothing_and_an_accepted_one_something(self):
         for found in self.steps:
-            self.assertEqual(found[4] != "ok", found[5] == "unchanged", found[0])
+            self.assertEqual(found[4] != "ok" or found[3] == "{}", found[5] == "unchanged", found[0])
 
-    def test_an_accepted_step_rewrites_at_most_the_column_it_names(self):
+    def test_an_accepted_step_rewrites_at_most_the_columns_it_names(self):
         for found in self.steps:
-            self.assertIn(found[6] or "", ("", "0", "1", "2"), found[0])
-            if found[6] and found[2] in ("send", "ack", "all", "note", "halt"):
-                self.assertEqual(found[6], found[3].split()[0], found[0])
+            if found[2] == "halt":
+                self.assertIn(found[6], (None, found[3]), found[0])
+            elif found[6]:
+                self.assertIn(found[6], ("{}", "{0}", "{1}", "{2}"), found[0])
+                if found[2] not in ("order", "take") and found[6] != "{}":
+                    self.assertEqual(found[6], f"{{{found[3].split()[0]}}}", found[0])
 
     def test_every_number_of_a_step_and_every_step_occur(self):
         self.assertEqual({found[4] for found in self.steps}, {"ok"} | {f"refused {n}" for n in range(2, 11)})
@@ -60,7 +63,7 @@ class Handed(unittest.TestCase):
 
     def test_nothing_unused_is_touched(self):
         kept = [line for line in self.lines if line.endswith(" kept")]
-        self.assertEqual(len(kept), 10)
+        self.assertEqual(len(kept), 13)
         self.assertFalse([line for line in self.lines if line.endswith(" lost")])
 
 

@@ -6,7 +6,8 @@ import unittest
 
 ROOT = os.path.dirname(os.path.dirname(os.path.abspath(__file__)))
 LONE = [f"{letter} 1000" for letter in "osmealnhr"]
-BANK = [f"{letter} {columns} {packets} 200" for letter in "NT" for columns in ("03", "16") for packets in ("002", "100", "400", "512")]
+BANK = [f"{letter} {columns} {packets} 200" for letter, sizes in (("N", ("03", "16")), ("T", ("03", "16")), ("H", ("16",)), ("S", ("16",)))
+        for columns in sizes for packets in ("002", "100", "400", "512")]
 
 
 def folded(program, line):

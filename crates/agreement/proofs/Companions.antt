@@ -45,7 +45,7 @@ module _ (w : World) (r : Reached w) where
       )
 
   ordered : Ordered w
-  ordered = record { gives = λ d s' e. let f = refines (w .state) (r .formed) (w .orders) (Order d) s' e in told-root d s' (f .same-tree) (f .move) }
+  ordered = record { gives = λ d s' e. let f = refines (w .state) (r .formed) (w .orders) (Order d) tt s' e in told-root d s' (f .same-tree) (f .move) }
 
 pub orders-count : OrdersCount
 orders-count t ok heads doors h d xs = let w = begin t heads doors in ordered (run w xs) (reached w xs (start t ok heads doors h d))

@@ -3,11 +3,11 @@ use Prim.Native.Nat.{ℕ, _≤_, _<_}
 use native.Mathlib.Omega.{arith}
 use mathlib.Core.Path.{_≡_, refl, sym, ap, subst, _∙_}
 use mathlib.Core.Logic.{_⊎_, ⊎-elim, inl, inr}
-use mathlib.Core.Bool.{Bool, true, _&&_}
+use mathlib.Core.Bool.{Bool, true, false, _&&_, cond}
 use mathlib.Core.List.{List, [], _∷_}
 use lib.Dec.{eqb, ltb}
 use lib.ListN.{length}
-use borrow.Author.Tests.{ltb-true, lt-ltb}
+use borrow.Author.Tests.{ltb-true, lt-ltb, eqb-true}
 use Rattle.column.specs.Cases.{compare-cases, and-left, and-right}
 use Rattle.column.specs.Sets.{has}
 use Rattle.column.specs.SetLaws.{has-none}
@@ -22,9 +22,12 @@ use Rattle.bank.specs.Banks.{State, state, columnAt, runs, packetAt, freshBank,
 use Rattle.bank.specs.FreshLaws.{fresh-at, fresh-unused, fresh-length}
 use Rattle.bank.specs.NetworkLaws.{meant, packetsOf, packets-length, packet-at}
 use Rattle.bank.specs.StandingLaws as bank
-use Rattle.bank.specs.Steps.{Outcome, accepted, refused, perform}
+use Rattle.bank.specs.Steps.{Outcome, accepted, refused, halted, haltRefusal, halt, perform}
+use Rattle.bank.specs.Strips.{haltOne, andThen, singles}
+use Rattle.bank.specs.StripLaws.{singly, listed, distinct-listed, members-listed}
 use Rattle.bank.specs.Unchanged.{unchanged}
 use Rattle.bank.specs.declared.step.Step.{Step}
+use Rattle.bank.specs.declared.step.Step.the-variants.{Order, Send, Take, Ack, All, Note, Halt}
 use Rattle.agreement.specs.History.{World, rootOf, ordersAfter, receivedAfter, awaitsAfter, told, run}
 use Rattle.agreement.specs.Agreement.{begin}
 use Rattle.agreement.proofs.Model as model
@@ -32,10 +35,12 @@ use Rattle.agreement.proofs.Network.{Holds, taken-held}
 use Rattle.agreement.proofs.Invariant.{Invariant, Fresh, fresh-invariant}
 use Rattle.agreement.proofs.Kept.{kept}
 use Rattle.agreement.proofs.Standing.{Stands, Deliverable, Standing, fresh-standing, standing-kept, stands-passes}
+use Rattle.agreement.proofs.Move.{Event, halts}
+use Rattle.agreement.proofs.Received as moves
 use Rattle.agreement.proofs.Received.{received-after, awaits-after}
-use Rattle.agreement.proofs.View.{view, modelOf, event, Formed}
+use Rattle.agreement.proofs.View.{view, modelOf, OneMove, event, Formed}
 use Rattle.agreement.proofs.Refining.{Refined}
-use Rattle.agreement.proofs.RefineTake.{taken-place}
+use Rattle.agreement.proofs.RefineTake.{taken-place, refines-halt}
 use Rattle.agreement.proofs.Perform.{refines}
 use Rattle.agreement.proofs.Told.{received-told, awaits-told}
 
@@ -100,31 +105,82 @@ start t ok heads doors h d = record {
 
 -- ---- a step
 
-carried : (w : World) (x : Step) (s' : State) → Reached w → perform (w .state) x ≡ accepted s' → Refined (w .state) (w .orders) (ordersAfter (w .orders) x) (event (w .state) x) s'
-    → Reached (record { state = s'; orders = ordersAfter (w .orders) x; received = receivedAfter w x; awaits = awaitsAfter w x })
-carried w x s' r e f = record {
-  tree = ap treeRefusal (f .same-tree) ∙ r .tree;
-  formed = f .formed;
-  room = f .room;
-  invariant = subst (λ (u : Tree). Invariant u m') (sym (f .same-tree)) (kept (check-exact t .0 (r .tree)) (r .invariant) (f .move));
-  standing = subst (λ (u : Tree). Standing u m') (sym (f .same-tree)) (standing-kept (check-exact t .0 (r .tree)) (r .invariant) (r .standing) (f .move));
-  received-is = λ i. received-after (r .invariant) (r .standing) (w .received) (r .received-is) (f .move) i ∙ sym (received-told w x s' e i);
-  awaits-is = λ q. ap (λ (u : Tree). has (columnAt (s' .bank) (u .root) .awaited) q) (f .same-tree)
-      ∙ awaits-after (r .invariant) (w .awaits) (r .awaits-is) (f .move) q ∙ sym (awaits-told w x q);
-}
-  where
-    t : Tree
-    t = w .state .bank .tree
+module _ (w w' : World) (e : Event) (r : Reached w) (f : Refined (w .state) (w .orders) (w' .orders) e (w' .state))
+    (received : (i : ℕ) → w' .received i ≡ moves.receivedAfter (w .state .bank .tree) (modelOf (w .state) (w .orders)) e (w .received) i)
+    (awaits : (q : ℕ) → w' .awaits q ≡ moves.awaitsAfter (w .state .bank .tree) (modelOf (w .state) (w .orders)) e (w .awaits) q) where
+  abbrev before : Tree
+  before = w .state .bank .tree
 
-    m' : model.State
-    m' = modelOf s' (ordersAfter (w .orders) x)
+  abbrev m' : model.State
+  m' = modelOf (w' .state) (w' .orders)
+
+  carried : Reached w'
+  carried = record {
+    tree = ap treeRefusal (f .same-tree) ∙ r .tree;
+    formed = f .formed;
+    room = f .room;
+    invariant = subst (λ (u : Tree). Invariant u m') (sym (f .same-tree)) (kept (check-exact before .0 (r .tree)) (r .invariant) (f .move));
+    standing = subst (λ (u : Tree). Standing u m') (sym (f .same-tree)) (standing-kept (check-exact before .0 (r .tree)) (r .invariant) (r .standing) (f .move));
+    received-is = λ i. received-after (r .invariant) (r .standing) (w .received) (r .received-is) (f .move) i ∙ sym (received i);
+    awaits-is = λ q. ap (λ (u : Tree). has (columnAt (w' .state .bank) (u .root) .awaited) q) (f .same-tree)
+        ∙ awaits-after (r .invariant) (w .awaits) (r .awaits-is) (f .move) q ∙ sym (awaits q);
+  }
+
+-- ---- a halt: one move for each member, by the theorem that the members halt singly
+
+-- the world with another bank, and the same past
+abbrev moved : World → State → World
+moved w s = record { state = s; orders = w .orders; received = w .received; awaits = w .awaits }
+
+halted-singly : (l : List ℕ) (w : World) (s' : State) → Reached w → singles (w .state) l ≡ accepted s' → Reached (moved w s')
+unfolding singles
+halted-singly [] w s' r e = let same : w .state ≡ s' = cc in subst (λ (s : State). Reached (moved w s)) same r
+halted-singly (i ∷ l) w s' r e = go (λ v q h. halted-singly l v s' q h) (haltOne (w .state) i) refl e
+  where
+    go : ((v : World) → Reached v → singles (v .state) l ≡ accepted s' → Reached (moved v s'))
+        → (o : Outcome State) → haltOne (w .state) i ≡ o → andThen o (λ (t : State). singles t l) ≡ accepted s' → Reached (moved w s')
+    go rest (accepted s1) z h =
+        rest (moved w s1) (carried w (moved w s1) (halts i) r (refines-halt (w .state) (r .formed) (w .orders) i s1 z) (λ j. refl) (λ q. refl)) h
+    go rest (refused n s1) z h = let z : _≡_ {A = ℕ} 0 1 = cc in absurd (omega arith)
+
+-- an accepted halt is not refused
+unrefused : (s : State) (m : ℕ) (s' : State) → halt s m ≡ accepted s' → haltRefusal s m ≡ 0
+unrefused s m s' = go (haltRefusal s m) (eqb (haltRefusal s m) 0) refl
+  where
+    go : (n : ℕ) (b : Bool) → eqb n 0 ≡ b → cond b (accepted (halted s (has m))) (refused n s) ≡ accepted s' → n ≡ 0
+    go n true z h = eqb-true n 0 z
+    go n false z h = let z : _≡_ {A = ℕ} 0 1 = cc in absurd (omega arith)
+
+halted-together : (w : World) (m : ℕ) (s' : State) → Reached w → halt (w .state) m ≡ accepted s' → Reached (moved w s')
+halted-together w m s' r e =
+    let s = w .state in
+    let z = unrefused s m s' e in
+    let l = listed (has m) (s .bank .tree .columns) in
+    halted-singly l w s' r (singly s (r .formed .whole) m z l (distinct-listed (has m) (s .bank .tree .columns)) (members-listed s m z) ∙ e)
+
+-- ---- any step
+
+one-move : (w : World) (x : Step) (o : OneMove x) (s' : State) → Reached w → perform (w .state) x ≡ accepted s' → Reached (told w x (accepted s'))
+unfolding told
+one-move w x o s' r e =
+    carried w (told w x (accepted s')) (event (w .state) x o) r (refines (w .state) (r .formed) (w .orders) x o s' e) (received-told w x o s' e) (awaits-told w x o)
+
+step-kept : (w : World) (x : Step) (s' : State) → Reached w → perform (w .state) x ≡ accepted s' → Reached (told w x (accepted s'))
+unfolding told perform
+step-kept w (Order d) s' r e = one-move w (Order d) tt s' r e
+step-kept w (Send i) s' r e = one-move w (Send i) tt s' r e
+step-kept w (Take place) s' r e = one-move w (Take place) tt s' r e
+step-kept w (Ack i) s' r e = one-move w (Ack i) tt s' r e
+step-kept w (All i) s' r e = one-move w (All i) tt s' r e
+step-kept w (Note i j) s' r e = one-move w (Note i j) tt s' r e
+step-kept w (Halt m) s' r e = halted-together w m s' r e
 
 next : (w : World) (x : Step) → Reached w → Reached (told w x (perform (w .state) x))
 unfolding told
 next w x r = go (perform (w .state) x) refl
   where
     go : (o : Outcome State) → perform (w .state) x ≡ o → Reached (told w x o)
-    go (accepted s') e = carried w x s' r e (refines (w .state) (r .formed) (w .orders) x s' e)
+    go (accepted s') e = step-kept w x s' r e
     go (refused n s') e = subst (λ (s : State). Reached (told w x (refused n s))) (sym (unchanged (w .state) x n s' e)) r
 
 pub reached : (w : World) (xs : List Step) → Reached w → Reached (run w xs)

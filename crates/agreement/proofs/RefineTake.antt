@@ -26,11 +26,12 @@ use Rattle.column.specs.declared.packet.Packet.the-variants.{Message, Acknowled
 use Rattle.bank.specs.Words.{numbers}
 use Rattle.bank.specs.WordLaws.{fits-of}
 use Rattle.bank.specs.Banks.{State, columnAt, runs, packetAt, bankRefusal, actingRefusal}
-use Rattle.bank.specs.Networks.{removed, vanished}
+use Rattle.bank.specs.Networks.{removed, only, vanished}
 use Rattle.bank.specs.NetworkLaws.{packetsOf, Whole, packets-length, packet-at, removed-meant, removed-whole, vanished-meant, vanished-whole}
 use Rattle.bank.specs.StandingLaws.{Stands, stands, acting}
 use Rattle.bank.specs.Steps as bank
-use Rattle.bank.specs.Steps.{settled, delivered, halt}
+use Rattle.bank.specs.Steps.{settled, delivered}
+use Rattle.bank.specs.Strips.{haltOne}
 use Rattle.bank.specs.NetworkLaws.{others}
 use Rattle.agreement.proofs.Model.{Runs, Taken, first, later, Becomes}
 use Rattle.agreement.proofs.Move as move
@@ -168,20 +169,20 @@ module _ (s : State) (formed : Formed s) (orders : List ℕ) where
 
   -- ---- halt
 
-  pub refines-halt : (i : ℕ) → Refines s orders orders (move.halts i) (halt s i)
+  pub refines-halt : (i : ℕ) → Refines s orders orders (move.halts i) (haltOne s i)
   unfolding haltEffect vanished
   refines-halt i =
       refines-unless s orders orders (move.halts i) (actingRefusal s i) _ (λ ok.
-      refines-core s orders orders (move.halts i) (vanished s i) i (haltRefusal t i c) c (haltEffect c) (λ free.
+      refines-core s orders orders (move.halts i) (vanished s (only i)) i (haltRefusal t i c) c (haltEffect c) (λ free.
       let st = acting s i ok .0 in
       let below = acting s i ok .1 in
-      refines-quiet s formed st i below _ (formed .numbers-fit i) (vanished s i) refl refl (vanished-whole s (formed .whole) i (st .room)) orders orders (move.halts i)
+      refines-quiet s formed st i below _ (formed .numbers-fit i) (vanished s (only i)) refl refl (vanished-whole s (formed .whole) (only i) (st .room)) orders orders (move.halts i)
       (λ s' z. move.halt i (model-runs s st i below orders (halt-in t i c free)) (stops s' z))))
     where
       c : Column
       c = columnAt (s .bank) i
 
-      stops : (s' : State) → Becomes (modelOf s orders) (modelOf s' orders) i (view t i (move.halted c)) (packetsOf (vanished s i)) orders
+      stops : (s' : State) → Becomes (modelOf s orders) (modelOf s' orders) i (view t i (move.halted c)) (packetsOf (vanished s (only i))) orders
           → Becomes (modelOf s orders) (modelOf s' orders) i (move.halted (view t i c)) (others i (packetsOf s)) orders
       stops s' z = record {
         mine = z .mine ∙ ap (λ (r : Bool). move.withRunning r c) (and-false (ltb i (t .columns)));

@@ -29,7 +29,7 @@ use Rattle.bank.specs.declared.step.Step.the-variants.{Order, Send, Take, Ack, 
 use Rattle.agreement.specs.History.{World, changed, rootOf, leaves, leftBy, heard, acknowledged, receivedAfter, awaitsAfter}
 use Rattle.agreement.proofs.Model as model
 use Rattle.agreement.proofs.Received as moves
-use Rattle.agreement.proofs.View.{modelOf, event}
+use Rattle.agreement.proofs.View.{modelOf, OneMove, event}
 
 -- ---- a message is left where its number is higher and someone is owed
 
@@ -114,12 +114,12 @@ module _ (w : World) where
       go true e = ap₂ (λ (b v : Bool). cond b v (w .awaits q)) (root-number (eqb-true a (rootOf s) e)) (changed-false (w .awaits q) (eqb q x))
       go false e = refl
 
-  pub received-told : (x : Step) (s' : State) → perform s x ≡ accepted s' → (j : ℕ)
-      → receivedAfter w x j ≡ moves.receivedAfter (s .bank .tree) m (event s x) (w .received) j
+  pub received-told : (x : Step) (o : OneMove x) (s' : State) → perform s x ≡ accepted s' → (j : ℕ)
+      → receivedAfter w x j ≡ moves.receivedAfter (s .bank .tree) m (event s x o) (w .received) j
   unfolding perform
-  received-told (Order d) s' e j = refl
-  received-told (Send i) s' e j = refl
-  received-told (Take place) s' e j =
+  received-told (Order d) o s' e j = refl
+  received-told (Send i) o s' e j = refl
+  received-told (Take place) o s' e j =
       let q = earlier-none (bankRefusal s) (first ((10, leb (s .bank .count) place) ∷ [])) (goes (bank.takeRefusal s place) _ e) in
       let held = leb-false (s .bank .count) place (passed ((10, leb (s .bank .count) place) ∷ []) tt (q .1) .0) in
       heard-told (stands s (q .0)) place held (packetAt s place) refl j
@@ -130,23 +130,23 @@ module _ (w : World) where
           go : (b : Bool) → eqb n 0 ≡ b → cond b o (refused n s) ≡ accepted s' → n ≡ 0
           go true z h = eqb-true n 0 z
           go false z h = let z : _≡_ {A = ℕ} 0 1 = cc in absurd (omega arith)
-  received-told (Ack i) s' e j = refl
-  received-told (All i) s' e j = refl
-  received-told (Note i x) s' e j = refl
-  received-told (Halt i) s' e j = refl
+  received-told (Ack i) o s' e j = refl
+  received-told (All i) o s' e j = refl
+  received-told (Note i x) o s' e j = refl
+  received-told (Halt m) o s' e j = absurd o
 
-  pub awaits-told : (x : Step) (q : ℕ) → awaitsAfter w x q ≡ moves.awaitsAfter (s .bank .tree) m (event s x) (w .awaits) q
-  awaits-told (Order d) q = refl
-  awaits-told (Send i) q =
+  pub awaits-told : (x : Step) (o : OneMove x) (q : ℕ) → awaitsAfter w x q ≡ moves.awaitsAfter (s .bank .tree) m (event s x o) (w .awaits) q
+  awaits-told (Order d) o q = refl
+  awaits-told (Send i) o q =
       let c = columnAt (s .bank) i in
       let x = choose (c .send) in
       let b = eqb i (rootOf s) && not (has (c .noted) x) in
       changed-at b (changed (w .awaits) x true) (w .awaits) q
       ∙ ap (λ (v : Bool). cond b v (w .awaits q)) (changed-true (w .awaits q) (eqb q x))
-  awaits-told (Take place) q = acknowledged-told (packetAt s place) q
-  awaits-told (Ack i) q = refl
-  awaits-told (All i) q = refl
-  awaits-told (Note i j) q =
+  awaits-told (Take place) o q = acknowledged-told (packetAt s place) q
+  awaits-told (Ack i) o q = refl
+  awaits-told (All i) o q = refl
+  awaits-told (Note i j) o q =
       changed-at (eqb i (rootOf s)) (changed (w .awaits) j false) (w .awaits) q
       ∙ ap (λ (v : Bool). cond (eqb i (rootOf s)) v (w .awaits q)) (changed-false (w .awaits q) (eqb q j))
-  awaits-told (Halt i) q = refl
+  awaits-told (Halt m) o q = absurd o

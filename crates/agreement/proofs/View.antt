@@ -24,15 +24,25 @@ abbrev pub modelOf : State → List ℕ → model.State
 modelOf s orders =
     record { columns = λ i. view (s .bank .tree) i (columnAt (s .bank) i); network = packetsOf s; orders = orders }
 
+-- a step that is one move: any but a halt, which is one move for each member
+abbrev pub OneMove : Step → Type 0
+OneMove (Order doors) = Unit {0}
+OneMove (Send i) = Unit {0}
+OneMove (Take place) = Unit {0}
+OneMove (Ack i) = Unit {0}
+OneMove (All i) = Unit {0}
+OneMove (Note i j) = Unit {0}
+OneMove (Halt m) = ⊥
+
 -- which move a step is
-abbrev pub event : State → Step → move.Event
-event s (Order doors) = move.orders doors
-event s (Send i) = move.sends i (choose (columnAt (s .bank) i .send))
-event s (Take place) = move.takes (packetAt s place)
-event s (Ack i) = move.acknowledges i
-event s (All i) = move.widens i
-event s (Note i j) = move.notes i j
-event s (Halt i) = move.halts i
+abbrev pub event : State → (x : Step) → OneMove x → move.Event
+event s (Order doors) o = move.orders doors
+event s (Send i) o = move.sends i (choose (columnAt (s .bank) i .send))
+event s (Take place) o = move.takes (packetAt s place)
+event s (Ack i) o = move.acknowledges i
+event s (All i) o = move.widens i
+event s (Note i j) o = move.notes i j
+event s (Halt m) o = absurd o
 
 -- all places are there, and the numbers are such as a packet's words hold
 pub record Formed (s : State) : Type 0 where

@@ -6,7 +6,7 @@ use mathlib.Core.List.{List, [], _∷_, _++_}
 use lib.Count.{trailingZeros}
 use lib.Dec.{eqb}
 use lib.ListN.{replicate}
-use Rattle.column.specs.Sets.{selected}
+use Rattle.column.specs.Sets.{single, selected}
 use Rattle.column.specs.Trees.{treeOf, every, climbsIn, treeRefusal}
 use Rattle.column.specs.Columns.{stateRefusal}
 use Rattle.column.specs.Steps as core
@@ -16,7 +16,7 @@ use Rattle.bank.specs.Lists.{closedUp, keeping, padded}
 use Rattle.bank.specs.Banks.{State, columnAt, runs, capacity, places, freshPlace, bankRefusal}
 use Rattle.bank.specs.Networks.{put, puts, vanished}
 use Rattle.bank.specs.Steps as bank
-use Rattle.bank.specs.Steps.{Outcome, perform, fitting, acted, delivered}
+use Rattle.bank.specs.Steps.{Outcome, perform, fitting, acted, delivered, stopping, halted, haltRefusal}
 use Rattle.bank.specs.Rest.{atRest}
 use Rattle.bank.specs.declared.step.Step.{Step}
 use Rattle.bank.specs.declared.step.Step.the-variants.{Order, Send, Take, Ack, All, Note, Halt}
@@ -135,6 +135,12 @@ pub data Case : Type 0 where
   besidesAHalted : Case
   aroundTheHalted : Case
   everyoneHalted : Case
+  stripGone : Case
+  stripRefused : Case
+
+-- the halt of one column
+abbrev halting : ℕ → Step
+halting i = Halt (single i)
 
 -- an order that reaches everybody of the chain
 abbrev serving : List Step
@@ -143,7 +149,7 @@ serving = Send 0 ∷ Take 0 ∷ Send 1 ∷ Take 0 ∷ Ack 2 ∷ Take 0 ∷ Ack 1
 -- The root halts when its message is under way to column 1. Column 2 takes over at number 0, and column 1 owes it when it takes the
 -- root's message, which is left.
 abbrev leaving : List Step
-leaving = Order 3 ∷ Send 0 ∷ Halt 0 ∷ Note 2 0 ∷ All 2 ∷ Send 2 ∷ Send 2 ∷ Take 1 ∷ Take 0 ∷ []
+leaving = Order 3 ∷ Send 0 ∷ halting 0 ∷ Note 2 0 ∷ All 2 ∷ Send 2 ∷ Send 2 ∷ Take 1 ∷ Take 0 ∷ []
 
 abbrev idleRoot : Root
 idleRoot = record { awaits = 0; send = 6 ∷ []; order = [] }
@@ -165,13 +171,13 @@ row secondOrder =
 -- the root halts half way, and the two that run take over: number 1 everywhere
 row takenOver =
     rowOf chain
-    (Order 513 ∷ Send 0 ∷ Take 0 ∷ Halt 0 ∷ Send 1 ∷ Take 0 ∷ Ack 2 ∷ Take 0 ∷ Ack 1 ∷ Note 1 0 ∷ All 1 ∷ Send 1 ∷ Send 1
+    (Order 513 ∷ Send 0 ∷ Take 0 ∷ halting 0 ∷ Send 1 ∷ Take 0 ∷ Ack 2 ∷ Take 0 ∷ Ack 1 ∷ Note 1 0 ∷ All 1 ∷ Send 1 ∷ Send 1
     ∷ Note 2 0 ∷ All 2 ∷ Send 2 ∷ Send 2 ∷ Take 0 ∷ Ack 1 ∷ Take 0 ∷ [])
     [] (513 ∷ []) (1 ∷ 1 ∷ 1 ∷ []) 6 1 0 true (haltedRoot 2)
 -- nobody that runs has received the order: number 0 everywhere
 row neverReceived =
     rowOf chain
-    (Order 1 ∷ Halt 0 ∷ Note 1 0 ∷ All 1 ∷ Send 1 ∷ Send 1 ∷ Note 2 0 ∷ All 2 ∷ Send 2 ∷ Send 2 ∷ Take 0 ∷ Ack 1 ∷ Take 0 ∷ [])
+    (Order 1 ∷ halting 0 ∷ Note 1 0 ∷ All 1 ∷ Send 1 ∷ Send 1 ∷ Note 2 0 ∷ All 2 ∷ Send 2 ∷ Send 2 ∷ Take 0 ∷ Ack 1 ∷ Take 0 ∷ [])
     [] (1 ∷ []) (1 ∷ 0 ∷ 0 ∷ []) 6 0 0 true (haltedRoot 0)
 -- column 1 has not received the message that it left
 row leftInPlace = rowOf chain leaving [] (3 ∷ []) (1 ∷ 0 ∷ 0 ∷ []) 6 0 2 false (haltedRoot 2)
@@ -183,19 +189,27 @@ row leftThenReceived =
     [] (3 ∷ []) (1 ∷ 1 ∷ 1 ∷ []) 6 1 0 true (haltedRoot 2)
 -- column 1 halts after it has sent. The root notes it and serves its child; the halted one's message is still under way
 row besidesAHalted =
-    rowOf chain (Order 3 ∷ Send 0 ∷ Take 0 ∷ Send 1 ∷ Halt 1 ∷ Note 0 1 ∷ Send 0 ∷ Take 1 ∷ Ack 2 ∷ Take 1 ∷ [])
+    rowOf chain (Order 3 ∷ Send 0 ∷ Take 0 ∷ Send 1 ∷ halting 1 ∷ Note 0 1 ∷ Send 0 ∷ Take 1 ∷ Ack 2 ∷ Take 1 ∷ [])
     [] (3 ∷ []) (1 ∷ 1 ∷ 1 ∷ []) 5 1 1 false idleRoot
 -- column 0 is awaited when the root notes it, column 3 is noted when it is served: the root sends to their children
 row aroundTheHalted =
     rowOf fork
-    (Order 6 ∷ Send 2 ∷ Halt 0 ∷ Note 2 0 ∷ Halt 3 ∷ Note 2 3 ∷ Send 2 ∷ Send 2 ∷ Send 2 ∷ Take 0 ∷ Take 0 ∷ Ack 1 ∷ Ack 4
+    (Order 6 ∷ Send 2 ∷ halting 0 ∷ Note 2 0 ∷ halting 3 ∷ Note 2 3 ∷ Send 2 ∷ Send 2 ∷ Send 2 ∷ Take 0 ∷ Take 0 ∷ Ack 1 ∷ Ack 4
     ∷ Take 0 ∷ Take 0 ∷ Note 1 0 ∷ Note 1 3 ∷ Note 4 0 ∷ Note 4 3 ∷ [])
     [] (6 ∷ []) (0 ∷ 1 ∷ 1 ∷ 0 ∷ 1 ∷ []) 22 1 0 true idleRoot
 row everyoneHalted =
-    rowOf chain (Order 3 ∷ Send 0 ∷ Halt 1 ∷ Halt 0 ∷ Halt 2 ∷ []) [] (3 ∷ []) (1 ∷ 0 ∷ 0 ∷ []) 0 0 0 true (haltedRoot 2)
+    rowOf chain (Order 3 ∷ Send 0 ∷ halting 1 ∷ halting 0 ∷ halting 2 ∷ []) [] (3 ∷ []) (1 ∷ 0 ∷ 0 ∷ []) 0 0 0 true (haltedRoot 2)
+-- a strip of the root and column 1 goes half way, with the message from column 1 under way; the one that runs takes it and takes over alone
+row stripGone =
+    rowOf chain
+    (Order 513 ∷ Send 0 ∷ Take 0 ∷ Send 1 ∷ Halt 3 ∷ Take 0 ∷ Ack 2 ∷ Note 2 0 ∷ Note 2 1 ∷ All 2 ∷ Send 2 ∷ Send 2 ∷ Send 2 ∷ [])
+    [] (513 ∷ []) (1 ∷ 1 ∷ 1 ∷ []) 4 1 0 true (haltedRoot 2)
+-- "If any is 4 or 5, none halts": columns 1 and 3, and columns 0 and 2 after 2
+row stripRefused =
+    rowOf chain (Halt 10 ∷ halting 2 ∷ Halt 5 ∷ Note 0 2 ∷ Note 1 2 ∷ []) (4 ∷ 5 ∷ []) [] (0 ∷ 0 ∷ 0 ∷ []) 3 0 0 true idleRoot
 
 pub runs-pass : (c : Case) → computed (row c) ≡ (row c, 0, 0, true)
-unfolding refusals given run told perform atRest every closedUp keeping padded places freshPlace bankRefusal packetOf put puts vanished fitting acted delivered climbsIn treeRefusal stateRefusal selected trailingZeros core.orderRefusal core.sendRefusal core.packetRefusal core.takeRefusal core.ackRefusal core.allRefusal core.noteRefusal core.haltRefusal core.orderEffect core.sendEffect core.acknowledgementEffect core.receiveEffect core.messageEffect core.ackEffect core.allEffect core.noteEffect core.haltEffect
+unfolding refusals given run told perform atRest every closedUp keeping padded places freshPlace bankRefusal packetOf put puts vanished fitting acted delivered stopping halted haltRefusal climbsIn treeRefusal stateRefusal selected trailingZeros core.orderRefusal core.sendRefusal core.packetRefusal core.takeRefusal core.ackRefusal core.allRefusal core.noteRefusal core.orderEffect core.sendEffect core.acknowledgementEffect core.receiveEffect core.messageEffect core.ackEffect core.allEffect core.noteEffect
 runs-pass noStep = refl
 runs-pass servedByRoot = refl
 runs-pass secondOrder = refl
@@ -206,3 +220,5 @@ runs-pass leftThenReceived = refl
 runs-pass besidesAHalted = refl
 runs-pass aroundTheHalted = refl
 runs-pass everyoneHalted = refl
+runs-pass stripGone = refl
+runs-pass stripRefused = refl

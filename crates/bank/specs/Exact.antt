@@ -9,7 +9,7 @@ use Rattle.column.specs.Refusals.{first, earlier}
 use Rattle.column.specs.Packets.{receiver}
 use Rattle.column.specs.Steps as core
 use Rattle.bank.specs.Banks.{State, columnAt, runs, packetAt, capacity, bankRefusal}
-use Rattle.bank.specs.Steps.{accepted, after, unless, noteRefusal, perform}
+use Rattle.bank.specs.Steps.{accepted, after, unless, noteRefusal, haltConditions, perform}
 use Rattle.bank.specs.declared.bank.Bank.{Bank}
 use Rattle.bank.specs.declared.step.Step.{Step}
 use Rattle.bank.specs.declared.step.Step.the-variants.{Order, Send, Take, Ack, All, Note, Halt}
@@ -25,7 +25,7 @@ ownRefusal s (Take place) =
 ownRefusal s (Ack i) = core.ackRefusal (s .bank .tree) i (columnAt (s .bank) i)
 ownRefusal s (All i) = core.allRefusal (s .bank .tree) i (columnAt (s .bank) i)
 ownRefusal s (Note i j) = noteRefusal (s .bank) i j
-ownRefusal s (Halt i) = core.haltRefusal (s .bank .tree) i (columnAt (s .bank) i)
+ownRefusal s (Halt m) = first (haltConditions s m)
 
 -- an accepted result makes the packets more: one is really put, since its addressee runs, and none is taken off for it
 abbrev pub raises : Bool → Bank → core.Result → Bool
@@ -43,7 +43,7 @@ raised s (Take place) =
 raised s (Ack i) = raises false (s .bank) (core.ackEffect i (columnAt (s .bank) i))
 raised s (All i) = false
 raised s (Note i j) = false
-raised s (Halt i) = false
+raised s (Halt m) = false
 
 -- "9: a packet would raise the network above 512"
 abbrev pub overfull : State → Step → Bool

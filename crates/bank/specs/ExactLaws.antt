@@ -1,8 +1,8 @@
 -- Every step of every bank is refused by the number that `refusalOf` says, and by no other, with the state as it was.
 -- Assumes nothing.
-use Prim.Native.Nat.{ℕ, zero, suc, _-_, _≤_, _<_}
+use Prim.Native.Nat.{ℕ, zero, suc, _≤_, _<_}
 use mathlib.Core.Path.{_≡_, refl, sym, ap, subst, _∙_}
-use mathlib.Core.Bool.{Bool, true, false, not, _&&_, cond}
+use mathlib.Core.Bool.{Bool, true, false, _&&_, cond}
 use mathlib.Core.List.{List, [], _∷_}
 use native.Mathlib.Omega.{arith}
 use lib.Dec.{eqb, leb, ltb}
@@ -20,10 +20,10 @@ use Rattle.column.specs.declared.state.Column.{Column}
 use Rattle.column.specs.declared.packet.Packet.{Packet}
 use Rattle.column.specs.declared.packet.Packet.the-variants.{Message, Acknowledgement}
 use Rattle.bank.specs.Banks.{State, columnAt, runs, packetAt, capacity, noColumn, bankRefusal, actingRefusal}
-use Rattle.bank.specs.Networks.{put, puts, removed, vanished}
+use Rattle.bank.specs.Networks.{put, puts, removed}
 use Rattle.bank.specs.StandingLaws.{Stands, stands, acting}
-use Rattle.bank.specs.StepLaws.{fits, put-halted, put-running, put-full, put-count, takes, vanished-few}
-use Rattle.bank.specs.Steps.{Outcome, accepted, refused, after, unless, withColumn, fitting, settled, acted, noted, noteRefusal, takeRefusal, delivered, perform}
+use Rattle.bank.specs.StepLaws.{fits, put-halted, put-running, put-full, put-count, takes}
+use Rattle.bank.specs.Steps.{Outcome, accepted, refused, after, unless, withColumn, fitting, settled, acted, noted, noteRefusal, takeRefusal, delivered, halted, haltConditions, haltRefusal, halt, perform}
 use Rattle.bank.specs.Exact.{ownRefusal, raises, overfull, refusalOf, Exact}
 use Rattle.bank.specs.declared.step.Step.the-variants.{Order, Send, Take, Ack, All, Note, Halt}
 
@@ -157,18 +157,14 @@ module _ (s : State) where
         go true e false h = refl
         go false e l h = refl
 
-    answered-unless-acting : (gone : State) (n m : ℕ) (effect : core.Result) → (standing (tree s) i (at s i) ≡ 4 → n ≡ 4)
-        → (Stands s → Answered m (settled s gone i effect))
-        → Answered (earlier (bankRefusal s) (earlier n m)) (unless (actingRefusal s i) s (settled s gone i (core.unless n (at s i) effect)))
-    answered-unless-acting gone n m effect four h =
-        subst (λ k. Answered k (unless (actingRefusal s i) s (settled s gone i (core.unless n (at s i) effect)))) (acting-number n m four)
-        (answered-unless (actingRefusal s i) (earlier n m) _ (λ e. answered-core gone i n m (at s i) effect (λ z. h (acting s i e .0))))
-
     answered-acted : (n : ℕ) (effect : core.Result) → (standing (tree s) i (at s i) ≡ 4 → n ≡ 4) → Calm (at s i) effect
         → Answered (earlier (bankRefusal s) (earlier n (nine false effect))) (acted s i (core.unless n (at s i) effect))
     unfolding acted
     answered-acted n effect four calm =
-        answered-unless-acting s n (nine false effect) effect four (λ w. answered-acting w i effect calm)
+        let m = nine false effect in
+        subst (λ k. Answered k (unless (actingRefusal s i) s (settled s s i (core.unless n (at s i) effect)))) (acting-number n m four)
+        (answered-unless (actingRefusal s i) (earlier n m) _ (λ e.
+        answered-core s i n m (at s i) effect (λ z. answered-acting (acting s i e .0) i effect calm)))
 
 -- ---- every step
 
@@ -193,11 +189,11 @@ module _ (s : State) where
   unfolding perform core.noteRefusal core.noteEffect
   exact-note i j = answered-acted s i (ownRefusal s (Note i j)) (core.noteEffect (tree s) (at s i) j) (λ e. rw e) tt
 
-  exact-halt : (i : ℕ) → Answered s (refusalOf s (Halt i)) (perform s (Halt i))
-  unfolding perform core.haltRefusal core.haltEffect puts
-  exact-halt i =
-      answered-unless-acting s i (vanished s i) (ownRefusal s (Halt i)) 0 (core.haltEffect (at s i)) (λ e. rw e)
-      (λ w. answered-room s w i _ (vanished-few s i (w .room)))
+  exact-halt : (m : ℕ) → Answered s (refusalOf s (Halt m)) (perform s (Halt m))
+  unfolding perform haltRefusal
+  exact-halt m =
+      subst (λ k. Answered s k (halt s m)) (earlier-assoc (bankRefusal s) (first (haltConditions s m)) 0)
+      (answered-unless s (haltRefusal s m) 0 (accepted (halted s (has m))) (λ e. refl))
 
   exact-take : (place : ℕ) → Answered s (refusalOf s (Take place)) (perform s (Take place))
   unfolding perform delivered
@@ -222,4 +218,4 @@ exact s (Take place) = exact-take s place
 exact s (Ack i) = exact-ack s i
 exact s (All i) = exact-all s i
 exact s (Note i j) = exact-note s i j
-exact s (Halt i) = exact-halt s i
+exact s (Halt m) = exact-halt s m

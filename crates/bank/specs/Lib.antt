@@ -10,6 +10,11 @@ pub mod Networks
 pub mod NetworkLaws
 pub mod Steps
 pub mod StepLaws
+pub mod Strips
+pub mod Stopping
+pub mod StripStates
+pub mod StripLaws
+pub mod StripRefusals
 pub mod Exact
 pub mod ExactLaws
 pub mod Unchanged

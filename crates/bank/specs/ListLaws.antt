@@ -2,12 +2,13 @@
 -- the free places hold, and from c on what was there.
 -- Assumes nothing.
 use Prim.Native.Nat.{ℕ, _+_, _-_, _≤_, _<_}
-use mathlib.Core.Path.{_≡_, sym, ap, ap₂, _∙_}
-use mathlib.Core.List.{List, _∷_, _++_, append-assoc}
+use mathlib.Core.Path.{_≡_, sym, ap, ap₂, _∙_, refl}
+use mathlib.Core.List.{List, _∷_, _++_, append-assoc, []}
 use native.Mathlib.Omega.{arith}
-use lib.ListN.{length, getD, take, drop, replicate, length-take, length-drop, length-append, length-replicate, getD-replicate, List·getD-append}
+use lib.ListN.{length, getD, take, drop, replicate, length-take, length-drop, length-append, length-replicate, getD-replicate, List·getD-append, replicate-append-replicate}
 use lib.Seq.{length-take-le, take-at, take-take, take-add, drop-at, drop-append-add, getD-at, getD-append-add}
-use Rattle.bank.specs.Lists.{closedUp, padded}
+use Rattle.bank.specs.Lists.{keeping, closedUp, padded}
+use mathlib.Core.Bool.{Bool, true, false, _&&_, cond}
 
 -- The places from `few` on, below c, hold v now; those from c on are as they were.
 pub record Freed {A : Type 0} (v : A) (few c : ℕ) (old new : List A) : Type 0 where
@@ -68,3 +69,42 @@ module _ {A : Type 0} (w old : List A) (c : ℕ) (v : A) where
         others-kept = ap (drop c) (sym (append-assoc w r (drop c old)))
             ∙ drop-at (w ++ r) (drop c old) c (simp (length-append, length-replicate) (omega arith));
       }
+
+-- ---- kept twice, cleared twice
+
+keeping-nil : {B A : Type 0} (f : B → Bool) (hs : List B) → keeping {A = A} f hs [] ≡ []
+unfolding keeping
+keeping-nil f [] = refl
+keeping-nil f (h ∷ hs) = refl
+
+-- those that pass one test and then another
+pub keeping-twice : {B A : Type 0} (f g : B → Bool) (hs : List B) (xs : List A)
+    → keeping g (keeping f hs hs) (keeping f hs xs) ≡ keeping (λ h. f h && g h) hs xs
+unfolding keeping
+keeping-twice f g [] xs = refl
+keeping-twice f g (h ∷ hs) [] = keeping-nil g (cond (f h) (h ∷ keeping f hs hs) (keeping f hs hs))
+keeping-twice f g (h ∷ hs) (x ∷ xs) = go (f h) (keeping-twice f g hs xs)
+  where
+    go : (t : Bool) → keeping g (keeping f hs hs) (keeping f hs xs) ≡ keeping (λ h. f h && g h) hs xs
+        → keeping g (cond t (h ∷ keeping f hs hs) (keeping f hs hs)) (cond t (x ∷ keeping f hs xs) (keeping f hs xs))
+        ≡ cond (t && g h) (x ∷ keeping (λ h. f h && g h) hs xs) (keeping (λ h. f h && g h) hs xs)
+    go true r = ap (λ l. cond (g h) (x ∷ l) l) r
+    go false r = r
+
+pub keeping-all : {B A : Type 0} (hs : List B) (xs : List A) → length hs ≡ length xs → keeping (λ h. true) hs xs ≡ xs
+unfolding keeping
+keeping-all [] [] e = refl
+keeping-all [] (x ∷ xs) e = absurd (omega (arith, e))
+keeping-all (h ∷ hs) [] e = refl
+keeping-all (h ∷ hs) (x ∷ xs) e = ap (λ l. x ∷ l) (keeping-all hs xs (omega (arith, e)))
+
+-- cleared to one place, then to an earlier one
+pub padded-twice : {A : Type 0} (w w' old : List A) (k c : ℕ) (v : A) → length w ≡ k → length w' ≤ k → k ≤ c
+    → padded w' k v (padded w c v old) ≡ padded w' c v old
+unfolding padded
+padded-twice w w' old k c v e h g =
+    let r = replicate (k - length w') v in
+    let n : (k - length w') + (c - length w) ≡ c - length w' = omega (arith, e) in
+    ap (λ l. w' ++ (r ++ l)) (drop-at w (replicate (c - length w) v ++ drop c old) k e)
+    ∙ ap (λ l. w' ++ l) (sym (append-assoc r (replicate (c - length w) v) (drop c old))
+    ∙ ap (λ l. l ++ drop c old) (replicate-append-replicate (k - length w') (c - length w) v ∙ ap (λ j. replicate j v) n))

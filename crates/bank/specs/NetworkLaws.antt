@@ -18,7 +18,7 @@ use Rattle.bank.specs.WordLaws.{HeadFits, packet-words, receiver-of}
 use Rattle.bank.specs.Lists.{keeping, keeping-few, keeping-same}
 use Rattle.bank.specs.ListLaws.{Freed, closed-up-front, closed-up-length, closed-up-freed, padded-front, padded-length, padded-freed}
 use Rattle.bank.specs.Banks.{State, packetAt, capacity}
-use Rattle.bank.specs.Networks.{withPacket, removed, elsewhere, vanished}
+use Rattle.bank.specs.Networks.{withPacket, removed, only, elsewhere, vanished}
 
 unfoldable pub meant : List ℕ → List ℕ → List Packet
 meant [] ds = []
@@ -87,15 +87,15 @@ meant-at (x ∷ hs) (y ∷ ds) zero p h d = refl
 meant-at (x ∷ hs) (y ∷ ds) (suc k) p h d = meant-at hs ds k p (omega arith) (omega arith)
 
 meant-others : (i : ℕ) (hs ds : List ℕ) → length hs ≡ length ds
-    → meant (keeping (elsewhere i) hs hs) (keeping (elsewhere i) hs ds) ≡ others i (meant hs ds)
+    → meant (keeping (elsewhere (only i)) hs hs) (keeping (elsewhere (only i)) hs ds) ≡ others i (meant hs ds)
 unfolding keeping meant others
 meant-others i [] ds e = refl
 meant-others i (h ∷ hs) [] e = absurd (omega (arith, e))
 meant-others i (h ∷ hs) (d ∷ ds) e = rw (receiver-of h d) (go (eqb (receiverIn h) i) (meant-others i hs ds (omega (arith, e))))
   where
-    go : (t : Bool) → meant (keeping (elsewhere i) hs hs) (keeping (elsewhere i) hs ds) ≡ others i (meant hs ds)
-        → meant (cond (not t) (h ∷ keeping (elsewhere i) hs hs) (keeping (elsewhere i) hs hs))
-        (cond (not t) (d ∷ keeping (elsewhere i) hs ds) (keeping (elsewhere i) hs ds))
+    go : (t : Bool) → meant (keeping (elsewhere (only i)) hs hs) (keeping (elsewhere (only i)) hs ds) ≡ others i (meant hs ds)
+        → meant (cond (not t) (h ∷ keeping (elsewhere (only i)) hs hs) (keeping (elsewhere (only i)) hs hs))
+        (cond (not t) (d ∷ keeping (elsewhere (only i)) hs ds) (keeping (elsewhere (only i)) hs ds))
         ≡ cond t (others i (meant hs ds)) (packetOf h d ∷ others i (meant hs ds))
     go true r = r
     go false r = ap (λ l. packetOf h d ∷ l) r
@@ -171,33 +171,33 @@ module _ (s : State) (w : Whole s) where
 
   -- ---- the packets to a column vanish
 
-  module _ (i : ℕ) where
-    kept-few : {A : Type 0} (xs : List A) → length (keeping (elsewhere i) hs xs) ≤ count
-    kept-few xs = omega (arith, keeping-few (elsewhere i) hs xs, length-take count (s .heads))
+  module _ (member : ℕ → Bool) where
+    kept-few : {A : Type 0} (xs : List A) → length (keeping (elsewhere member) hs xs) ≤ count
+    kept-few xs = omega (arith, keeping-few (elsewhere member) hs xs, length-take count (s .heads))
 
-    kept-same : length (keeping (elsewhere i) hs hs) ≡ length (keeping (elsewhere i) hs ds)
-    kept-same = keeping-same (elsewhere i) hs hs ds (same-length count)
+    kept-same : length (keeping (elsewhere member) hs hs) ≡ length (keeping (elsewhere member) hs ds)
+    kept-same = keeping-same (elsewhere member) hs hs ds (same-length count)
 
-    pub vanished-meant : packetsOf (vanished s i) ≡ others i (packetsOf s)
-    unfolding vanished
-    vanished-meant =
-        ap₂ meant
-        (padded-front (keeping (elsewhere i) hs hs) (s .heads) count 0 _ refl)
-        (padded-front (keeping (elsewhere i) hs ds) (s .doors) count 0 _ (sym kept-same))
-        ∙ meant-others i hs ds (same-length count)
-
-    pub vanished-whole : count ≤ capacity → Whole (vanished s i)
+    pub vanished-whole : count ≤ capacity → Whole (vanished s member)
     unfolding vanished
     vanished-whole l = record {
-      heads-length = padded-length (keeping (elsewhere i) hs hs) (s .heads) count 0 (kept-few hs) (heads-there l) ∙ w .heads-length;
-      doors-length = padded-length (keeping (elsewhere i) hs ds) (s .doors) count 0 (kept-few ds) (doors-there l) ∙ w .doors-length;
+      heads-length = padded-length (keeping (elsewhere member) hs hs) (s .heads) count 0 (kept-few hs) (heads-there l) ∙ w .heads-length;
+      doors-length = padded-length (keeping (elsewhere member) hs ds) (s .doors) count 0 (kept-few ds) (doors-there l) ∙ w .doors-length;
     }
 
-    pub vanished-freed : WordsFreed s (vanished s i)
+    pub vanished-freed : WordsFreed s (vanished s member)
     unfolding vanished
     vanished-freed = record {
-      heads-freed = padded-freed (keeping (elsewhere i) hs hs) (s .heads) count 0 (kept-few hs);
+      heads-freed = padded-freed (keeping (elsewhere member) hs hs) (s .heads) count 0 (kept-few hs);
       doors-freed =
-          let f = padded-freed (keeping (elsewhere i) hs ds) (s .doors) count 0 (kept-few ds) in
+          let f = padded-freed (keeping (elsewhere member) hs ds) (s .doors) count 0 (kept-few ds) in
           record { free = λ k a b. f .free k (omega (arith, kept-same)) b; others-kept = f .others-kept };
     }
+
+  pub vanished-meant : (i : ℕ) → packetsOf (vanished s (only i)) ≡ others i (packetsOf s)
+  unfolding vanished
+  vanished-meant i =
+      ap₂ meant
+      (padded-front (keeping (elsewhere (only i)) hs hs) (s .heads) count 0 _ refl)
+      (padded-front (keeping (elsewhere (only i)) hs ds) (s .doors) count 0 _ (sym (kept-same (only i))))
+      ∙ meant-others i hs ds (same-length count)

@@ -37,23 +37,28 @@ removed s place =
     (closedUp (s .heads) place (s .bank .count) 0)
     (closedUp (s .doors) place (s .bank .count) 0)
 
--- the heads of packets that are not addressed to column i
-abbrev pub elsewhere : ℕ → ℕ → Bool
-elsewhere i head = not (eqb (receiverIn head) i)
+-- a set of columns with one member, by its test
+abbrev pub only : ℕ → ℕ → Bool
+only i j = eqb j i
 
--- "packets to it vanish, packets from it remain": the words of the others move up, and places that are free now hold words 0 and 0
-unfoldable pub vanished : State → ℕ → State
-vanished s i =
+-- the heads of packets that are addressed to no member
+abbrev pub elsewhere : (ℕ → Bool) → ℕ → Bool
+elsewhere member head = not (member (receiverIn head))
+
+-- "packets to it vanish, packets from it remain", of every member at once: the words of the others move up, and places that are free now
+-- hold words 0 and 0
+unfoldable pub vanished : State → (ℕ → Bool) → State
+vanished s member =
     let heads = take (s .bank .count) (s .heads) in
     let doors = take (s .bank .count) (s .doors) in
-    state (counting (s .bank) (length (keeping (elsewhere i) heads heads)))
-    (padded (keeping (elsewhere i) heads heads) (s .bank .count) 0 (s .heads))
-    (padded (keeping (elsewhere i) heads doors) (s .bank .count) 0 (s .doors))
+    state (counting (s .bank) (length (keeping (elsewhere member) heads heads)))
+    (padded (keeping (elsewhere member) heads heads) (s .bank .count) 0 (s .heads))
+    (padded (keeping (elsewhere member) heads doors) (s .bank .count) 0 (s .doors))
 
 -- ---- on the way to `vanished`
 
--- the first k words of both arrays are those of the packets that are not addressed to column i; words from k on are as they were
-pub record Kept (i count k : ℕ) (heads doors heads' doors' : List ℕ) : Type 0 where
-  pub many : k ≡ length (keeping (elsewhere i) (take count heads) (take count heads))
-  pub heads-are : heads' ≡ partly (elsewhere i) heads heads count
-  pub doors-are : doors' ≡ partly (elsewhere i) heads doors count
+-- the first k words of both arrays are those of the packets that are addressed to no member; words from k on are as they were
+pub record Kept (member : ℕ → Bool) (count k : ℕ) (heads doors heads' doors' : List ℕ) : Type 0 where
+  pub many : k ≡ length (keeping (elsewhere member) (take count heads) (take count heads))
+  pub heads-are : heads' ≡ partly (elsewhere member) heads heads count
+  pub doors-are : doors' ≡ partly (elsewhere member) heads doors count

@@ -3,12 +3,15 @@
 use Prim.Native.Nat.{ℕ, _≤_}
 use mathlib.Core.Path.{_≡_, refl, sym, ap, subst, _∙_}
 use mathlib.Core.Bool.{Bool, true, false, not, cond, true≢false}
+use mathlib.Core.Logic.{⊎-elim}
 use mathlib.Core.List.{List, [], _∷_}
 use native.Mathlib.Omega.{arith}
 use lib.Dec.{eqb, leb, ltb}
 use lib.ListN.{getD}
 use lib.Seq.{getD-set-other}
-use borrow.Author.Tests.{eqb-true, not-false}
+use borrow.Author.Tests.{eq-eqb, eqb-true, eqb-false, not-false}
+use Rattle.column.specs.Cases.{truth}
+use Rattle.column.specs.Sets.{has}
 use Rattle.column.specs.Refusals.{first, earlier}
 use Rattle.column.specs.RefusalLaws.{passed, earlier-none}
 use Rattle.column.specs.Columns.{standing}
@@ -19,23 +22,25 @@ use Rattle.column.specs.declared.tree.Tree.{Tree}
 use Rattle.column.specs.declared.state.Column.{Column}
 use Rattle.column.specs.declared.packet.Packet.{Packet}
 use Rattle.bank.specs.Banks.{State, columnAt, runs, packetAt, capacity, noColumn, bankRefusal, actingRefusal}
-use Rattle.bank.specs.Networks.{withPacket, put, puts, removed, vanished}
-use Rattle.bank.specs.Steps.{Outcome, accepted, refused, after, unless, fitting, settled, acted, delivered, takeRefusal, perform}
+use Rattle.bank.specs.Networks.{withPacket, put, puts, removed}
+use Rattle.bank.specs.Steps.{Outcome, accepted, refused, after, unless, fitting, settled, acted, delivered, takeRefusal, halted, haltConditions, haltRefusal, perform}
 use Rattle.bank.specs.Exact.{ownRefusal, refusalOf}
 use Rattle.bank.specs.ExactLaws.{exact}
+use Rattle.bank.specs.StripStates.{column-at}
+use Rattle.bank.specs.StripLaws.{halts}
 use Rattle.bank.specs.Rest.{Running}
 use Rattle.bank.specs.declared.step.Step.{Step}
 use Rattle.bank.specs.declared.step.Step.the-variants.{Order, Send, Take, Ack, All, Note, Halt}
 
--- whose place a step may rewrite: "order: the root; note: the first"; of a take "the packet goes to its receiver"
-abbrev pub acting : State → Step → ℕ
-acting s (Order doors) = s .bank .tree .root
-acting s (Send i) = i
-acting s (Take place) = receiver (packetAt s place)
-acting s (Ack i) = i
-acting s (All i) = i
-acting s (Note i j) = i
-acting s (Halt i) = i
+-- whose place a step may rewrite: "order: the root; note: the first"; of a take "the packet goes to its receiver"; a halt's members
+abbrev pub acts : State → Step → ℕ → Bool
+acts s (Order doors) j = eqb j (s .bank .tree .root)
+acts s (Send i) j = eqb j i
+acts s (Take place) j = eqb j (receiver (packetAt s place))
+acts s (Ack i) j = eqb j i
+acts s (All i) j = eqb j i
+acts s (Note i k) j = eqb j i
+acts s (Halt m) j = has m j
 
 -- ---- the other places
 
@@ -85,17 +90,22 @@ module _ (s : State) (i j : ℕ) (other : j ≡ i → ⊥) where
   unfolding acted
   kept-acted r = kept-unless (actingRefusal s i) _ (kept-settled s refl r)
 
-pub others-kept : (s : State) (x : Step) (j : ℕ) → (j ≡ acting s x → ⊥) → columnAt (after (perform s x) .bank) j ≡ columnAt (s .bank) j
-unfolding perform delivered vanished
-others-kept s (Order doors) j other = kept-acted s _ j other _
-others-kept s (Send i) j other = kept-acted s i j other _
-others-kept s (Take place) j other =
+kept-halted : (s : State) (m j : ℕ) → has m j ≡ false → (b : Bool)
+    → columnAt (after (cond b (accepted (halted s (has m))) (refused (haltRefusal s m) s)) .bank) j ≡ columnAt (s .bank) j
+kept-halted s m j e true = column-at s (has m) j ∙ rw e
+kept-halted s m j e false = refl
+
+pub others-kept : (s : State) (x : Step) (j : ℕ) → acts s x j ≡ false → columnAt (after (perform s x) .bank) j ≡ columnAt (s .bank) j
+unfolding perform delivered
+others-kept s (Order doors) j e = kept-acted s _ j (eqb-false j _ e) _
+others-kept s (Send i) j e = kept-acted s i j (eqb-false j i e) _
+others-kept s (Take place) j e =
+    let other = eqb-false j (receiver (packetAt s place)) e in
     kept-unless s _ j other (takeRefusal s place) _ (kept-settled s _ j other (removed s place) refl (core.take _ _ _ _))
-others-kept s (Ack i) j other = kept-acted s i j other _
-others-kept s (All i) j other = kept-acted s i j other _
-others-kept s (Note i k) j other = kept-acted s i j other _
-others-kept s (Halt i) j other =
-    kept-unless s i j other (actingRefusal s i) _ (kept-settled s i j other (vanished s i) refl (core.halt _ _ _))
+others-kept s (Ack i) j e = kept-acted s i j (eqb-false j i e) _
+others-kept s (All i) j e = kept-acted s i j (eqb-false j i e) _
+others-kept s (Note i k) j e = kept-acted s i j (eqb-false j i e) _
+others-kept s (Halt m) j e = kept-halted s m j e (eqb (haltRefusal s m) 0)
 
 -- ---- who acts
 
@@ -107,29 +117,37 @@ c s i = columnAt (s .bank) i
 
 module _ (s : State) (i : ℕ) where
   -- the core tests the column first, and among the step's own conditions that it runs
-  runs-by : (m : ℕ) → (m ≡ 0 → not (c s i .running) ≡ false) → earlier (standing (t s) i (c s i)) m ≡ 0 → Running s i
-  runs-by m five e =
+  runs-by : (m : ℕ) → (m ≡ 0 → not (c s i .running) ≡ false) → earlier (standing (t s) i (c s i)) m ≡ 0
+      → (j : ℕ) → eqb j i ≡ true → Running s j
+  runs-by m five e j a =
       let q = earlier-none (standing (t s) i (c s i)) m e in
+      subst (Running s) (sym (eqb-true j i a))
       (standing-sound (t s) i (c s i) (q .0) .below, not-false (c s i .running) (five (q .1)))
 
-own-runs : (s : State) (x : Step) → ownRefusal s x ≡ 0 → Running s (acting s x)
-unfolding core.orderRefusal core.sendRefusal core.takeRefusal core.ackRefusal core.allRefusal core.noteRefusal core.haltRefusal
-own-runs s (Order doors) e = runs-by s (t s .root) _ (λ z. passed (core.orderConditions (t s) (t s .root) (c s (t s .root))) tt z .1 .0) e
-own-runs s (Send i) e = runs-by s i _ (λ z. passed (core.sendConditions (t s) i (c s i)) tt z .0) e
-own-runs s (Take place) e =
+members-run : (s : State) (m : ℕ) → bankRefusal s ≡ 0 → first (haltConditions s m) ≡ 0 → (j : ℕ) → has m j ≡ true → Running s j
+unfolding haltRefusal
+members-run s m b e j h = halts s m (rw (eq-eqb (bankRefusal s) 0 b) e) .2 j h
+
+own-runs : (s : State) (x : Step) → bankRefusal s ≡ 0 → ownRefusal s x ≡ 0 → (j : ℕ) → acts s x j ≡ true → Running s j
+unfolding core.orderRefusal core.sendRefusal core.takeRefusal core.ackRefusal core.allRefusal core.noteRefusal
+own-runs s (Order doors) b e = runs-by s (t s .root) _ (λ z. passed (core.orderConditions (t s) (t s .root) (c s (t s .root))) tt z .1 .0) e
+own-runs s (Send i) b e = runs-by s i _ (λ z. passed (core.sendConditions (t s) i (c s i)) tt z .0) e
+own-runs s (Take place) b e =
     let p = packetAt s place in
     let l = core.takeConditions (t s) (receiver p) (c s (receiver p)) p in
     runs-by s (receiver p) _ (λ z. passed l tt (earlier-none (core.packetRefusal (t s) p) (first l) z .1) .1 .0)
     (earlier-none (first ((10, leb (s .bank .count) place) ∷ [])) _ e .1)
-own-runs s (Ack i) e = runs-by s i _ (λ z. passed (core.ackConditions (t s) i (c s i)) tt z .0) e
-own-runs s (All i) e = runs-by s i _ (λ z. passed (core.allConditions (t s) i (c s i)) tt z .0) e
-own-runs s (Note i j) e =
-    runs-by s i _ (λ z. passed (core.noteConditions (t s) i (c s i) j) tt z .1 .0) (earlier-none _ (first ((6, runs (s .bank) j) ∷ [])) e .0)
-own-runs s (Halt i) e = runs-by s i _ (λ z. passed (core.haltConditions (t s) i (c s i)) tt z .0) e
+own-runs s (Ack i) b e = runs-by s i _ (λ z. passed (core.ackConditions (t s) i (c s i)) tt z .0) e
+own-runs s (All i) b e = runs-by s i _ (λ z. passed (core.allConditions (t s) i (c s i)) tt z .0) e
+own-runs s (Note i k) b e =
+    runs-by s i _ (λ z. passed (core.noteConditions (t s) i (c s i) k) tt z .1 .0) (earlier-none _ (first ((6, runs (s .bank) k) ∷ [])) e .0)
+own-runs s (Halt m) b e = members-run s m b e
 
--- a step that is not refused is one of a column that runs
-pub acting-runs : (s : State) (x : Step) → refusalOf s x ≡ 0 → Running s (acting s x)
-acting-runs s x e = own-runs s x (earlier-none (ownRefusal s x) _ (earlier-none (bankRefusal s) _ e .1) .0)
+-- a step that is not refused is one of columns that run
+pub acting-runs : (s : State) (x : Step) → refusalOf s x ≡ 0 → (j : ℕ) → acts s x j ≡ true → Running s j
+acting-runs s x e =
+    let q = earlier-none (bankRefusal s) _ e in
+    own-runs s x (q .0) (earlier-none (ownRefusal s x) _ (q .1) .0)
 
 -- ---- who does not run, and what is unused
 
@@ -138,7 +156,7 @@ module _ (s : State) (x : Step) (j : ℕ) where
   idle-kept idle = go (eqb (refusalOf s x) 0) refl
     where
       go : (b : Bool) → eqb (refusalOf s x) 0 ≡ b → columnAt (after (perform s x) .bank) j ≡ columnAt (s .bank) j
-      go true e = others-kept s x j (λ z. idle (subst (Running s) (sym z) (acting-runs s x (eqb-true (refusalOf s x) 0 e))))
+      go true e = others-kept s x j (⊎-elim (λ a. absurd (idle (acting-runs s x (eqb-true (refusalOf s x) 0 e) j a))) (λ a. a) (truth (acts s x j)))
       go false e = ap (λ (o : Outcome State). columnAt (after o .bank) j) (exact s x) ∙ rw e
 
   -- "i stops for good": number, doors, sets, those noted and goal stay as they were

@@ -12,6 +12,7 @@ use Rattle.column.specs.Refusals.{first, earlier}
 use Rattle.column.specs.RefusalLaws.{passed, earlier-none, earlier-zero}
 use Rattle.column.specs.TreeLaws.{tree-sixteen}
 use Rattle.column.specs.Packets.{receiver}
+use Rattle.column.specs.Columns.{stopped}
 use Rattle.column.specs.StateLaws.{acceptable}
 use Rattle.column.specs.Steps as core
 use Rattle.column.specs.Steps.{haltRefusal, haltEffect}
@@ -22,9 +23,9 @@ use Rattle.column.specs.declared.packet.Packet.{Packet}
 use Rattle.bank.specs.Banks.{State, state, columnAt, runs, packetAt, capacity, bankRefusal, actingRefusal}
 use Rattle.bank.specs.StandingLaws.{stands, acting}
 use Rattle.bank.specs.Lists.{keeping-few}
-use Rattle.bank.specs.Networks.{withPacket, put, puts, elsewhere, vanished}
-use Rattle.bank.specs.Steps.{Outcome, accepted, refused, answered, outcome, unless, withColumn, fitting, settled, acted, noted}
-use Rattle.bank.specs.Steps.{takeRefusal}
+use Rattle.bank.specs.Networks.{withPacket, put, puts, only, elsewhere, vanished}
+use Rattle.bank.specs.Steps.{Outcome, accepted, refused, answered, outcome, unless, withColumn, fitting, settled, acted, noted, takeRefusal}
+use Rattle.bank.specs.Steps as strip
 use Rattle.bank.specs.declared.bank.Bank.{Bank}
 use Rattle.bank.specs.declared.bank.Answer.{Answer}
 use Rattle.bank.specs.declared.bank.Answer.the-variants.{Done, Refused}
@@ -149,14 +150,6 @@ module _ (b : Bank) (i j : ℕ) where
       six n true z = refl
       six n false z = rw z
 
--- ---- what the core refuses
-
-abbrev pub isRefused : core-answer.Answer → Bool
-isRefused core-is.Done = false
-isRefused (core-is.Put p) = false
-isRefused (core-is.Left p) = false
-isRefused (core-is.Refused n) = true
-
 -- ---- take
 
 -- n is the refusal of a take, whatever the doors
@@ -175,37 +168,19 @@ takes s place e =
 
 -- ---- halt
 
--- the core halts a column without a packet
-abbrev pub halted : State → ℕ → core.Result → Outcome State
-halted s i (core.accepted c packets left) = accepted (withColumn (vanished s i) i c)
-halted s i (core.refused n c) = refused n s
+-- n is the refusal of a halt, whatever the doors
+abbrev pub RefusesHalting : ℕ → Bank → List ℕ → ℕ → Type 0
+RefusesHalting n b heads m = (doors : List ℕ) → n ≡ strip.haltRefusal (state b heads doors) m
 
-module _ (s : State) (i : ℕ) (c : Column) where
-  pub halted-refused : (a : core-answer.Answer) → isRefused a ≡ true → settled s s i (core.answered c a) ≡ halted s i (core.answered c a)
-  halted-refused core-is.Done e = absurd (true≢false (sym e))
-  halted-refused (core-is.Put p) e = absurd (true≢false (sym e))
-  halted-refused (core-is.Left p) e = absurd (true≢false (sym e))
-  halted-refused (core-is.Refused n) e = refl
-
-  pub halted-accepted : (a : core-answer.Answer) → isRefused a ≡ false
-      → accepted (withColumn (vanished s i) i c) ≡ halted s i (core.answered c a)
-  halted-accepted core-is.Done e = refl
-  halted-accepted (core-is.Put p) e = refl
-  halted-accepted (core-is.Left p) e = refl
-  halted-accepted (core-is.Refused n) e = absurd (true≢false e)
-
-pub vanished-few : (s : State) (i : ℕ) → s .bank .count ≤ capacity → vanished s i .bank .count ≤ capacity
+pub vanished-few : (s : State) (member : ℕ → Bool) → s .bank .count ≤ capacity → vanished s member .bank .count ≤ capacity
 unfolding vanished
-vanished-few s i room =
+vanished-few s member room =
     let h = list.take (s .bank .count) (s .heads) in
-    omega (arith, room, keeping-few (elsewhere i) h h, list.length-take (s .bank .count) (s .heads))
+    omega (arith, room, keeping-few (elsewhere member) h h, list.length-take (s .bank .count) (s .heads))
 
 module _ (s : State) (i : ℕ) (c : Column) (room : s .bank .count ≤ capacity) where
-  pub halted-settled : halted s i (core.halt (s .bank .tree) i c) ≡ settled s (vanished s i) i (core.halt (s .bank .tree) i c)
+  -- the core halts a column without a packet
+  pub halted-settled : haltRefusal (s .bank .tree) i c ≡ 0
+      → settled s (vanished s (only i)) i (core.halt (s .bank .tree) i c) ≡ accepted (withColumn (vanished s (only i)) i (stopped c))
   unfolding haltEffect puts
-  halted-settled = go (eqb (haltRefusal (s .bank .tree) i c) 0)
-    where
-      go : (b : Bool) → let r = cond b (haltEffect c) (core.refused (haltRefusal (s .bank .tree) i c) c) in
-          halted s i r ≡ settled s (vanished s i) i r
-      go true = fits s (withColumn (vanished s i) i _) (vanished-few s i room)
-      go false = refl
+  halted-settled e = rw e (sym (fits s (withColumn (vanished s (only i)) i (stopped c)) (vanished-few s (only i) room)))

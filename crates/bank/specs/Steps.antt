@@ -1,11 +1,13 @@
 -- The steps of a bank, after document 01, "Steps" and "Refused, and by which number": the core's step on one place, and its packet.
-use Prim.Native.Nat.{ℕ}
-use mathlib.Core.Bool.{cond}
+use Prim.Native.Nat.{ℕ, suc}
+use mathlib.Core.Bool.{Bool, not, _||_, cond}
 use mathlib.Core.List.{List, [], _∷_}
 use lib.Dec.{eqb, leb, ltb}
 use lib.ListN.{set}
 use Rattle.column.specs.Refusals.{first, earlier}
-use Rattle.column.specs.Trees.{treeRefusal}
+use Rattle.column.specs.Sets.{has, within}
+use Rattle.column.specs.Trees.{every, treeRefusal}
+use Rattle.column.specs.Columns.{stopped}
 use Rattle.column.specs.Packets.{receiver}
 use Rattle.column.specs.Steps as core
 use Rattle.column.specs.declared.tree.Tree.{Tree}
@@ -110,10 +112,36 @@ delivered s place p =
 abbrev pub take : State → ℕ → Outcome State
 take s place = unless (takeRefusal s place) s (delivered s place (packetAt s place))
 
--- "i stops for good; packets to it vanish"
+-- the places from k on, with every member stopped
+unfoldable pub stopping : (ℕ → Bool) → ℕ → List Column → List Column
+stopping member k [] = []
+stopping member k (c ∷ l) = cond (member k) (stopped c) c ∷ stopping member (suc k) l
+
+abbrev pub withStopped : Bank → (ℕ → Bool) → Bank
+withStopped b member = record { tree = b .tree; columns = stopping member 0 (b .columns); count = b .count }
+
+unfoldable pub halted : State → (ℕ → Bool) → State
+halted s member =
+    let v = vanished s member in
+    state (withStopped (v .bank) member) (v .heads) (v .doors)
+
+-- every member of m runs
+abbrev pub membersRun : Bank → ℕ → Bool
+membersRun b m = every (λ j. not (has m j) || runs b j) (b .tree .columns)
+
+-- "If any is 4 or 5, none halts."
+abbrev pub haltConditions : State → ℕ → List (ℕ × Bool)
+haltConditions s m =
+    (4, not (within m (s .bank .tree .columns)))
+    ∷ (5, not (membersRun (s .bank) m))
+    ∷ []
+
+unfoldable pub haltRefusal : State → ℕ → ℕ
+haltRefusal s m = earlier (bankRefusal s) (first (haltConditions s m))
+
+-- "`halt=` takes a list of one or more columns .., and all of them halt in the same step": the set of them
 abbrev pub halt : State → ℕ → Outcome State
-halt s i =
-    unless (actingRefusal s i) s (settled s (vanished s i) i (core.halt (s .bank .tree) i (columnAt (s .bank) i)))
+halt s m = unless (haltRefusal s m) s (accepted (halted s (has m)))
 
 -- one step, whichever it is
 unfoldable pub perform : State → Step → Outcome State
@@ -123,4 +151,4 @@ perform s (Take place) = take s place
 perform s (Ack i) = ack s i
 perform s (All i) = all s i
 perform s (Note i j) = note s i j
-perform s (Halt i) = halt s i
+perform s (Halt m) = halt s m

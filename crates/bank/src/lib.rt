@@ -5,4 +5,5 @@ pub mod rest;
 mod settling;
 pub mod standing;
 pub mod step;
+mod strip;
 mod words;

@@ -8,6 +8,7 @@ use column::packet::Packet;
 ghost use mathlib.Core.Path.{_≡_};
 ghost use Prim.Native.Nat.{_+_, _≤_, _<_};
 ghost use lib.ListN.{length, take};
+ghost use Rattle.column.specs.Sets.{has};
 ghost use Rattle.bank.specs.Lists.{closedUp, padded};
 ghost use Rattle.bank.specs.Banks.{state};
 ghost use Rattle.bank.specs.Networks.{withPacket, removed, vanished, Kept};
@@ -49,17 +50,27 @@ pub fn remove(b: Bank, place: usize, heads: &mut [u64; 512], doors: &mut [u64; 5
     d
 }
 
-// Of the first `count` packets, those that are not addressed to column i, moved up; answers how many they are.
-fn keep(i: usize, count: usize, heads: &mut [u64], doors: &mut [u64]) -> usize
+// Whether j is a member of a set with room for numbers that no bank has.
+pub fn member(m: u32, j: usize) -> bool
+    ensures { λ r. ⌜ r ≡ has m j ⌝ }
+{
+    if 32 <= j {
+        return false;
+    }
+    (m >> j) % 2 == 1
+}
+
+// Of the first `count` packets, those that are addressed to no member of m, moved up; answers how many they are.
+fn keep(m: u32, count: usize, heads: &mut [u64], doors: &mut [u64]) -> usize
     requires { ⌜ (count ≤ length (now heads)) × (count ≤ length (now doors)) ⌝ }
-    ensures { λ r. ⌜ Kept i count r (now (heads .entry)) (now (doors .entry)) (now (heads .exit)) (now (doors .exit)) ⌝ }
+    ensures { λ r. ⌜ Kept (has m) count r (now (heads .entry)) (now (doors .entry)) (now (heads .exit)) (now (doors .exit)) ⌝ }
 {
     let mut kept: usize = 0;
     let mut j: usize = 0;
     while j < count {
         let head = heads[j];
         let word = doors[j];
-        if receiver_in(head) != i {
+        if !member(m, receiver_in(head)) {
             heads[kept] = head;
             doors[kept] = word;
             kept += 1;
@@ -80,13 +91,13 @@ fn clear(words: &mut [u64], from: usize, to: usize)
     }
 }
 
-// The bank without the packets that are addressed to column i.
-pub fn vanish(b: Bank, i: usize, heads: &mut [u64; 512], doors: &mut [u64; 512]) -> Bank
+// The bank without the packets that are addressed to a member of m.
+pub fn vanish(b: Bank, m: u32, heads: &mut [u64; 512], doors: &mut [u64; 512]) -> Bank
     requires { ⌜ b .count ≤ 512 ⌝ }
-    ensures { λ r. ⌜ state r (now (heads .exit)) (now (doors .exit)) ≡ vanished (state b (now (heads .entry)) (now (doors .entry))) i ⌝ }
+    ensures { λ r. ⌜ state r (now (heads .exit)) (now (doors .exit)) ≡ vanished (state b (now (heads .entry)) (now (doors .entry))) (has m) ⌝ }
 {
     let count = b.count;
-    let kept = keep(i, count, heads, doors);
+    let kept = keep(m, count, heads, doors);
     clear(heads, kept, count);
     clear(doors, kept, count);
     let mut d = b;

@@ -7,11 +7,10 @@ use crate::settling::column_at;
 use crate::settling::done;
 use crate::settling::refused;
 use crate::settling::runs;
-use crate::settling::settle;
 use crate::settling::settle_taken;
-use crate::settling::with_column;
-use crate::standing::acting_refusal;
 use crate::standing::bank_refusal;
+use crate::strip::halt_refusal;
+use crate::strip::stop;
 use crate::words::packet;
 use column::packet::Packet;
 use column::packet::receiver;
@@ -25,7 +24,7 @@ ghost use Prim.Native.Nat.{_≤_, _<_};
 ghost use Rattle.column.specs.Packets.{receiver};
 ghost use Rattle.column.specs.Steps.{meant};
 ghost use Rattle.bank.specs.Banks.{state};
-ghost use Rattle.bank.specs.StepLaws.{RefusesTaking, isRefused, halted};
+ghost use Rattle.bank.specs.StepLaws.{RefusesTaking};
 ghost use Rattle.bank.specs.Steps.{outcome, delivered, order, send, take, ack, all, noted, note, halt, perform};
 
 pub enum Step {
@@ -35,7 +34,7 @@ pub enum Step {
     Ack(usize),
     All(usize),
     Note(usize, usize),
-    Halt(usize),
+    Halt(u32),
 }
 
 // The bank with these doors given to its root under the next number.
@@ -106,17 +105,6 @@ pub fn all(b: Bank, i: usize, heads: &mut [u64; 512], doors: &mut [u64; 512]) ->
     act(b, i, o, heads, doors)
 }
 
-fn is_refused(a: Answer) -> bool
-    ensures { λ r. ⌜ r ≡ isRefused a ⌝ }
-{
-    match a {
-        Answer::Done => false,
-        Answer::Put(_) => false,
-        Answer::Left(_) => false,
-        Answer::Refused(_) => true,
-    }
-}
-
 // The core believes that the column to note is halted; the bank tests it.
 fn noted(b: Bank, i: usize, j: usize) -> Outcome
     ensures { λ r. ⌜ meant r ≡ noted b i j ⌝ }
@@ -140,34 +128,15 @@ pub fn note(b: Bank, i: usize, j: usize, heads: &mut [u64; 512], doors: &mut [u6
     act(b, i, noted(b, i, j), heads, doors)
 }
 
-// The core's outcome o of a halt of column i: packets to it vanish.
-fn settle_halted(
-    b: Bank,
-    i: usize,
-    o: Outcome,
-    heads: &mut [u64; 512],
-    doors: &mut [u64; 512],
-) -> Result
-    requires { ⌜ (i < 16) × (b .count ≤ 512) ⌝ }
-    ensures { λ r. ⌜ outcome r (now (heads .exit)) (now (doors .exit)) ≡ halted (state b (now (heads .entry)) (now (doors .entry))) i (meant o) ⌝ }
+// The bank with every column of a set halted, and without the packets to them.
+pub fn halt(b: Bank, m: u32, heads: &mut [u64; 512], doors: &mut [u64; 512]) -> Result
+    ensures { λ r. ⌜ outcome r (now (heads .exit)) (now (doors .exit)) ≡ halt (state b (now (heads .entry)) (now (doors .entry))) m ⌝ }
 {
-    let a = o.answer;
-    if is_refused(a) {
-        return settle(b, i, o, heads, doors);
-    }
-    done(with_column(vanish(b, i, heads, doors), i, o.column))
-}
-
-// The bank without column i and the packets to it.
-pub fn halt(b: Bank, i: usize, heads: &mut [u64; 512], doors: &mut [u64; 512]) -> Result
-    ensures { λ r. ⌜ outcome r (now (heads .exit)) (now (doors .exit)) ≡ halt (state b (now (heads .entry)) (now (doors .entry))) i ⌝ }
-{
-    let n = acting_refusal(b, i, heads);
+    let n = halt_refusal(b, m, heads);
     if n != 0 {
         return refused(b, n);
     }
-    let o = column::step::halt(b.tree, i, column_at(b, i));
-    settle_halted(b, i, o, heads, doors)
+    done(stop(vanish(b, m, heads, doors), m))
 }
 
 // The bank after any of the seven steps.
@@ -181,6 +150,6 @@ pub fn perform(b: Bank, x: Step, heads: &mut [u64; 512], doors: &mut [u64; 512])
         Step::Ack(i) => ack(b, i, heads, doors),
         Step::All(i) => all(b, i, heads, doors),
         Step::Note(i, j) => note(b, i, j, heads, doors),
-        Step::Halt(i) => halt(b, i, heads, doors),
+        Step::Halt(m) => halt(b, m, heads, doors),
     }
 }

@@ -5,8 +5,8 @@ use mathlib.Core.List.{List, [], _∷_, map}
 use Rattle.column.specs.Packets.{lowValue}
 use Rattle.bank.specs.declared.step.Step.the-variants.{Order, Send, Take, Ack, All, Note, Halt}
 use Rattle.closing.specs.Text.{bytes, Reading, read, unread, allDigits, valueFrom, leadingZero, numeral, startsWith, afterKey}
-use Rattle.closing.specs.Tables.{longer, pieces, numeralIn}
-use Rattle.closing.specs.Lines.{Command, perform, list, allHexadecimal, hexadecimalBytes, doorsIn, asking, noteOf, noteOfPieces, noteIn, orElse, commandOf}
+use Rattle.closing.specs.Tables.{longer, pieces, withNumber, numerals, numeralIn}
+use Rattle.closing.specs.Lines.{Command, perform, list, allHexadecimal, hexadecimalBytes, doorsIn, asking, noteOf, noteOfPieces, noteIn, withMembers, haltAfter, haltIn, orElse, commandOf}
 
 -- a line, and what it asks for
 abbrev lines : List (String × Reading Command)
@@ -23,14 +23,24 @@ lines =
     ∷ ("send=99", read (perform (Send 99)))
     ∷ ("ack=15", read (perform (Ack 15)))
     ∷ ("all=3", read (perform (All 3)))
-    ∷ ("halt=0", read (perform (Halt 0)))
+    ∷ ("halt=0", read (perform (Halt 1)))
     ∷ ("list=0", read (list 0))
     ∷ ("send=100", unread)
     ∷ ("send=01", unread)
     ∷ ("send= 0", unread)
     ∷ ("send=", unread)
     ∷ ("SEND=0", unread)
-    ∷ ("halt=1,2", unread)
+    -- "a list of one or more columns divided by commas": the set of them, 65536 for numbers that no bank has
+    ∷ ("halt=1,2", read (perform (Halt 6)))
+    ∷ ("halt=2,1,2", read (perform (Halt 6)))
+    ∷ ("halt=15", read (perform (Halt 32768)))
+    ∷ ("halt=16,99", read (perform (Halt 65536)))
+    ∷ ("halt=0,0,0,0,0,0,0,0,0,0,0,0,0,0,0,0,0,3", read (perform (Halt 9)))
+    ∷ ("halt=", unread)
+    ∷ ("halt=1,", unread)
+    ∷ ("halt=,1", unread)
+    ∷ ("halt=01", unread)
+    ∷ ("halt=1,100", unread)
     -- "`note=` with two divided by a comma"
     ∷ ("note=0,9", read (perform (Note 0 9)))
     ∷ ("note=1", unread)
@@ -46,5 +56,5 @@ lines =
     ∷ []
 
 pub every-line : map (λ r. commandOf (bytes (r .0))) lines ≡ map (λ r. r .1) lines
-unfolding lowValue allDigits valueFrom leadingZero numeral startsWith afterKey longer pieces numeralIn allHexadecimal hexadecimalBytes doorsIn asking noteOf noteOfPieces noteIn orElse commandOf
+unfolding lowValue allDigits valueFrom leadingZero numeral startsWith afterKey longer pieces numeralIn allHexadecimal hexadecimalBytes doorsIn asking noteOf noteOfPieces noteIn withMembers haltAfter haltIn withNumber numerals orElse commandOf
 every-line = refl

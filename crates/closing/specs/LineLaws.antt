@@ -2,9 +2,9 @@
 -- Assumes nothing.
 use Prim.Native.Nat.{ℕ, suc, _+_, _-_, _≤_, _<_}
 use mathlib.Core.Path.{_≡_, refl, sym, ap, _∙_}
-use mathlib.Core.Bool.{Bool, true, false, not, _&&_, cond}
+use mathlib.Core.Bool.{Bool, true, false, not, _&&_, _||_, cond, or-false, or-assoc}
 use mathlib.Core.Logic.{⊎-elim}
-use mathlib.Core.List.{List, [], _∷_}
+use mathlib.Core.List.{List, [], _∷_, map}
 use native.Mathlib.Omega.{arith}
 use lib.Dec.{eqb, leb, ltb}
 use lib.ListN.{length, getD, take, drop}
@@ -12,12 +12,15 @@ use lib.Seq.{take-all}
 use borrow.Author.Tests.{ne-eqb, eqb-true, ltb-true, ltb-false, le-leb}
 use Rattle.bytes.specs.Bytes.{indexOf, indexAfter, slice}
 use Rattle.column.specs.Cases.{truth, none-and}
+use Rattle.column.specs.Sets.{has, insert}
+use Rattle.column.specs.SetLaws.{has-none, has-insert}
+use Rattle.bank.specs.Strips.{among}
 use Rattle.bank.specs.declared.step.Step.the-variants.{Send, Take, Ack, All, Halt}
 use Rattle.closing.specs.Text.{orderKey, sendKey, takeKey, ackKey, allKey, noteKey, haltKey, listKey, comma, Reading, read, unread, isDigit, allDigits, valueFrom, leadingZero, numeral, startsWith, afterKey}
-use Rattle.closing.specs.Tables.{pieces, numeralIn, keyed}
-use Rattle.closing.specs.Lines.{Command, perform, list, asking, doorsIn, noteOf, noteOfPieces, noteIn, orElse, commandOf}
+use Rattle.closing.specs.Tables.{pieces, withNumber, numerals, numeralIn, keyed}
+use Rattle.closing.specs.Lines.{Command, perform, list, asking, doorsIn, noteOf, noteOfPieces, noteIn, memberOf, withMembers, haltAfter, haltIn, orElse, commandOf}
 use Rattle.closing.specs.Readings.{starts-length, rest-of}
-use Rattle.closing.specs.Cutting.{pieces-next, piecesFrom, pieces-end, piece-from}
+use Rattle.closing.specs.Cutting.{Found, pieces-next, piecesFrom, pieces-end, piece-from}
 use Rattle.closing.specs.declared.line.Asked.{Asked}
 use Rattle.closing.specs.declared.line.Asked.the-variants as asked-is
 
@@ -27,7 +30,6 @@ asked asked-is.Send n = perform (Send n)
 asked asked-is.Take n = perform (Take n)
 asked asked-is.Ack n = perform (Ack n)
 asked asked-is.All n = perform (All n)
-asked asked-is.Halt n = perform (Halt n)
 asked asked-is.List n = list n
 
 -- ---- keys
@@ -47,7 +49,7 @@ starts-not k key (b ∷ l) ne = rw (ne-eqb k b (λ e. ne (sym e)))
 
 module _ (l : List ℕ) where
   pub short-line : length l < 2 → commandOf l ≡ unread
-  unfolding commandOf afterKey asking doorsIn noteIn orElse numeralIn
+  unfolding commandOf afterKey asking doorsIn noteIn haltIn orElse numeralIn
   short-line h = rw (
     starts-few orderKey l (omega arith),
     starts-few sendKey l (omega arith),
@@ -61,7 +63,7 @@ module _ (l : List ℕ) where
 
   pub other-line : (getD l 0 0 ≡ 111 → ⊥) → (getD l 0 0 ≡ 115 → ⊥) → (getD l 0 0 ≡ 116 → ⊥) → (getD l 0 0 ≡ 97 → ⊥)
       → (getD l 0 0 ≡ 110 → ⊥) → (getD l 0 0 ≡ 104 → ⊥) → (getD l 0 0 ≡ 108 → ⊥) → commandOf l ≡ unread
-  unfolding commandOf afterKey asking doorsIn noteIn orElse numeralIn
+  unfolding commandOf afterKey asking doorsIn noteIn haltIn orElse numeralIn
   other-line o s t a n h i = rw (
     starts-not 111 (drop 1 orderKey) l o,
     starts-not 115 (drop 1 sendKey) l s,
@@ -79,39 +81,39 @@ first-byte b f p h [] e = absurd (omega (arith, p, e))
 first-byte b f p h (x ∷ l) e = rw e (h l)
 
 pub order-line : (l : List ℕ) → getD l 0 0 ≡ 111 → commandOf l ≡ doorsIn (afterKey orderKey l)
-unfolding commandOf startsWith afterKey asking doorsIn noteIn orElse numeralIn
+unfolding commandOf startsWith afterKey asking doorsIn noteIn haltIn orElse numeralIn
 order-line = first-byte 111 _ (omega arith) (λ l. or-unread _)
 
 pub send-line : (l : List ℕ) → getD l 0 0 ≡ 115 → commandOf l ≡ asking (asked asked-is.Send) (keyed sendKey 2 l)
-unfolding commandOf startsWith afterKey asking doorsIn noteIn orElse numeralIn
+unfolding commandOf startsWith afterKey asking doorsIn noteIn haltIn orElse numeralIn
 send-line = first-byte 115 _ (omega arith) (λ l. or-unread _)
 
 pub take-line : (l : List ℕ) → getD l 0 0 ≡ 116 → commandOf l ≡ asking (asked asked-is.Take) (keyed takeKey 3 l)
-unfolding commandOf startsWith afterKey asking doorsIn noteIn orElse numeralIn
+unfolding commandOf startsWith afterKey asking doorsIn noteIn haltIn orElse numeralIn
 take-line = first-byte 116 _ (omega arith) (λ l. or-unread _)
 
 pub ack-line : (l : List ℕ) → getD l 0 0 ≡ 97 → getD l 1 0 ≡ 99 → commandOf l ≡ asking (asked asked-is.Ack) (keyed ackKey 2 l)
-unfolding commandOf startsWith afterKey asking doorsIn noteIn orElse numeralIn
+unfolding commandOf startsWith afterKey asking doorsIn noteIn haltIn orElse numeralIn
 ack-line [] e f = absurd (omega arith)
 ack-line (a ∷ []) e f = absurd (omega arith)
 ack-line (a ∷ b ∷ l) e f = rw (e, f) (or-unread _)
 
 pub all-line : (l : List ℕ) → getD l 0 0 ≡ 97 → (getD l 1 0 ≡ 99 → ⊥) → commandOf l ≡ asking (asked asked-is.All) (keyed allKey 2 l)
-unfolding commandOf startsWith afterKey asking doorsIn noteIn orElse numeralIn
+unfolding commandOf startsWith afterKey asking doorsIn noteIn haltIn orElse numeralIn
 all-line [] e ne = absurd (omega arith)
 all-line (a ∷ []) e ne = rw e
 all-line (a ∷ b ∷ l) e ne = rw (e, ne-eqb 99 b (λ z. ne (sym z))) (or-unread _)
 
 pub note-line : (l : List ℕ) → getD l 0 0 ≡ 110 → commandOf l ≡ noteIn (afterKey noteKey l)
-unfolding commandOf startsWith afterKey asking doorsIn noteIn orElse numeralIn
+unfolding commandOf startsWith afterKey asking doorsIn noteIn haltIn orElse numeralIn
 note-line = first-byte 110 _ (omega arith) (λ l. or-unread _)
 
-pub halt-line : (l : List ℕ) → getD l 0 0 ≡ 104 → commandOf l ≡ asking (asked asked-is.Halt) (keyed haltKey 2 l)
-unfolding commandOf startsWith afterKey asking doorsIn noteIn orElse numeralIn
+pub halt-line : (l : List ℕ) → getD l 0 0 ≡ 104 → commandOf l ≡ haltIn (afterKey haltKey l)
+unfolding commandOf startsWith afterKey asking doorsIn noteIn haltIn orElse numeralIn
 halt-line = first-byte 104 _ (omega arith) (λ l. or-unread _)
 
 pub list-line : (l : List ℕ) → getD l 0 0 ≡ 108 → commandOf l ≡ asking (asked asked-is.List) (keyed listKey 2 l)
-unfolding commandOf startsWith afterKey asking doorsIn noteIn orElse numeralIn
+unfolding commandOf startsWith afterKey asking doorsIn noteIn haltIn orElse numeralIn
 list-line = first-byte 108 _ (omega arith) (λ l. refl)
 
 -- ---- notes
@@ -169,3 +171,37 @@ module _ (l : List ℕ) (s : startsWith noteKey l ≡ true) (r : ℕ) (h : r ≤
   note-two k =
       pieces-of
       ∙ rw (le-leb (r + 1) (length l) (omega arith), rest-of l (r + 1)) (two-pieces (take (r - 5) (drop 5 l)) (drop (r + 1) l))
+
+-- ---- halts
+
+halt-next : (m n : ℕ) (r : Reading (List ℕ)) → haltAfter m (withNumber (read n) r) ≡ haltAfter (insert m (memberOf n)) r
+unfolding haltAfter withMembers withNumber
+halt-next m n (read l) = refl
+halt-next m n unread = refl
+
+-- the piece from `from` up to r is read next
+module _ (m : ℕ) (s : List ℕ) (from r : ℕ) (h : from ≤ length s) (f : Found comma s from r) where
+  pub member-read : (n : ℕ) → numeral 2 (take (r - from) (drop from s)) ≡ read n
+      → haltAfter m (numerals (piecesFrom s from)) ≡ haltAfter (insert m (memberOf n)) (numerals (piecesFrom s (r + 1)))
+  unfolding numerals
+  member-read n k = rw (piece-from s from r h f, k) (halt-next m n (numerals (piecesFrom s (r + 1))))
+
+  pub member-unread : numeral 2 (take (r - from) (drop from s)) ≡ unread → haltAfter m (numerals (piecesFrom s from)) ≡ unread
+  unfolding numerals haltAfter withNumber
+  member-unread k = rw (piece-from s from r h f, k)
+
+pub members-read : (m : ℕ) (s : List ℕ) (from : ℕ) → length s < from → haltAfter m (numerals (piecesFrom s from)) ≡ read (perform (Halt m))
+unfolding numerals haltAfter withMembers
+members-read m s from h = rw (pieces-end s from h)
+
+-- "A column named twice counts as once": the members are the numbers named
+named : (l : List ℕ) (m j : ℕ) → has (withMembers m l) j ≡ (has m j || among (map memberOf l) j)
+unfolding withMembers
+named [] m j = sym (or-false (has m j))
+named (n ∷ l) m j =
+    named l (insert m (memberOf n)) j
+    ∙ ap (λ (b : Bool). b || among (map memberOf l) j) (has-insert m (memberOf n) j)
+    ∙ or-assoc (has m j) (eqb j (memberOf n)) (among (map memberOf l) j)
+
+pub members-named : (l : List ℕ) (j : ℕ) → has (withMembers 0 l) j ≡ among (map memberOf l) j
+members-named l j = named l 0 j ∙ ap (λ (b : Bool). b || among (map memberOf l) j) (has-none j)

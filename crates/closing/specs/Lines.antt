@@ -4,11 +4,12 @@ use mathlib.Core.Bool.{Bool, true, _&&_, _||_, cond}
 use mathlib.Core.List.{List, [], _∷_}
 use lib.Dec.{eqb, leb, ltb}
 use lib.ListN.{length}
+use Rattle.column.specs.Sets.{insert}
 use Rattle.column.specs.Packets.{lowValue}
 use Rattle.bank.specs.declared.step.Step.{Step}
 use Rattle.bank.specs.declared.step.Step.the-variants.{Order, Send, Take, Ack, All, Note, Halt}
 use Rattle.closing.specs.Text.{orderKey, sendKey, takeKey, ackKey, allKey, noteKey, haltKey, listKey, Reading, read, unread, isDigit, numeral, afterKey}
-use Rattle.closing.specs.Tables.{pieces, keyed}
+use Rattle.closing.specs.Tables.{pieces, numerals, keyed}
 use Rattle.closing.specs.declared.line.Line as line
 use Rattle.closing.specs.declared.line.Line.the-variants as line-is
 
@@ -67,6 +68,26 @@ unfoldable pub noteIn : Reading (List ℕ) → Reading Command
 noteIn (read l) = noteOfPieces (pieces l)
 noteIn unread = unread
 
+-- ---- "`halt=` takes a list of one or more columns divided by commas .. A column named twice counts as once."
+
+-- a number as a member of a set: 16, which no bank has, stands for every number that none has
+abbrev pub memberOf : ℕ → ℕ
+memberOf n = cond (ltb n 16) n 16
+
+-- the set with these numbers; `members-named` of LineLaws says that it has them and no others
+unfoldable pub withMembers : ℕ → List ℕ → ℕ
+withMembers m [] = m
+withMembers m (n ∷ l) = withMembers (insert m (memberOf n)) l
+
+-- the set with the numerals still to be read
+unfoldable pub haltAfter : ℕ → Reading (List ℕ) → Reading Command
+haltAfter m (read l) = read (perform (Halt (withMembers m l)))
+haltAfter m unread = unread
+
+unfoldable pub haltIn : Reading (List ℕ) → Reading Command
+haltIn (read l) = haltAfter 0 (numerals (pieces l))
+haltIn unread = unread
+
 -- ---- a line, without its byte 10
 
 unfoldable pub orElse : Reading Command → Reading Command → Reading Command
@@ -81,5 +102,5 @@ commandOf l =
     (orElse (asking (λ i. perform (Ack i)) (keyed ackKey 2 l))
     (orElse (asking (λ i. perform (All i)) (keyed allKey 2 l))
     (orElse (noteIn (afterKey noteKey l))
-    (orElse (asking (λ i. perform (Halt i)) (keyed haltKey 2 l))
+    (orElse (haltIn (afterKey haltKey l))
     (asking list (keyed listKey 2 l))))))))

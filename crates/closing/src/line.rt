@@ -9,10 +9,14 @@ use bank::step::Step;
 use bytes::scan::find;
 ghost use Prim.Native.Nat.{_≤_};
 ghost use mathlib.Core.Path.{_≡_};
-ghost use Rattle.closing.specs.Text.{read, orderKey, noteKey, afterKey};
-ghost use Rattle.closing.specs.Tables.{keyed};
-ghost use Rattle.closing.specs.Lines.{lineMeant, asking, doorsIn, noteIn, commandOf};
+ghost use Rattle.column.specs.Sets.{insert};
+ghost use Rattle.closing.specs.Text.{read, orderKey, noteKey, haltKey, afterKey};
+ghost use Rattle.closing.specs.Tables.{pieces, numerals, keyed};
+ghost use Rattle.closing.specs.Lines.{lineMeant, asking, doorsIn, noteIn, memberOf, haltAfter, haltIn, commandOf};
 ghost use Rattle.closing.specs.LineLaws.{asked};
+
+// The set of column 16, which no bank has.
+const SIXTEEN: u32 = 65536;
 
 pub enum Line {
     Perform(Step),
@@ -26,7 +30,6 @@ enum Asked {
     Take,
     Ack,
     All,
-    Halt,
     List,
 }
 
@@ -38,7 +41,6 @@ fn command(kind: Asked, n: usize) -> Line
         Asked::Take => Line::Perform(Step::Take(n)),
         Asked::Ack => Line::Perform(Step::Ack(n)),
         Asked::All => Line::Perform(Step::All(n)),
-        Asked::Halt => Line::Perform(Step::Halt(n)),
         Asked::List => Line::List(n),
     }
 }
@@ -86,6 +88,42 @@ fn note(line: &[u8]) -> Line
     }
 }
 
+// A number that no bank has joins the set as member 16.
+fn with_member(m: u32, n: usize) -> u32
+    ensures { λ r. ⌜ r ≡ insert m (memberOf n) ⌝ }
+{
+    if n < 16 {
+        return m | (1u32 << n);
+    }
+    m | SIXTEEN
+}
+
+// The numerals of a text divided by commas, as a set.
+fn members_in(text: &[u8]) -> Line
+    ensures { λ r. ⌜ lineMeant r ≡ haltAfter 0 (numerals (pieces (now (text .entry)))) ⌝ }
+{
+    let mut set: u32 = 0;
+    let mut from: usize = 0;
+    while from <= text.len() {
+        let to = find(text, from, text.len(), b',');
+        match numeral(&text[from..to], 2) {
+            Number::Is(n) => set = with_member(set, n),
+            Number::Unread => return Line::Unread,
+        }
+        from = to + 1;
+    }
+    Line::Perform(Step::Halt(set))
+}
+
+fn halt(line: &[u8]) -> Line
+    ensures { λ r. ⌜ lineMeant r ≡ haltIn (afterKey haltKey (now (line .entry))) ⌝ }
+{
+    if !starts_with(line, b"halt=") {
+        return Line::Unread;
+    }
+    members_in(&line[5..])
+}
+
 // What a line asks for, its byte 10 left out; `Unread` where it is of no form. No two keys but `ack=` and `all=` begin with the same byte.
 pub fn parse(line: &[u8]) -> Line
     ensures { λ r. ⌜ lineMeant r ≡ commandOf (now (line .entry)) ⌝ }
@@ -102,7 +140,7 @@ pub fn parse(line: &[u8]) -> Line
             _ => numbered(line, b"all=", 2, Asked::All),
         },
         b'n' => note(line),
-        b'h' => numbered(line, b"halt=", 2, Asked::Halt),
+        b'h' => halt(line),
         b'l' => numbered(line, b"list=", 2, Asked::List),
         _ => Line::Unread,
     }

@@ -1,6 +1,6 @@
 -- What a column holds, after document 01, "What a column holds", and what row 4 asks of it.
 use Prim.Native.Nat.{ℕ}
-use mathlib.Core.Bool.{Bool, true, not, _&&_}
+use mathlib.Core.Bool.{Bool, true, false, not, _&&_}
 use mathlib.Core.List.{List, [], _∷_}
 use lib.Dec.{eqb, leb}
 use Rattle.column.specs.Refusals.{first, earlier, Given, given, refused, givenUnless}
@@ -49,6 +49,20 @@ standing t i c = earlier (treeRefusal t) (stateRefusal t i c)
 -- "neither sends nor awaits"
 abbrev pub idle : Column → Bool
 idle c = eqb (c .send) 0 && eqb (c .awaited) 0
+
+-- the column halted; all else that it holds is kept
+abbrev pub stopped : Column → Column
+stopped c =
+    record {
+      running = false;
+      number = c .number;
+      doors = c .doors;
+      send = c .send;
+      awaited = c .awaited;
+      owed = c .owed;
+      noted = c .noted;
+      whole = c .whole;
+    }
 
 -- the column with other sets to send to, to await, and to owe
 abbrev pub withSets : Column → ℕ → ℕ → ℕ → Column

@@ -8,7 +8,7 @@ use Rattle.column.specs.Refusals.{first, earlier}
 use Rattle.column.specs.Sets.{has, single, join, insert, without, lowest, choose}
 use Rattle.column.specs.Trees.{children}
 use Rattle.column.specs.Packets.{isMessage, sender, receiver}
-use Rattle.column.specs.Columns.{highest, standing, idle, withSets}
+use Rattle.column.specs.Columns.{highest, standing, idle, stopped, withSets}
 use Rattle.column.specs.declared.tree.Tree.{Tree}
 use Rattle.column.specs.declared.state.Column.{Column}
 use Rattle.column.specs.declared.packet.Packet.{Packet}
@@ -272,20 +272,7 @@ unfoldable pub haltRefusal : Tree → ℕ → Column → ℕ
 haltRefusal t i c = earlier (standing t i c) (first (haltConditions t i c))
 
 unfoldable pub haltEffect : Column → Result
-haltEffect c =
-    accepted
-    (record {
-      running = false;
-      number = c .number;
-      doors = c .doors;
-      send = c .send;
-      awaited = c .awaited;
-      owed = c .owed;
-      noted = c .noted;
-      whole = c .whole;
-    })
-    []
-    false
+haltEffect c = accepted (stopped c) [] false
 
 abbrev pub halt : Tree → ℕ → Column → Result
 halt t i c = unless (haltRefusal t i c) c (haltEffect c)

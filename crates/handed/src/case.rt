@@ -12,6 +12,11 @@ use crate::state::State;
 use bank::step::Step;
 use bank::step::perform;
 
+// The step that halts the columns of a set.
+pub fn strip(set: u16) -> Step {
+    Step::Halt(set as u32)
+}
+
 // The beginning of a line: the name, the step, the answer, whether the state is as it was, and which columns are not.
 // Answers the state after the step.
 pub fn stepped(name: &[u8], s: State, x: Step) -> State {
@@ -30,7 +35,7 @@ pub fn stepped(name: &[u8], s: State, x: Step) -> State {
     if same(s, after) {
         print(b", unchanged");
     } else {
-        print_set(b", changed, rewritten ", rewritten(before, bank));
+        print_set(b", changed, rewritten ", rewritten(before, bank) as u32);
     }
     after
 }

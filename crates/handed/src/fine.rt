@@ -3,6 +3,7 @@ use crate::case::answer;
 use crate::case::effect;
 use crate::case::effect_at;
 use crate::case::stepped;
+use crate::case::strip;
 use crate::members::ready;
 use crate::members::sending;
 use crate::print::print;
@@ -60,7 +61,7 @@ fn junk() {
     kept(s, Step::Ack(1));
     kept(s, Step::All(1));
     kept(s, Step::Note(1, 2));
-    kept(s, Step::Halt(1));
+    kept(s, strip(C1));
 }
 
 fn packets() {
@@ -127,7 +128,7 @@ fn running_root() {
     );
     answer(b"a message to the root was put", after, Step::Send(0));
     answer(b"a message to the root was put", after, Step::Take(0));
-    answer(b"a message to the root was put", after, Step::Halt(0));
+    answer(b"a message to the root was put", after, strip(C0));
 }
 
 pub fn cases() {

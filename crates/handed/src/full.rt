@@ -1,5 +1,6 @@
 // The network at 511 and at 512 packets: 9 where a packet would be put above 512, and nowhere else.
 use crate::case::effect_at;
+use crate::case::strip;
 use crate::print::print;
 use crate::print::print_number;
 use crate::state::C0;
@@ -141,7 +142,7 @@ fn others(n: usize) {
     effect_at(
         b"no packet to it",
         at(n, 1, member(0, 0, 0, 0)),
-        Step::Halt(1),
+        strip(C1),
         1,
         0,
     );

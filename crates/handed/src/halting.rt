@@ -1,6 +1,8 @@
-// "i stops for good; packets to it vanish, packets from it remain": which ones, in which order, and the words behind them.
+// "i stops for good; packets to it vanish, packets from it remain", and of several "all of them halt in the same step": which ones, in which order, and the words behind them.
+use crate::case::answer;
 use crate::case::effect_at;
 use crate::case::stepped;
+use crate::case::strip;
 use crate::print::print;
 use crate::print::print_column;
 use crate::print::print_count;
@@ -10,6 +12,7 @@ use crate::same::same_from;
 use crate::state::C0;
 use crate::state::C1;
 use crate::state::C2;
+use crate::state::C3;
 use crate::state::State;
 use crate::state::acknowledgement;
 use crate::state::filled;
@@ -45,37 +48,66 @@ fn print_six(s: State) {
     print_place(s, 5);
 }
 
-fn halting(i: usize) {
+fn halting(set: u16) {
     let s = six_packets();
-    let after = stepped(b"six packets", s, Step::Halt(i));
+    let after = stepped(b"six packets", s, strip(set));
     print_count(after);
-    print_column(after, i);
+    print_column(after, 0);
+    print_column(after, 1);
+    print_column(after, 2);
     print_six(after);
     print_flag(same_from(s, after, 6), b", rest kept", b", rest lost");
     print(b"\n");
 }
 
+// "If any is 4 or 5, none halts." Column 2 is halted, and there is no column 3.
+fn refused() {
+    let s = filled(quiet(), 6);
+    answer(b"5, the second halted before", s, strip(C1 | C2));
+    answer(
+        b"5, all of them and one halted before",
+        s,
+        strip(C0 | C1 | C2),
+    );
+    answer(b"4, the second not below columns", s, strip(C1 | C3));
+    answer(
+        b"4 over 5, one halted before and one not below columns",
+        s,
+        strip(C2 | C3),
+    );
+    answer(b"4, member 16", s, Step::Halt(65536 + 2));
+    answer(b"4, member 31", s, Step::Halt(2147483648));
+}
+
 pub fn cases() {
-    halting(0);
-    halting(1);
-    halting(2);
+    halting(C0);
+    halting(C1);
+    halting(C2);
+    halting(C0 | C1);
+    halting(C1 | C2);
+    halting(C0 | C1 | C2);
+    answer(b"nobody", six_packets(), strip(0));
+    refused();
     let none = filled(quiet(), 0);
-    effect_at(b"no packets", none, Step::Halt(0), 0, 0);
+    effect_at(b"no packets", none, strip(C0), 0, 0);
+    let full = filled(quiet(), 512);
+    effect_at(b"512 packets, all to it", full, strip(C0), 0, 511);
     effect_at(
-        b"512 packets, all to it",
-        filled(quiet(), 512),
-        Step::Halt(0),
-        0,
+        b"512 packets, all to one of them",
+        full,
+        strip(C0 | C1),
+        1,
         511,
     );
-    let one = with_words(filled(quiet(), 512), 511, message(0, 1, 10), 100);
+    let one = with_words(full, 511, message(0, 1, 10), 100);
     effect_at(
         b"512 packets, all but the last to it",
         one,
-        Step::Halt(0),
+        strip(C0),
         0,
         511,
     );
+    effect_at(b"512 packets, all to them", one, strip(C0 | C1), 1, 511);
     let after = with_count(one, 511);
-    effect_at(b"511 packets, all to it", after, Step::Halt(0), 0, 511);
+    effect_at(b"511 packets, all to it", after, strip(C0), 0, 511);
 }

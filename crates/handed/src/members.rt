@@ -2,6 +2,7 @@
 use crate::case::answer;
 use crate::case::effect;
 use crate::case::effect_at;
+use crate::case::strip;
 use crate::print::print;
 use crate::state::C0;
 use crate::state::C1;
@@ -83,7 +84,7 @@ fn every_step(name: &[u8], s: State) {
     effect(name, s, Step::Ack(1), 1);
     effect(name, s, Step::All(1), 1);
     effect(name, s, Step::Note(1, 2), 1);
-    effect(name, s, Step::Halt(1), 1);
+    effect(name, s, strip(C1), 1);
 }
 
 pub fn cases() {

@@ -1,6 +1,7 @@
 // Two refusals at once: "steps in the order 4, 5, 6, 7, 8, 10, 9", and the tree's 2 and 3 before all of these.
 use crate::case::answer;
 use crate::case::effect;
+use crate::case::strip;
 use crate::print::print;
 use crate::state::C0;
 use crate::state::C1;
@@ -144,7 +145,7 @@ fn five() {
     answer(b"5 over 6, halted and the root not noted", s, Step::All(2));
     answer(b"5 over 6, halted and the other runs", s, Step::Note(2, 1));
     answer(b"5 over 6, halted and itself", s, Step::Note(2, 2));
-    answer(b"5, halted before", s, Step::Halt(2));
+    answer(b"5, halted before", s, strip(C2));
     answer(b"5 over 7, a halted root that sends", sends, Step::Order(9));
     answer(
         b"5 over 7, a halted root that awaits",

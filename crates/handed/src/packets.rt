@@ -1,6 +1,8 @@
 // Row 4 of the packets and their count, and of the columns that a step names.
 use crate::case::answer;
+use crate::case::strip;
 use crate::print::print;
+use crate::state::C1;
 use crate::state::acknowledgement;
 use crate::state::busy;
 use crate::state::filled;
@@ -54,7 +56,7 @@ fn packets() {
 
 fn counts() {
     answer(b"513 packets", filled(busy(), 513), Step::Take(0));
-    answer(b"513 packets", filled(busy(), 513), Step::Halt(1));
+    answer(b"513 packets", filled(busy(), 513), strip(C1));
     answer(
         b"18446744073709551615 packets",
         filled(busy(), MOST),
@@ -63,7 +65,7 @@ fn counts() {
     answer(
         b"18446744073709551615 packets",
         filled(busy(), MOST),
-        Step::Halt(1),
+        strip(C1),
     );
 }
 
@@ -71,7 +73,6 @@ fn parameters(i: usize) {
     answer(b"a column not below columns", busy(), Step::Send(i));
     answer(b"a column not below columns", busy(), Step::Ack(i));
     answer(b"a column not below columns", busy(), Step::All(i));
-    answer(b"a column not below columns", busy(), Step::Halt(i));
     answer(b"a column not below columns", busy(), Step::Note(i, 2));
     answer(b"a column not below columns", busy(), Step::Note(0, i));
 }

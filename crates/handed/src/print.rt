@@ -25,7 +25,7 @@ pub fn print_step(x: Step) {
             print_number(b"note ", i as u64);
             print_number(b" ", j as u64);
         }
-        Step::Halt(i) => print_number(b"halt ", i as u64),
+        Step::Halt(set) => print_set(b"halt ", set),
     }
 }
 
@@ -45,8 +45,8 @@ pub fn print_flag(flag: bool, yes: &[u8], no: &[u8]) {
 }
 
 // Answers whether a member has been printed, this one or, by `comma`, one before it.
-fn print_member(set: u16, i: usize, comma: bool) -> bool {
-    if 16 <= i {
+fn print_member(set: u32, i: usize, comma: bool) -> bool {
+    if 32 <= i {
         return comma;
     }
     if (set >> i) % 2 == 0 {
@@ -57,12 +57,12 @@ fn print_member(set: u16, i: usize, comma: bool) -> bool {
     true
 }
 
-pub fn print_set(key: &[u8], set: u16) {
+pub fn print_set(key: &[u8], set: u32) {
     print(key);
     print(b"{");
     let mut comma = false;
     let mut i: usize = 0;
-    while i < 16 {
+    while i < 32 {
         comma = print_member(set, i, comma);
         i += 1;
     }
@@ -73,10 +73,10 @@ fn print_fields(c: Column) {
     print_flag(c.running, b" runs", b" halted");
     print_number(b" number ", c.number as u64);
     print_number(b" doors ", c.doors);
-    print_set(b" send ", c.send);
-    print_set(b" awaited ", c.awaited);
-    print_set(b" owed ", c.owed);
-    print_set(b" noted ", c.noted);
+    print_set(b" send ", c.send as u32);
+    print_set(b" awaited ", c.awaited as u32);
+    print_set(b" owed ", c.owed as u32);
+    print_set(b" noted ", c.noted as u32);
     print_flag(c.whole, b" whole", b" own");
 }
 

@@ -3,10 +3,16 @@ use crate::laps::fold;
 use crate::laps::heap;
 use bank::bank::Bank;
 use bank::bank::fresh;
+use bank::step::halt;
 use bank::step::note;
 use bank::step::send;
 use bank::step::take;
 use column::state::Column;
+
+// Column 15, and columns 3 to 15.
+const LAST: u32 = 32768;
+
+const STRIP: u32 = 65528;
 
 // The root sends a message with the lap as its doors to column 1.
 fn sent(b: Bank, lap: u64, heads: &mut [u64; 512], doors: &mut [u64; 512]) -> Bank {
@@ -33,13 +39,18 @@ fn awaiting(mut c: Column) -> Column {
     c
 }
 
-// What a lap changes: the root's sets, whom column 1 owes, how many packets there are, and the oldest one's doors.
+// What a lap changes: the root's sets, whom column 1 owes, whether columns 3 and 15 run, how many packets there are, and the oldest one's doors.
 fn folded(sum: u64, b: Bank, oldest: u64) -> u64 {
     let c = b.columns[0];
     let d = b.columns[1];
     let sets = c.send as u64 + c.awaited as u64 + c.noted as u64 + d.owed as u64;
     let packets = b.count as u64 % 65536 + oldest % 65536;
-    fold(sum, sets + packets)
+    let e = b.columns[3];
+    let f = b.columns[15];
+    fold(
+        fold(fold(sum, sets + packets), e.running as u64),
+        f.running as u64,
+    )
 }
 
 // A fresh bank in which column 2 is halted.
@@ -88,13 +99,32 @@ fn turns(b: Bank, laps: u64, heads: &mut [u64; 512], doors: &mut [u64; 512]) -> 
     sum
 }
 
-// Letter N: notes. Any other: a packet put and one taken, in turn.
+// The same bank, which a halt leaves as it was, loses the columns of a set, none of which a packet is for.
+fn halts(b: Bank, set: u32, laps: u64, heads: &mut [u64; 512], doors: &mut [u64; 512]) -> u64 {
+    let mut sum: u64 = 0;
+    let mut lap: u64 = 0;
+    while lap < laps {
+        let mut d = b;
+        let mut c = d.columns[0];
+        c.doors = lap;
+        d.columns[0] = c;
+        let r = halt(d, set, heads, doors);
+        sum = folded(sum, r.bank, doors[0]);
+        lap += 1;
+    }
+    sum
+}
+
+// Letter N: notes. H: halts of the last of sixteen columns. S: halts of all of them but the first three. Any other: a packet put and one
+// taken, in turn.
 pub fn run(letter: u8, columns: u64, packets: u64, laps: u64) -> u64 {
     let mut heads = [0u64; 512];
     let mut doors = [0u64; 512];
     let b = filled(started(columns as usize), packets, &mut heads, &mut doors);
     match letter {
         b'N' => notes(b, laps, &mut heads, &mut doors),
+        b'H' => halts(b, LAST, laps, &mut heads, &mut doors),
+        b'S' => halts(b, STRIP, laps, &mut heads, &mut doors),
         _ => turns(b, laps, &mut heads, &mut doors),
     }
 }

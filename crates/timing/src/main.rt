@@ -1,5 +1,5 @@
 // Many laps of one step, for the benchmark beside plain C. Standard input is the letter of a lone column's step and the number of laps,
-// as `s 1000`; or a bank's letter, N or T, its columns in two digits, the packets under way in three and the number of laps, as
+// as `s 1000`; or a bank's letter, N, H, S or T, its columns in two digits, the packets under way in three and the number of laps, as
 // `T 16 100 1000`. What is printed folds what each lap left into one number, so that no step can be left out.
 mod bank_laps;
 mod column_laps;
@@ -14,7 +14,7 @@ fn main() {
     io::read_full(STDIN_FILENO, &mut input);
     let letter = input[0];
     let sum = match letter {
-        b'N' | b'T' => bank_laps::run(
+        b'N' | b'H' | b'S' | b'T' => bank_laps::run(
             letter,
             number(&input[2..4]),
             number(&input[5..8]),

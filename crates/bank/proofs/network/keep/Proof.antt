@@ -5,6 +5,7 @@ use mathlib.Core.Logic.{⊎-elim}
 use mathlib.Core.Bool.{true, false, not}
 use native.Mathlib.Omega.{arith}
 use lib.Dec.{eqb}
+use Rattle.column.specs.Sets.{has}
 use borrow.Author.Tests.{eq-eqb, ne-eqb}
 use lib.ListN.{length, set, take, getD, length-set}
 use Rattle.bank.specs.Lists.{keeping, keeping-longer, keeping-no, partly, partly-start, partly-read, partly-yes, partly-no}
@@ -13,18 +14,18 @@ use Rattle.bank.proofs.network.keep.Statement.{statement}
 use Rattle.bank.proofs.network.keep.Tie as tie
 
 abbrev Inv-loop : tie.InvT-loop
-Inv-loop i count heads₀ doors₀ kept₀ j₀ heads doors kept j =
+Inv-loop m count heads₀ doors₀ kept₀ j₀ heads doors kept j =
     (j ≤ count)
     × (kept ≤ j)
     × (length heads ≡ length heads₀)
     × (length doors ≡ length doors₀)
-    × (kept ≡ length (keeping (elsewhere i) (take j heads₀) (take j heads₀)))
-    × (kept ≡ length (keeping (elsewhere i) (take j heads₀) (take j doors₀)))
-    × (heads ≡ partly (elsewhere i) heads₀ heads₀ j)
-    × (doors ≡ partly (elsewhere i) heads₀ doors₀ j)
+    × (kept ≡ length (keeping (elsewhere (has m)) (take j heads₀) (take j heads₀)))
+    × (kept ≡ length (keeping (elsewhere (has m)) (take j heads₀) (take j doors₀)))
+    × (heads ≡ partly (elsewhere (has m)) heads₀ heads₀ j)
+    × (doors ≡ partly (elsewhere (has m)) heads₀ doors₀ j)
 
 abbrev μ-loop : tie.MeasureT-loop
-μ-loop i count heads₀ doors₀ kept₀ j₀ heads doors kept j = count - j
+μ-loop m count heads₀ doors₀ kept₀ j₀ heads doors kept j = count - j
 
 loop-holds : tie.Need-loop-holds Inv-loop μ-loop
 unfolding keeping
@@ -32,7 +33,7 @@ loop-holds c =
     let a = c .before .before .args in
     let h = a .heads .now in
     let d = a .doors .now in
-    let f = elsewhere (a .i) in
+    let f = elsewhere (has (a .m)) in
     (omega arith, omega arith, refl, refl, refl, refl, sym (partly-start f h h 0 0), sym (partly-start f h d 0 0))
 
 mul-head : tie.Need-mul-head Inv-loop μ-loop
@@ -49,6 +50,9 @@ slice-read-word c = search needs
 
 receiver-in-requires : tie.Need-receiver-in-requires Inv-loop μ-loop
 receiver-in-requires c κs = search needs
+
+member-requires : tie.Need-member-requires Inv-loop μ-loop
+member-requires c κs = search needs
 
 mul-heads : tie.Need-mul-heads Inv-loop μ-loop
 mul-heads c = search needs
@@ -73,25 +77,26 @@ loop-less c = search needs
 
 loop-again : tie.Need-loop-again Inv-loop μ-loop
 loop-again c =
-    let r = c .before in
+    let k = c .before in
+    let r = k .before in
     let l = r .before .before .before .before in
     let a = l .before .before .before .args in
     let v = l .loop .inv in
     let j = l .loop .j in
     let h = a .heads .now in
     let d = a .doors .now in
-    let f = elsewhere (a .i) in
+    let f = elsewhere (has (a .m)) in
     let hl : j < length h = omega arith in
     let dl : j < length d = omega arith in
     let kh : length (keeping f (take j h) (take j h)) ≤ j = omega arith in
     let kd : length (keeping f (take j h) (take j d)) ≤ j = omega arith in
     let hr : getD (l .loop .heads) j 0 ≡ getD h j 0 = rw (v .6) (partly-read f h h 0 0 j kh) in
     let dr : getD (l .loop .doors) j 0 ≡ getD d j 0 = rw (v .7) (partly-read f h d 0 0 j kd) in
-    let tested : f (getD h j 0) ≡ not (eqb (r .receiver-in .result) (a .i)) =
-    ap f (sym hr) ∙ ap (λ n. not (eqb n (a .i))) (sym (r .receiver-in .ensures)) in
+    let tested : f (getD h j 0) ≡ not (k .member .result) =
+    ap f (sym hr) ∙ ap (λ n. not (has (a .m) n)) (sym (r .receiver-in .ensures)) ∙ ap not (sym (k .member .ensures)) in
     ⊎-elim
     (λ w.
-    let y : f (getD h j 0) ≡ true = tested ∙ ap not (ne-eqb _ _ (w .0 .taken)) in (
+    let y : f (getD h j 0) ≡ true = tested ∙ w .0 .taken in (
       omega arith,
       omega (arith, w .3),
       ap length (w .1) ∙ length-set (l .loop .heads) (l .loop .kept) _ ∙ v .2,
@@ -102,7 +107,7 @@ loop-again c =
       w .2 ∙ (λ k. set (v .7 k) (v .5 k) (dr k)) ∙ partly-yes f h d 0 0 j hl dl kd y,
     ))
     (λ w.
-    let y : f (getD h j 0) ≡ false = tested ∙ ap not (eq-eqb _ _ (w .0 .left)) in (
+    let y : f (getD h j 0) ≡ false = tested ∙ w .0 .left in (
       omega arith,
       omega (arith, w .3),
       ap length (w .1) ∙ v .2,
@@ -124,7 +129,7 @@ returns : tie.Need-returns Inv-loop μ-loop
 returns c =
     let l = c .before .loop in
     let a = c .before .before .before .before .args in
-    let f = elsewhere (a .i) in
+    let f = elsewhere (has (a .m)) in
     let h = a .heads .now in
     let e : l .j ≡ a .count = omega arith in
     record {
@@ -145,6 +150,7 @@ keep-spec =
     mul-word
     slice-read-word
     receiver-in-requires
+    member-requires
     mul-heads
     slice-write-heads
     mul-doors

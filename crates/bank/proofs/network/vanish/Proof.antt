@@ -4,6 +4,7 @@ use mathlib.Core.Path.{_≡_, _∙_}
 use native.Mathlib.Omega.{arith}
 use lib.ListN.{length, take, length-take}
 use Rattle.bank.specs.Lists.{keeping, keeping-few, keeping-same, partly-padded}
+use Rattle.column.specs.Sets.{has}
 use Rattle.bank.specs.Banks.{state}
 use Rattle.bank.specs.Networks.{elsewhere, vanished, counting}
 use Rattle.bank.proofs.network.vanish.Statement.{statement}
@@ -20,15 +21,15 @@ few : (c : tie.After-keep) → c .keep .result ≤ c .before .before .before .ar
 few c =
     let a = c .before .before .before .args in
     let h = take (a .b .count) (a .heads .now) in
-    omega (arith, c .keep .ensures .many, keeping-few (elsewhere (a .i)) h h, length-take (a .b .count) (a .heads .now))
+    omega (arith, c .keep .ensures .many, keeping-few (elsewhere (has (a .m))) h h, length-take (a .b .count) (a .heads .now))
 
 same : (c : tie.After-keep) → let a = c .before .before .before .args in
     let h = take (a .b .count) (a .heads .now) in
-    length (keeping (elsewhere (a .i)) h h) ≡ length (keeping (elsewhere (a .i)) h (take (a .b .count) (a .doors .now)))
+    length (keeping (elsewhere (has (a .m))) h h) ≡ length (keeping (elsewhere (has (a .m))) h (take (a .b .count) (a .doors .now)))
 same c =
     let a = c .before .before .before .args in
     let h = take (a .b .count) (a .heads .now) in
-    keeping-same (elsewhere (a .i)) h h (take (a .b .count) (a .doors .now)) (simp length-take (omega (arith, lengths c)))
+    keeping-same (elsewhere (has (a .m))) h h (take (a .b .count) (a .doors .now)) (simp length-take (omega (arith, lengths c)))
 
 clear-requires : tie.Need-clear-requires
 clear-requires c κs =
@@ -49,7 +50,7 @@ returns c =
     let a = k .before .before .before .args in
     let h = a .heads .now in
     let d = a .doors .now in
-    let f = elsewhere (a .i) in
+    let f = elsewhere (has (a .m)) in
     let n = a .b .count in
     let s = k .keep .ensures in
     let r = k .keep .result in

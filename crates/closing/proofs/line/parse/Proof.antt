@@ -45,17 +45,14 @@ numbered-requires-4 c κs = search needs
 note-requires : tie.Need-note-requires
 note-requires c κs = search needs
 
+halt-requires : tie.Need-halt-requires
+halt-requires c κs = search needs
+
 slice-aggregate-numbered-5 : tie.Need-slice-aggregate-numbered-5
 slice-aggregate-numbered-5 c = search needs
 
 numbered-requires-5 : tie.Need-numbered-requires-5
 numbered-requires-5 c κs = search needs
-
-slice-aggregate-numbered-6 : tie.Need-slice-aggregate-numbered-6
-slice-aggregate-numbered-6 c = search needs
-
-numbered-requires-6 : tie.Need-numbered-requires-6
-numbered-requires-6 c κs = search needs
 
 returns-2 : tie.Need-returns-2
 returns-2 c = c .order .ensures ∙ sym (order-line _ (c .before .match .keys1))
@@ -80,10 +77,10 @@ returns-7 : tie.Need-returns-7
 returns-7 c = c .note .ensures ∙ sym (note-line _ (c .before .match .keys5))
 
 returns-8 : tie.Need-returns-8
-returns-8 c = c .numbered5 .ensures ∙ sym (halt-line _ (c .before .before .match .keys6))
+returns-8 c = c .halt .ensures ∙ sym (halt-line _ (c .before .match .keys6))
 
 returns-9 : tie.Need-returns-9
-returns-9 c = c .numbered6 .ensures ∙ sym (list-line _ (c .before .before .match .keys7))
+returns-9 c = c .numbered5 .ensures ∙ sym (list-line _ (c .before .before .match .keys7))
 
 returns-10 : tie.Need-returns-10
 returns-10 c =
@@ -112,10 +109,9 @@ parse-spec =
     slice-aggregate-numbered-4
     numbered-requires-4
     note-requires
+    halt-requires
     slice-aggregate-numbered-5
     numbered-requires-5
-    slice-aggregate-numbered-6
-    numbered-requires-6
     returns-2
     returns-3
     returns-4

@@ -7,7 +7,7 @@ abbrev Inv-loop : tie.InvT-loop
 Inv-loop key set comma₀ i₀ t6 comma i = Unit {0}
 
 abbrev μ-loop : tie.MeasureT-loop
-μ-loop key set comma₀ i₀ t6 comma i = 16 - i
+μ-loop key set comma₀ i₀ t6 comma i = 32 - i
 
 print-requires : tie.Need-print-requires Inv-loop μ-loop
 print-requires c κs = search needs

@@ -1,0 +1,137 @@
+-- A halt of a set is accepted exactly where each member's own halt is; a set of one is the old step, refusals included. Assumes nothing.
+use Prim.Native.Nat.{ℕ, _≤_, _<_, _^_}
+use mathlib.Core.Path.{_≡_, refl, sym, ap, _∙_}
+use mathlib.Core.Logic.{_⊎_, inl, inr, ⊎-elim}
+use mathlib.Core.Bool.{Bool, true, false, not, _||_, cond}
+use native.Mathlib.Omega.{arith}
+use lib.Dec.{eqb}
+use lib.Pow.{pow-lt}
+use borrow.Author.Tests.{eq-eqb, ne-eqb, eqb-true, not-false, lt-leb, le-leb}
+use Rattle.column.specs.Cases.{truth, equal-cases, compare-cases}
+use Rattle.column.specs.Refusals.{first}
+use Rattle.column.specs.RefusalLaws.{passed, earlier-none}
+use Rattle.column.specs.Sets.{has, single, within}
+use Rattle.column.specs.SetLaws.{has-single, within-lt, lt-within, member-lt, members-lt}
+use Rattle.column.specs.TreeLaws.{every-all, every-fails}
+use Rattle.column.specs.Columns.{standing}
+use Rattle.column.specs.Steps as core
+use Rattle.column.specs.declared.tree.Tree.{Tree}
+use Rattle.column.specs.declared.state.Column.{Column}
+use Rattle.bank.specs.Banks.{State, columnAt, runs, bankRefusal, actingRefusal}
+use Rattle.bank.specs.Networks.{only, vanished}
+use Rattle.bank.specs.StandingLaws.{Stands, stands, stands-passes, acting}
+use Rattle.bank.specs.Steps.{Outcome, accepted, refused, unless, settled, halted, membersRun, haltConditions, haltRefusal, halt}
+use Rattle.bank.specs.Strips.{haltOne}
+use Rattle.bank.specs.StripLaws.{halts, one-accepted, halt-accepted}
+
+module _ (s : State) where
+  -- ---- what an accepted halt of one column shows
+
+  unless-accepted : (n : ℕ) (o : Outcome State) (s' : State) → unless n s o ≡ accepted s' → (n ≡ 0) × (o ≡ accepted s')
+  unless-accepted n o s' = go (eqb n 0) refl
+    where
+      go : (b : Bool) → eqb n 0 ≡ b → cond b o (refused n s) ≡ accepted s' → (n ≡ 0) × (o ≡ accepted s')
+      go true z h = (eqb-true n 0 z, h)
+      go false z h = let y : _≡_ {A = ℕ} 0 1 = cc in absurd (omega arith)
+
+  core-accepted : (gone : State) (i n : ℕ) (c : Column) (r : core.Result) (s' : State)
+      → settled s gone i (core.unless n c r) ≡ accepted s' → n ≡ 0
+  core-accepted gone i n c r s' = go (eqb n 0) refl
+    where
+      go : (b : Bool) → eqb n 0 ≡ b → settled s gone i (cond b r (core.refused n c)) ≡ accepted s' → n ≡ 0
+      go true z h = eqb-true n 0 z
+      go false z h = let y : _≡_ {A = ℕ} 0 1 = cc in absurd (omega arith)
+
+  core-runs : (t : Tree) (i : ℕ) (c : Column) → core.haltRefusal t i c ≡ 0 → c .running ≡ true
+  unfolding core.haltRefusal
+  core-runs t i c e =
+      not-false _ (passed (core.haltConditions t i c) tt (earlier-none (standing t i c) (first (core.haltConditions t i c)) e .1) .0)
+
+  one-runs : (i : ℕ) (s' : State) → haltOne s i ≡ accepted s' → Stands s × (i < s .bank .tree .columns) × (runs (s .bank) i ≡ true)
+  one-runs i s' e =
+      let c = columnAt (s .bank) i in
+      let q = unless-accepted (actingRefusal s i) _ s' e in
+      let a = acting s i (q .0) in
+      let k = core-accepted (vanished s (only i)) i (core.haltRefusal (s .bank .tree) i c) c (core.haltEffect c) s' (q .1) in
+      (a .0, a .1, core-runs (s .bank .tree) i c k)
+
+  -- ---- together and each
+
+  -- where the set is accepted, so is each member from the start
+  pub together-each : (m : ℕ) → haltRefusal s m ≡ 0 → (i : ℕ) → has m i ≡ true → haltOne s i ≡ accepted (halted s (only i))
+  together-each m e i h =
+      let k = halts s m e in
+      let r = k .2 i h in
+      one-accepted s (k .0) i (r .0) (r .1)
+
+  passes-set : (m : ℕ) → Stands s → within m (s .bank .tree .columns) ≡ true → membersRun (s .bank) m ≡ true → haltRefusal s m ≡ 0
+  unfolding haltRefusal
+  passes-set m st w r = simp (stands-passes s st, w, r)
+
+  -- where each member is accepted from the start, and there is one, so is the set
+  pub each-together : (m k : ℕ) → m < 2 ^ k → (i : ℕ) → has m i ≡ true
+      → ((j : ℕ) → has m j ≡ true → (s' : State) × (haltOne s j ≡ accepted s')) → haltRefusal s m ≡ 0
+  each-together m k l i h each =
+      let n = s .bank .tree .columns in
+      let r : (j : ℕ) → has m j ≡ true → Stands s × (j < n) × (runs (s .bank) j ≡ true) = λ j q. one-runs j (each j q .0) (each j q .1) in
+      passes-set m (r i h .0) (lt-within m n (members-lt k n m l (λ j q. r j q .1)))
+      (every-all (λ (j : ℕ). not (has m j) || runs (s .bank) j) n (λ j b. go j (has m j) refl (λ q. r j q .2)))
+    where
+      go : (j : ℕ) (b : Bool) → has m j ≡ b → (has m j ≡ true → runs (s .bank) j ≡ true) → (not b || runs (s .bank) j) ≡ true
+      go j true e f = f e
+      go j false e f = refl
+
+  -- ---- a set of one
+
+  module _ (i : ℕ) where
+    abbrev n : ℕ
+    n = s .bank .tree .columns
+
+    same-only : (j : ℕ) → has (single i) j ≡ only i j
+    same-only j = has-single i j
+
+    running-one : Stands s → i < n → runs (s .bank) i ≡ true → halt s (single i) ≡ haltOne s i
+    running-one st l r =
+        let e : haltRefusal s (single i) ≡ 0 = passes-set (single i) st (lt-within (single i) n (pow-lt l))
+        (every-all (λ (j : ℕ). not (has (single i) j) || runs (s .bank) j) n (λ j b. go j (equal-cases j i))) in
+        halt-accepted s (single i) e ∙ ap (λ (p : ℕ → Bool). accepted (halted s p)) (λ k j. same-only j k) ∙ sym (one-accepted s st i l r)
+      where
+        go : (j : ℕ) → (j ≡ i) ⊎ (j ≡ i → ⊥) → (not (has (single i) j) || runs (s .bank) j) ≡ true
+        go j (inl z) = ap (λ (x : ℕ). not (has (single i) x) || runs (s .bank) x) z ∙ ap (λ (b : Bool). not (has (single i) i) || b) r ∙ last (has (single i) i)
+          where
+            last : (b : Bool) → (not b || true) ≡ true
+            last true = refl
+            last false = refl
+        go j (inr z) = ap (λ (b : Bool). not b || runs (s .bank) j) (same-only j ∙ ne-eqb j i z)
+
+    stopped-one : Stands s → i < n → runs (s .bank) i ≡ false → halt s (single i) ≡ haltOne s i
+    unfolding haltRefusal core.haltRefusal
+    stopped-one st l r =
+        let none : membersRun (s .bank) (single i) ≡ false = every-fails (λ (j : ℕ). not (has (single i) j) || runs (s .bank) j) n i
+        (ap (λ (b : Bool). not b || runs (s .bank) i) (same-only i ∙ eq-eqb i i refl) ∙ r) l in
+        let together : halt s (single i) ≡ refused 5 s = simp (stands-passes s st, lt-within (single i) n (pow-lt l), none) in
+        let alone : haltOne s i ≡ refused 5 s = simp (stands-passes s st, lt-leb n i l, st .tree, st .columns i l, r) in
+        together ∙ sym alone
+
+    absent-one : Stands s → n ≤ i → halt s (single i) ≡ haltOne s i
+    unfolding haltRefusal
+    absent-one st l =
+        let out : within (single i) n ≡ false = ⊎-elim (λ t. absurd (omega (arith, l, member-lt n (single i) i (within-lt (single i) n t) (same-only i ∙ eq-eqb i i refl)))) (λ f. f) (truth (within (single i) n)) in
+        let together : halt s (single i) ≡ refused 4 s = simp (stands-passes s st, out) in
+        let alone : haltOne s i ≡ refused 4 s = simp (stands-passes s st, le-leb n i l) in
+        together ∙ sym alone
+
+    bad-one : (bankRefusal s ≡ 0 → ⊥) → halt s (single i) ≡ haltOne s i
+    unfolding haltRefusal
+    bad-one h =
+        let together : halt s (single i) ≡ refused (bankRefusal s) s = simp (ne-eqb (bankRefusal s) 0 h) in
+        let alone : haltOne s i ≡ refused (bankRefusal s) s = simp (ne-eqb (bankRefusal s) 0 h) in
+        together ∙ sym alone
+
+    -- "A list of one is the old step", whatever the bank
+    pub one : halt s (single i) ≡ haltOne s i
+    one = ⊎-elim (λ z. good (stands s z)) bad-one (equal-cases (bankRefusal s) 0)
+      where
+        good : Stands s → halt s (single i) ≡ haltOne s i
+        good st = ⊎-elim (λ l. ⊎-elim (running-one st l) (stopped-one st l) (truth (runs (s .bank) i)))
+            (λ q. absent-one st (⊎-elim (λ e. omega (arith, e)) (λ l. omega (arith, l)) q)) (compare-cases i n)
