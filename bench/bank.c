@@ -4,16 +4,14 @@
 
 static bool packets_stand(const struct bank *b, uint16_t running) {
     size_t n = b->tree.columns, root = b->tree.root, count = b->count;
-    for (size_t k = 0; k < count; k++) {
-        const struct packet *p = &b->packets[k];
-        if (p->from >= n || p->to >= n || p->from == p->to || (p->kind == 1 && p->to == root) || !(running >> p->to & 1))
+    for (size_t k = 0; k < count; k++)
+        if (!packet_stands(n, root, running, &b->packets[k]))
             return false;
-    }
     return true;
 }
 
 /* Rows 2, 3 and 4 over the tree, every column and every packet. */
-static uint8_t bank_refusal(const struct bank *b) {
+uint8_t bank_refusal(const struct bank *b) {
     uint8_t refusal = tree_refusal(&b->tree);
     if (refusal)
         return refusal;
@@ -52,8 +50,7 @@ uint8_t bank_order(struct bank *b, uint64_t doors) {
     return refusal;
 }
 
-/* The packet of a column's step; where it has no place the column is again as it was. */
-static uint8_t settle(struct bank *b, struct column *c, const struct column *before, struct packet p) {
+uint8_t settle(struct bank *b, struct column *c, const struct column *before, struct packet p) {
     if (!p.kind || !b->columns[p.to].running)
         return 0;
     if (b->count == CAPACITY) {
@@ -75,6 +72,22 @@ uint8_t bank_send(struct bank *b, size_t i) {
     return settle(b, c, &before, send_effect(&b->tree, i, c));
 }
 
+uint8_t settle_taken(struct bank *b, size_t place, const struct column *before, struct answer a) {
+    struct column *c = &b->columns[b->packets[place].to];
+    bool put = a.put.kind && b->columns[a.put.to].running;
+    if (a.left && put && b->count == CAPACITY) {
+        *c = *before;
+        return 9;
+    }
+    if (!a.left) {
+        b->count--;
+        memmove(&b->packets[place], &b->packets[place + 1], (b->count - place) * sizeof b->packets[0]);
+    }
+    if (put)
+        b->packets[b->count++] = a.put;
+    return 0;
+}
+
 uint8_t bank_take(struct bank *b, size_t place) {
     uint8_t refusal = bank_refusal(b);
     if (refusal)
@@ -84,19 +97,7 @@ uint8_t bank_take(struct bank *b, size_t place) {
     struct packet taken = b->packets[place];
     struct column *c = &b->columns[taken.to];
     struct column before = *c;
-    struct answer a = take_effect(&b->tree, taken.to, c, taken);
-    bool put = a.put.kind && b->columns[a.put.to].running;
-    if (a.left && put && b->count == CAPACITY) {
-        *c = before;
-        return 9;
-    }
-    if (!a.left) {
-        b->count--;
-        memmove(&b->packets[place], &b->packets[place + 1], (b->count - place) * sizeof taken);
-    }
-    if (put)
-        b->packets[b->count++] = a.put;
-    return 0;
+    return settle_taken(b, place, &before, take_effect(&b->tree, taken.to, c, taken));
 }
 
 uint8_t bank_ack(struct bank *b, size_t i) {
@@ -154,15 +155,20 @@ uint8_t bank_halt(struct bank *b, uint32_t set) {
     return 0;
 }
 
+uint16_t halted_columns(const struct bank *b) {
+    uint16_t halted = 0;
+    for (size_t i = 0; i < b->tree.columns; i++)
+        halted |= (!b->columns[i].running) << i;
+    return halted;
+}
+
 /* A bank that every step refuses is at rest where no packet is under way. */
 bool bank_at_rest(const struct bank *b) {
     if (b->count)
         return false;
     if (bank_refusal(b))
         return true;
-    uint16_t halted = 0;
-    for (size_t i = 0; i < b->tree.columns; i++)
-        halted |= (!b->columns[i].running) << i;
+    uint16_t halted = halted_columns(b);
     for (size_t i = 0; i < b->tree.columns; i++) {
         const struct column *c = &b->columns[i];
         if (c->running && (c->send || may_ack(c) || may_all(&b->tree, i, c) || (halted & ~c->noted)))

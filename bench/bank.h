@@ -23,6 +23,24 @@ uint8_t bank_note(struct bank *b, size_t i, size_t j);
 /* A set of columns; bit 16 stands for every number that no bank has. */
 uint8_t bank_halt(struct bank *b, uint32_t set);
 
+/* Steps until rest, the limit or a refused one, counted. Each is tested as a call of its own; or, not `thorough`, the bank is tested once and
+   after each step the column and the packet that it changed. */
+uint8_t bank_dispatch(struct bank *b, size_t limit, bool thorough, size_t *steps);
+
+/* Rows 2 to 4. */
+uint8_t bank_refusal(const struct bank *b);
+
 /* Rows 2 to 5 for an acting column, as the list too is refused. */
 uint8_t acting_refusal(const struct bank *b, size_t i);
 bool bank_at_rest(const struct bank *b);
+
+/* What the dispatcher shares with the steps. */
+uint16_t halted_columns(const struct bank *b);
+
+static inline bool packet_stands(size_t columns, size_t root, uint16_t running, const struct packet *p) {
+    return p->from < columns && p->to < columns && p->from != p->to && (p->kind != 1 || p->to != root) && (running >> p->to & 1);
+}
+
+/* The packet of a column's step; where it has no place the column is again as it was. */
+uint8_t settle(struct bank *b, struct column *c, const struct column *before, struct packet p);
+uint8_t settle_taken(struct bank *b, size_t place, const struct column *before, struct answer a);

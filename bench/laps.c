@@ -1,7 +1,8 @@
 /* Laps of one step of a lone column or of a bank: standard input as for crates/timing; the number printed must be the same. Letter B
-   prints the bytes of a bank and of its packets. */
+   prints the bytes of a bank and of its packets; G is F with the tests that the proved dispatcher makes, and no other. */
 #include "bank.h"
 #include <stdio.h>
+#include <string.h>
 
 static uint64_t fold(uint64_t sum, uint64_t n) {
     return (sum % 16777216 * 31 + n % 16777216) % 16777216;
@@ -94,6 +95,58 @@ static uint64_t bank_laps(char letter, uint64_t columns, uint64_t packets, uint6
     return sum;
 }
 
+/* ---- a bank dispatched to rest */
+
+static void send_all(size_t i) {
+    while (!bank_send(&bank, i))
+        ;
+}
+
+/* Every column but the root takes over and sends to everyone: the first time under number 0, then under the order's. */
+static void taken_over(bool first) {
+    for (size_t i = 1; i < 16; i++) {
+        if (first)
+            bank_note(&bank, i, 0);
+        else if (!bank_take(&bank, 0))
+            bank_ack(&bank, i);
+        bank_all(&bank, i);
+        send_all(i);
+    }
+}
+
+/* Letter D: the root of a heap has just been given an order. Any other: the root of a star halts with its order under way, and every other
+   column takes over before it takes the order and once more after it. */
+static void prepare(char letter) {
+    if (letter != 'D')
+        memset(bank.tree.up, 0, sizeof bank.tree.up);
+    struct tree t = {16, 0, {0}};
+    memcpy(t.up, bank.tree.up, sizeof t.up);
+    bank_fresh(&bank, &t);
+    bank_order(&bank, 513);
+    if (letter == 'D')
+        return;
+    send_all(0);
+    bank_halt(&bank, 1);
+    taken_over(true);
+    taken_over(false);
+}
+
+static uint64_t dispatch_laps(char letter, uint64_t laps) {
+    prepare(letter);
+    static struct bank before;
+    before = bank;
+    uint64_t sum = 0;
+    for (uint64_t lap = 0; lap < laps; lap++) {
+        size_t steps;
+        bank = before;
+        bank.columns[0].doors = lap;
+        bank_dispatch(&bank, 9999, letter != 'G', &steps);
+        const struct column *last = &bank.columns[15];
+        sum = fold(sum, fold(fold(steps, bank.count), last->number + last->doors % 65536));
+    }
+    return sum;
+}
+
 int main(void) {
     char line[64], letter;
     unsigned long long columns, packets, laps;
@@ -104,7 +157,7 @@ int main(void) {
     else if (sscanf(line, "%c %llu %llu %llu", &letter, &columns, &packets, &laps) == 4)
         printf("%llu\n", (unsigned long long)bank_laps(letter, columns, packets, laps));
     else if (sscanf(line, "%c %llu", &letter, &laps) == 2)
-        printf("%llu\n", (unsigned long long)column_laps(letter, laps));
+        printf("%llu\n", (unsigned long long)(strchr("DFG", letter) ? dispatch_laps : column_laps)(letter, laps));
     else
         return 1;
     return 0;

@@ -164,7 +164,7 @@ static uint8_t halted(struct cursor *c) {
     return c->at == c->end ? bank_halt(&bank, set) : 13;
 }
 
-/* The refusal of a line that is not a list. */
+/* The refusal of a line that is neither a list nor a run. */
 static uint8_t step(struct cursor *c) {
     size_t n;
     switch (*c->at) {
@@ -181,14 +181,24 @@ static uint8_t step(struct cursor *c) {
     }
 }
 
+static void dispatched(size_t limit) {
+    size_t steps;
+    uint8_t refusal = bank_dispatch(&bank, limit, true, &steps);
+    if (!refusal)
+        put_field("steps=", steps);
+    put_answer(refusal);
+}
+
 static void line(struct cursor c) {
-    size_t i;
+    size_t n;
     if (c.at == c.end)
         put_answer(13);
-    else if (*c.at != 'l')
+    else if (*c.at != 'l' && *c.at != 'r')
         put_answer(step(&c));
-    else if (numbered(&c, "list=", 2, &i))
-        put_list(i);
+    else if (*c.at == 'l' && numbered(&c, "list=", 2, &n))
+        put_list(n);
+    else if (*c.at == 'r' && numbered(&c, "run=", 4, &n))
+        dispatched(n);
     else
         put_answer(13);
 }

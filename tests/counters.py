@@ -1,6 +1,7 @@
 """What random scripts must meet, each LEAST times on every seed: every step accepted, every condition of a refusal that a script can meet, every
 branch of every step, every kind of rest, every form near to an accepted one. The model tells the first three."""
 import collections
+import re
 
 import model
 import script_texts
@@ -21,7 +22,8 @@ REFUSALS = {
               "3: another length", "3: root not its own parent", "3: a climb that misses the root", "13: past the limit"],
 }
 # The model knows more words, and they fail the run where it tells them: an acknowledgement of a higher number (it has the number of a message that its
-# receiver sent, and numbers rise), 8 (65,535 orders do not fit into a script) and 9 (the fullest network that is known has 420 packets).
+# receiver sent, and numbers rise), 8 (65,535 orders do not fit into a script), 9 (the fullest network that is known has 420 packets), and
+# a run until a refused step, which only 9 could bring about.
 BRANCHES = [
     "the first order", "a further order after rest", "a further order before rest",
     "send to itself", "send to a noted column, whose children join", "send to a noted column without children", "send to a running column",
@@ -38,6 +40,8 @@ BRANCHES = [
     "halt of one column", "halt of several columns", "halt with a column named twice", "halt of more than sixteen numerals",
     "halt with packets from it under way", "halt with packets to it under way",
     "list with doors", "list without doors",
+    "run at rest", "run to rest", "run to rest at its limit", "run to its limit", "run of no step",
+    *(f"run takes {step}" for step in ("note", "send", "ack", "all", "take")),
 ]
 RESTS = ["rest with the root running", "rest with the root halted", "rest with nobody running", "no rest, several steps are left",
          *(f"no rest, only {step} is left" for step in ("take", "send", "ack", "all", "note"))]
@@ -57,6 +61,11 @@ def rest(bank):
     return "rest with the root halted" if any(column.running for column in bank.columns) else "rest with nobody running"
 
 
+def step_limit(columns):
+    """Document 02, Point 2: "9 times N squared less 5 times N"."""
+    return 9 * columns ** 2 - 5 * columns
+
+
 class Counters:
     """What the model met, and whether demand 3 held after every line."""
 
@@ -64,6 +73,8 @@ class Counters:
         self.met = collections.Counter()
         self.lines = 0
         self.most_packets = 0
+        # The longest run of a bank, by its columns.
+        self.most_steps = collections.Counter()
         self.agreed = True
 
     def tell(self, words):
@@ -78,6 +89,7 @@ class Counters:
                 self.lines += 1
                 self.most_packets = max(self.most_packets, len(bank.network))
                 self.agreed = self.agreed and bank.agrees()
+                self.measure(text, len(bank.columns))
         text = data.decode("latin-1")
         if bank:
             self.tell(rest(bank))
@@ -87,6 +99,12 @@ class Counters:
         self.met["input at the limit"] += len(data) == model.LIMIT
         return "".join(texts)
 
+    def measure(self, text, columns):
+        run = re.match("steps=([0-9]+)", text)
+        if run:
+            self.most_steps[columns] = max(self.most_steps[columns], int(run[1]))
+
     def faults(self):
-        """What was met too seldom, and what was told that nobody wants."""
-        return [f"{name}: {self.met[name]}" for name in WANTED if self.met[name] < LEAST] + [name for name in self.met if name not in WANTED]
+        """What was met too seldom, what was told that nobody wants, and what is above its limit."""
+        return [*(f"{name}: {self.met[name]}" for name in WANTED if self.met[name] < LEAST), *(name for name in self.met if name not in WANTED),
+                *(f"{most} steps of {columns} columns" for columns, most in self.most_steps.items() if most > step_limit(columns))]

@@ -1,5 +1,5 @@
 #!/usr/bin/env python3
-"""The script program of document 01, with Point 1 of document 02, written from the papers: sets as sets, packets as tuples, text by patterns. Beside the bank stand the words of
+"""The script program of document 01, with Points 1 and 2 of document 02, written from the papers: sets as sets, packets as tuples, text by patterns. Beside the bank stand the words of
 demand 3 (received, awaits), tracked from the steps and their answers. `tell` is told in words which condition or branch each line met.
 
     python3 tests/model.py < script
@@ -13,6 +13,7 @@ HIGHEST = 65535
 NUMERAL = r"(0|[1-9][0-9]?)"
 NUMERALS = "({0}(?:,{0})*)".format(NUMERAL.replace("(", "(?:"))
 STEPS = {"order": r"order=([0-9a-f]{16})", "take": r"take=(0|[1-9][0-9]{0,2})", "note": rf"note={NUMERAL},{NUMERAL}", "halt": f"halt={NUMERALS}",
+         "run": r"run=(0|[1-9][0-9]{0,3})",
          **{name: f"{name}={NUMERAL}" for name in ("send", "ack", "all", "list")}}
 
 
@@ -226,6 +227,37 @@ class Bank:
         for i in columns:
             self.columns[i].running = False
         self.network = [packet for packet in self.network if packet[2] not in columns]
+
+    # ---- the dispatcher
+
+    def offers(self):
+        """What a turn looks at, in its sequence: "for running columns from 0 up, note (lowest j first), send, ack, all"; last the oldest packet."""
+        columns = range(len(self.columns))
+        for i in columns:
+            if self.columns[i].running:
+                yield from (("note", (i, j)) for j in columns)
+                yield from ((step, (i,)) for step in ("send", "ack", "all"))
+        yield "take", (0,)
+
+    def turn(self):
+        """Whether one of them is accepted; it is taken."""
+        for step, numbers in self.offers():
+            try:
+                getattr(self, step)(*numbers)
+            except Refused:
+                continue
+            self.tell(f"run takes {step}")
+            return True
+        return False
+
+    def run(self, limit):
+        """At rest no step of a turn is accepted, and the take is 10: "until rest" asks for no test of its own."""
+        steps = 0
+        while steps < limit and self.turn():
+            steps += 1
+        self.tell(("run at rest" if not steps else "run to rest" if steps < limit else "run to rest at its limit") if self.at_rest()
+                  else "run of no step" if not limit else "run to its limit" if steps == limit else "run until a refused step")
+        return f"steps={steps}\nstep=ok\n"
 
     def list(self, i):
         column = self.acting(i)

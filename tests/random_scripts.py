@@ -92,7 +92,7 @@ def mutants_part(printed):
 # ---- random scripts
 
 def seed_part(seed, met):
-    """The scripts of a seed; what they met goes to `met`."""
+    """The scripts of a seed; its counters go to `met`."""
     count, printed = counters.Counters(), []
     for data in script_makers.scripts(random.Random(seed)):
         printed.append((data, program(data)))
@@ -100,7 +100,7 @@ def seed_part(seed, met):
             return fault(f"seed {seed}, the program and the model differ on:", shortest(data, differ))
         if not count.agreed:
             return fault(f"seed {seed}, lit columns disagree after:", shortest(data, disagree))
-    met.append(count.met)
+    met.append(count)
     print(f"seed {seed}: {len(printed)} scripts, {count.lines} lines, at most {count.most_packets} packets at once, 0 differences", flush=True)
     faults = [f"seed {seed}, {words}" for words in count.faults()] + ["no crowded network"] * (count.most_packets < CROWDED)
     return sum(map(fault, faults)) + mutants_part(printed)
@@ -112,7 +112,10 @@ def seeds_part(seeds):
     faults = sum(seed_part(seed, met) for seed in seeds)
     print("least  most  of what a seed met")
     for name in counters.WANTED * bool(met):
-        print(f"{min(one[name] for one in met):5} {max(one[name] for one in met):5}  {name}")
+        print(f"{min(one.met[name] for one in met):5} {max(one.met[name] for one in met):5}  {name}")
+    print("columns  longest run  at most")
+    for columns in range(1, 17):
+        print(f"{columns:7} {max((one.most_steps[columns] for one in met), default=0):12} {counters.step_limit(columns):8}")
     if faults:
         return fault(f"{faults} faults")
     print(f"{len(met)} seeds: each of {len(counters.WANTED)} counters met {counters.LEAST} times or more on each, each of {len(model_mutants.TOLD)} "

@@ -27,7 +27,9 @@ FORMS = [
     ("column of three digits", "{step}={three}"),
     ("column of three digits in a note", "note={three},{column}", "note={column},{three}"),
     ("place of four digits", "take={three}{digit}"),
-    ("no numeral", "{step}=", "take=", "note=,", "order="),
+    ("leading zero of a limit", "run=0{digit}", "run=00", "run=0{three}"),
+    ("limit of five digits", "run={three}{digit}{digit}", "run=10000"),
+    ("no numeral", "{step}=", "take=", "note=,", "order=", "run="),
     ("note of one column", "note={column}", "note={column},", "note=,{column}"),
     ("note of three columns", "note={column},{column},{column}"),
     ("two columns where one is asked for", "{single}={column},{column}"),
@@ -78,7 +80,7 @@ def line(rng, columns):
     number = lambda: rng.choice([rng.randrange(columns), rng.randrange(columns), columns, rng.randrange(100)])
     return rng.choice([f"order={rng.randbytes(8).hex()}", f"send={number()}", f"take={rng.choice([0, 1, rng.randrange(1000)])}", f"ack={number()}",
                        f"all={number()}", f"note={number()},{number()}", f"halt={number()}", f"halt={number()},{number()}",
-                       f"list={number()}"])
+                       f"list={number()}", f"run={rng.choice([0, 1, number(), 10 * number(), 1000 + 90 * number()])}"])
 
 
 # ---- tables

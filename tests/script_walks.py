@@ -1,5 +1,7 @@
 """A script in the making: each line is done on the model's bank, and the next is chosen by what the bank holds and by what the model told."""
 import collections
+import copy
+import re
 
 import model
 
@@ -75,6 +77,12 @@ def decisive(bank):
             {sender for kind, sender, to, number in packets if kind == "message" and number < to.number},
             {sender for kind, sender, to, number in packets if kind == "acknowledgement" and number == to.number},
             between(bank)], [{packet[2] for packet in bank.network}, holding(bank, "awaited"), holding(bank, "send")]
+
+
+def torn(bank):
+    """Whether a running column may both send and acknowledge, or send and note: which it does first is the dispatcher's matter."""
+    halted = {j for j, column in enumerate(bank.columns) if not column.running}
+    return any(column.running and column.send and (column.whole and column.owed or halted - column.noted) for column in bank.columns)
 
 
 def nothing(line):
@@ -157,6 +165,8 @@ class Script:
             strip = self.strip(self.rng.choice(halting))
             self.do(f"halt={','.join(map(str, strip))}")
             self.do(f"take={len(self.bank.network)}")
+            if self.rng.random() < 0.15:
+                self.dispatch()
             for other in self.running() * (self.rng.random() < 0.5):
                 for i in set(strip):
                     self.do(f"note={other},{i}")
@@ -166,6 +176,11 @@ class Script:
         others = self.running()[:self.rng.randint(1, 2)] if self.rng.random() < 0.25 else []
         named = self.rng.choice([[i] + others, others + [i]])
         return named * self.rng.choice([1, 1, 1, 2] + [17] * (self.rng.random() < 0.3))
+
+    def dispatch(self):
+        """A run that ends at its limit, at rest, or at both."""
+        steps = int(re.match("steps=([0-9]+)", copy.deepcopy(self.bank).run(9999))[1])
+        self.do(f"run={self.rng.choice([0, 1, steps // 2, max(steps - 1, 0), steps, steps + 1, 9999])}")
 
     def tempt(self):
         """A refused line, each condition as often as the others that can be met; or an order or a list, which may be."""
@@ -184,6 +199,8 @@ class Script:
                 self.order()
             elif draw < halts + orders + 0.15:
                 self.tempt()
+            elif draw < halts + orders + (0.2 if torn(self.bank) else 0.17):
+                self.dispatch()
             elif self.bank.network and self.rng.random() < 0.5:
                 self.take()
             else:
@@ -204,6 +221,8 @@ class Script:
             self.do(f"all={i}")
             if self.rng.random() < 0.8:
                 self.send_all(i)
+            elif torn(self.bank) and self.rng.random() < 0.3:
+                self.dispatch()
 
     def finish(self, end=None):
         """The script up to its end, and a list of everyone."""
@@ -214,6 +233,8 @@ class Script:
             self.halt()
         elif end in ("take", "send", "ack"):
             self.order()
+        elif end == "rest":
+            self.dispatch()
         size = self.rng.randint(0, len(self.lines)) if end == "anywhere" else None
         while end not in ("anywhere", "nobody") and (self.move(lambda line: line.startswith(end)) or self.move()):
             if {line.split("=")[0] for line in moves(self.bank)} == {end}:

@@ -8,6 +8,9 @@ ROOT = os.path.dirname(os.path.dirname(os.path.abspath(__file__)))
 # name, step and its parameters, answer, whether the state is as it was, and what the step did
 STEP = re.compile(r"(.+), (order|send|take|ack|all|note|halt) ([\d ]+|\{[\d,]*\}): (ok|refused \d+), (unchanged|changed, rewritten (\{[\d,]*\}))(.*)")
 
+# name, limit, answer, steps, whether the state is as it was, and whether the bank is at rest
+DISPATCH = re.compile(r"(.+), dispatch (\d+): (ok|refused \d+), steps (\d+), (unchanged|changed), count \d+, (at rest|not at rest), column 1 .*")
+
 
 class Handed(unittest.TestCase):
     @classmethod
@@ -15,13 +18,14 @@ class Handed(unittest.TestCase):
         program = os.path.join(ROOT, "target", "bin", "handed")
         lines = subprocess.run([program], capture_output=True, text=True, check=True).stdout.splitlines()
         cls.steps = [found for found in map(STEP.fullmatch, lines) if found]
+        cls.dispatches = [found for found in map(DISPATCH.fullmatch, lines) if found]
         cls.rest = [line.rsplit(": ", 1) for line in lines if line.endswith("at rest")]
         cls.comparisons = [line.rsplit(": ", 1) for line in lines if line.endswith((": same", ": different"))]
         cls.lines = lines
 
     def test_the_count_of_cases(self):
-        self.assertEqual((len(self.steps), len(self.rest), len(self.comparisons)), (221, 29, 17))
-        self.assertEqual(len(self.lines), 221 + 29 + 17)
+        self.assertEqual((len(self.steps), len(self.rest), len(self.comparisons), len(self.dispatches)), (221, 29, 17, 14))
+        self.assertEqual(len(self.lines), 221 + 29 + 17 + 14)
         self.assertEqual(len({line.split(": ")[0] for line in self.lines}), len(self.lines))
 
     def test_the_comparison_sees_every_part(self):
@@ -60,6 +64,14 @@ class Handed(unittest.TestCase):
             if count and found[4] == "refused 9":
                 answers[int(count[1])].append(found[2])
         self.assertEqual(answers, {511: [], 512: ["send", "ack", "take"]})
+
+    def test_a_dispatch_is_refused_by_2_3_and_4_alone_and_changes_what_it_takes_steps_in(self):
+        self.assertEqual({found[3] for found in self.dispatches}, {"ok", "refused 2", "refused 3", "refused 4"})
+        for found in self.dispatches:
+            self.assertEqual(found[4] == "0", found[5] == "unchanged", found[0])
+            self.assertLessEqual(int(found[4]), int(found[2]), found[0])
+            if found[3] != "ok":
+                self.assertEqual(found[4], "0", found[0])
 
     def test_nothing_unused_is_touched(self):
         kept = [line for line in self.lines if line.endswith(" kept")]

@@ -15,15 +15,15 @@ use Rattle.bank.specs.Banks.{State, columnAt, capacity}
 use Rattle.bank.specs.Rest.{Running}
 use Rattle.bank.specs.StandingLaws.{acting-passes}
 use Rattle.bank.specs.Steps.{accepted, refused, unless, fitting, settled, acted}
-use Rattle.agreement.specs.History.{World, rootOf, run}
-use Rattle.agreement.specs.Agreement.{begin, NeitherSends, Agreement, Agrees}
+use Rattle.agreement.specs.History.{World, rootOf}
+use Rattle.agreement.specs.Agreement.{NeitherSends, Agreement, Agrees}
 use Rattle.agreement.proofs.Model.{Empty, Runs}
 use Rattle.agreement.proofs.Move.{Idle}
 use Rattle.agreement.proofs.Rest.{rest-agrees, served}
 use Rattle.agreement.proofs.Conditions.{empty, not-member}
 use Rattle.agreement.proofs.View.{modelOf}
 use Rattle.agreement.proofs.Quiet.{quiet-rest, send-passes}
-use Rattle.agreement.proofs.Reached.{Reached, start, reached, reached-stands, reached-passes}
+use Rattle.agreement.proofs.Reached.{Reached, after-every, reached-stands, reached-passes}
 
 -- ---- "A running root sends while send there isn't refused with 6"
 
@@ -89,6 +89,4 @@ module _ (w : World) (r : Reached w) where
   }
 
 pub agreement : Agrees
-agreement t ok heads doors h d xs =
-    let w = begin t heads doors in
-    agrees (run w xs) (reached w xs (start t ok heads doors h d))
+agreement = after-every Agreement agrees

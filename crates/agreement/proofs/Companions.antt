@@ -2,31 +2,34 @@
 use Prim.Native.Nat.{ℕ, zero, suc, _<_}
 use native.Mathlib.Omega.{arith}
 use native.Mathlib.Numerals.{add-one}
-use mathlib.Core.Path.{_≡_, refl, ap, _∙_}
+use mathlib.Core.Path.{_≡_, refl, sym, ap, _∙_}
 use mathlib.Core.Logic.{⊎-elim}
-use mathlib.Core.List.{_∷_}
+use mathlib.Core.List.{List, [], _∷_}
 use lib.ListN.{length}
 use Rattle.column.specs.Cases.{truth}
 use Rattle.column.specs.Packets.{receiver}
 use Rattle.column.specs.StateLaws.{acceptable}
 use Rattle.column.specs.declared.tree.Tree.{Tree}
 use Rattle.column.specs.declared.state.Column.{Column}
-use Rattle.bank.specs.Banks.{State, columnAt, runs, packetAt}
+use Rattle.bank.specs.Banks.{State, columnAt, runs, packetAt, bankRefusal}
+use Rattle.bank.specs.Steps.{Outcome, accepted, refused, after, perform}
 use Rattle.bank.specs.Rest.{Running, AtRest}
 use Rattle.bank.specs.StandingLaws.{Stands}
 use Rattle.bank.specs.RestLaws.{halted-rests}
+use Rattle.bank.specs.Places.{tree-kept}
+use Rattle.bank.specs.declared.step.Step.{Step}
 use Rattle.bank.specs.declared.step.Step.the-variants.{Order}
-use Rattle.agreement.specs.History.{World, rootOf, run}
+use Rattle.agreement.specs.History.{World, rootOf, told, run, Line, stepsOf, follow}
 use Rattle.agreement.specs.Agreement.{begin}
-use Rattle.agreement.specs.Companions.{Passes, Ordered, OrdersCount, HaltedRests}
+use Rattle.agreement.specs.Companions.{Passes, Ordered, OrdersCount, HaltedRests, KeepsTree}
 use Rattle.agreement.proofs.Model.{Runs}
 use Rattle.agreement.proofs.Move.{Move, orders, order}
 use Rattle.agreement.proofs.View.{modelOf}
 use Rattle.agreement.proofs.Perform.{refines}
-use Rattle.agreement.proofs.Reached.{Reached, start, reached, reached-stands, reached-passes}
+use Rattle.agreement.proofs.Reached.{Reached, after-every, reached-stands, reached-passes}
 
 pub passes : Passes
-passes t ok heads doors h d xs = let w = begin t heads doors in reached-passes (run w xs) (reached w xs (start t ok heads doors h d))
+passes = after-every (λ w. bankRefusal (w .state) ≡ 0) reached-passes
 
 -- ---- the n-th accepted order
 
@@ -48,7 +51,7 @@ module _ (w : World) (r : Reached w) where
   ordered = record { gives = λ d s' e. let f = refines (w .state) (r .formed) (w .orders) (Order d) tt s' e in told-root d s' (f .same-tree) (f .move) }
 
 pub orders-count : OrdersCount
-orders-count t ok heads doors h d xs = let w = begin t heads doors in ordered (run w xs) (reached w xs (start t ok heads doors h d))
+orders-count = after-every Ordered ordered
 
 -- ---- every column halted
 
@@ -72,6 +75,23 @@ module _ (w : World) (r : Reached w) (nobody : (i : ℕ) → Running (w .state) 
       (λ i h. ⊎-elim (λ e. absurd (nobody i (h, e))) (λ e. e) (truth (runs (w .state .bank) i)))
 
 pub halted-rest : HaltedRests
-halted-rest t ok heads doors h d xs nobody =
-    let w = begin t heads doors in
-    nobody-rests (run w xs) (reached w xs (start t ok heads doors h d)) nobody
+halted-rest = after-every (λ w. ((i : ℕ) → Running (w .state) i → ⊥) → AtRest (w .state)) nobody-rests
+
+-- ---- the tree stays
+
+run-tree : (w : World) (xs : List Step) → run w xs .state .bank .tree ≡ w .state .bank .tree
+unfolding run told
+run-tree w [] = refl
+run-tree w (x ∷ xs) = run-tree (told w x (perform (w .state) x)) xs ∙ go (perform (w .state) x) refl
+  where
+    go : (o : Outcome State) → perform (w .state) x ≡ o → told w x o .state .bank .tree ≡ w .state .bank .tree
+    go (accepted s) e = sym (ap (λ (o : Outcome State). after o .bank .tree) e) ∙ tree-kept (w .state) x
+    go (refused n s) e = sym (ap (λ (o : Outcome State). after o .bank .tree) e) ∙ tree-kept (w .state) x
+
+follow-tree : (w : World) (lines : List Line) → follow w lines .state .bank .tree ≡ w .state .bank .tree
+unfolding follow
+follow-tree w [] = refl
+follow-tree w (l ∷ lines) = follow-tree (run w (stepsOf w l)) lines ∙ run-tree w (stepsOf w l)
+
+pub keeps-tree : KeepsTree
+keeps-tree t ok heads doors h d lines = follow-tree (begin t heads doors) lines

@@ -82,11 +82,11 @@ module _ (t : Tree) (i : ℕ) (c : Column) where
       let p = passed (allConditions t i c) tt (earlier-none (standing t i c) (first (allConditions t i c)) e .1) in
       (not-false _ (p .0), eqb-false i (t .root) (p .1 .0), member (not-false _ (p .1 .1 .0)), p .1 .1 .1 .0, idle-in c (not-false _ (p .1 .1 .1 .1 .0)))
 
-  pub note-in : (j : ℕ) → noteRefusal t i c j ≡ 0 → (j < t .columns) × (c .running ≡ true)
+  pub note-in : (j : ℕ) → noteRefusal t i c j ≡ 0 → (j < t .columns) × (c .running ≡ true) × (¬ In (c .noted) j)
   unfolding noteRefusal
   note-in j e =
       let p = passed (noteConditions t i c j) tt (earlier-none (standing t i c) (first (noteConditions t i c j)) e .1) in
-      (leb-false (t .columns) j (p .0), not-false _ (p .1 .0))
+      (leb-false (t .columns) j (p .0), not-false _ (p .1 .0), not-member (p .1 .1 .1 .0))
 
   pub halt-in : haltRefusal t i c ≡ 0 → c .running ≡ true
   unfolding haltRefusal

@@ -29,5 +29,5 @@ kept {t} tree inv (take-higher a q k d r lt taken e b) = keep-take-higher t tree
 kept {t} tree inv (acknowledge a x r m o b) = keep-acknowledge t tree a inv r x m o b
 kept {t} tree inv (widen a r n m w idle b) = keep-widen t tree a inv r n m w idle b
 kept {t} tree inv (note-awaited a j r _ n m b) = keep-note-awaited t tree a inv r j n m b
-kept {t} tree inv (note-other a j r _ n m b) = keep-note-other t tree a inv r j n m b
+kept {t} tree inv (note-other a j r _ n m _ b) = keep-note-other t tree a inv r j n m b
 kept {t} tree inv (halt a r b) = keep-halt t tree a inv r b

@@ -1,4 +1,5 @@
--- The proof of agreement: the model that the argument is about, its moves, the invariant, and the bank at rest.
+-- The proof of agreement: the model that the argument is about, its moves, the invariant, and the bank at rest. Then the bounds: how many
+-- packets are under way, and how many steps lead to rest.
 pub mod Model
 pub mod Move
 mod Members
@@ -13,8 +14,29 @@ mod Taking
 mod Given
 mod Records
 mod Kept
+mod Tokens
+mod TokenLaws
+mod TokenMoves
+mod Bounded
+mod Pairing
+mod Spreading
+mod Calming
+mod Bounding
+mod BoundedServing
+mod BoundedTaking
+mod BoundedRecords
+mod BoundedKept
+mod BoundedRest
+mod Sums
+mod Pairs
+mod Cover
 mod Rest
 mod Standing
+mod Counting
+mod Potential
+mod Falling
+mod Ceiling
+mod Settling
 mod Received
 pub mod Conditions
 pub mod View
@@ -27,3 +49,5 @@ pub mod Reached
 pub mod Quiet
 pub mod Agreement
 pub mod Companions
+mod Limits
+pub mod Dispatched

@@ -139,7 +139,7 @@ pub data Move (t : Tree) (s s' : State) : Event → Type 0 where
       (noting (s .columns a) (join (s .columns a .send) (children t j)) (without (s .columns a .awaited) j) (insert (s .columns a .noted) j))
       (s .network) (s .orders) → Move t s s' (notes a j)
   note-other : (a j : ℕ) →
-      Runs s a → j < t .columns → ¬ Runs s j → ¬ In (s .columns a .awaited) j →
+      Runs s a → j < t .columns → ¬ Runs s j → ¬ In (s .columns a .awaited) j → ¬ In (s .columns a .noted) j →
       Becomes s s' a (noting (s .columns a) (s .columns a .send) (s .columns a .awaited) (insert (s .columns a .noted) j))
       (s .network) (s .orders) → Move t s s' (notes a j)
   halt : (a : ℕ) →

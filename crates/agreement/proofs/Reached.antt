@@ -28,8 +28,8 @@ use Rattle.bank.specs.StripLaws.{singly, listed, distinct-listed, members-liste
 use Rattle.bank.specs.Unchanged.{unchanged}
 use Rattle.bank.specs.declared.step.Step.{Step}
 use Rattle.bank.specs.declared.step.Step.the-variants.{Order, Send, Take, Ack, All, Note, Halt}
-use Rattle.agreement.specs.History.{World, rootOf, ordersAfter, receivedAfter, awaitsAfter, told, run}
-use Rattle.agreement.specs.Agreement.{begin}
+use Rattle.agreement.specs.History.{World, rootOf, ordersAfter, receivedAfter, awaitsAfter, told, run, Line, stepsOf, follow}
+use Rattle.agreement.specs.Agreement.{begin, AfterEveryList}
 use Rattle.agreement.proofs.Model as model
 use Rattle.agreement.proofs.Network.{Holds, taken-held}
 use Rattle.agreement.proofs.Invariant.{Invariant, Fresh, fresh-invariant}
@@ -37,6 +37,9 @@ use Rattle.agreement.proofs.Kept.{kept}
 use Rattle.agreement.proofs.Standing.{Stands, Deliverable, Standing, fresh-standing, standing-kept, stands-passes}
 use Rattle.agreement.proofs.Move.{Event, halts}
 use Rattle.agreement.proofs.Received as moves
+use Rattle.agreement.proofs.Bounded.{Bounded}
+use Rattle.agreement.proofs.BoundedKept.{bounded}
+use Rattle.agreement.proofs.BoundedRest.{fresh-bounded}
 use Rattle.agreement.proofs.Received.{received-after, awaits-after}
 use Rattle.agreement.proofs.View.{view, modelOf, OneMove, event, Formed}
 use Rattle.agreement.proofs.Refining.{Refined}
@@ -50,6 +53,7 @@ pub record Reached (w : World) : Type 0 where
   pub room : w .state .bank .count ≤ capacity
   pub invariant : Invariant (w .state .bank .tree) (modelOf (w .state) (w .orders))
   pub standing : Standing (w .state .bank .tree) (modelOf (w .state) (w .orders))
+  pub bounded : Bounded (w .state .bank .tree) (modelOf (w .state) (w .orders))
   -- what a column holds is what it received last
   pub received-is : (i : ℕ) → columnAt (w .state .bank) i .number ≡ w .received i
   pub awaits-is : (q : ℕ) → has (columnAt (w .state .bank) (rootOf (w .state)) .awaited) q ≡ w .awaits q
@@ -69,6 +73,7 @@ start t ok heads doors h d = record {
   room = omega arith;
   invariant = fresh-invariant t fresh;
   standing = fresh-standing t fresh;
+  bounded = fresh-bounded t fresh;
   received-is = zero-number;
   awaits-is = λ q. ap (λ (c : Column). has (c .awaited) q) (fresh-at t ok (t .root) (check-exact t .0 ok .root-below)) ∙ has-none q;
 }
@@ -121,6 +126,7 @@ module _ (w w' : World) (e : Event) (r : Reached w) (f : Refined (w .state) (w .
     room = f .room;
     invariant = subst (λ (u : Tree). Invariant u m') (sym (f .same-tree)) (kept (check-exact before .0 (r .tree)) (r .invariant) (f .move));
     standing = subst (λ (u : Tree). Standing u m') (sym (f .same-tree)) (standing-kept (check-exact before .0 (r .tree)) (r .invariant) (r .standing) (f .move));
+    bounded = subst (λ (u : Tree). Bounded u m') (sym (f .same-tree)) (bounded (check-exact before .0 (r .tree)) (r .invariant) (r .bounded) (f .move));
     received-is = λ i. received-after (r .invariant) (r .standing) (w .received) (r .received-is) (f .move) i ∙ sym (received i);
     awaits-is = λ q. ap (λ (u : Tree). has (columnAt (w' .state .bank) (u .root) .awaited) q) (f .same-tree)
         ∙ awaits-after (r .invariant) (w .awaits) (r .awaits-is) (f .move) q ∙ sym (awaits q);
@@ -175,7 +181,7 @@ step-kept w (All i) s' r e = one-move w (All i) tt s' r e
 step-kept w (Note i j) s' r e = one-move w (Note i j) tt s' r e
 step-kept w (Halt m) s' r e = halted-together w m s' r e
 
-next : (w : World) (x : Step) → Reached w → Reached (told w x (perform (w .state) x))
+pub next : (w : World) (x : Step) → Reached w → Reached (told w x (perform (w .state) x))
 unfolding told
 next w x r = go (perform (w .state) x) refl
   where
@@ -187,6 +193,17 @@ pub reached : (w : World) (xs : List Step) → Reached w → Reached (run w xs)
 unfolding run
 reached w [] r = r
 reached w (x ∷ xs) r = reached (told w x (perform (w .state) x)) xs (next w x r)
+
+pub reached-lines : (w : World) (lines : List Line) → Reached w → Reached (follow w lines)
+unfolding follow
+reached-lines w [] r = r
+reached-lines w (l ∷ lines) r = reached-lines (run w (stepsOf w l)) lines (reached w (stepsOf w l) r)
+
+-- after every list of lines from a fresh bank
+pub after-every : (P : World → Type 0) → ((w : World) → Reached w → P w) → AfterEveryList P
+after-every P f t ok heads doors h d lines =
+    let w = begin t heads doors in
+    f (follow w lines) (reached-lines w lines (start t ok heads doors h d))
 
 -- ---- it passes rows 2, 3 and 4
 

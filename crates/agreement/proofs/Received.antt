@@ -87,7 +87,7 @@ orders-after (take-higher a q k d r lt taken e b) = b .told
 orders-after (acknowledge a x r m o b) = b .told
 orders-after (widen a r n m w idle b) = b .told
 orders-after (note-awaited a j r h n m b) = b .told
-orders-after (note-other a j r h n m b) = b .told
+orders-after (note-other a j r h n m u b) = b .told
 orders-after (halt a r b) = b .told
 
 -- ---- a test once it is known
@@ -156,7 +156,7 @@ module _ {t : Tree} {s : State} (inv : Invariant t s) (v : Standing t s) (f : �
   received-after (acknowledge a x r m o b) = numbers-stay b refl
   received-after (widen a r n m w idle b) = numbers-stay b refl
   received-after (note-awaited a j r h n m b) = numbers-stay b refl
-  received-after (note-other a j r h n m b) = numbers-stay b refl
+  received-after (note-other a j r h n m u b) = numbers-stay b refl
   received-after (halt a r b) = numbers-stay b refl
 
 -- ---- whom the root awaits
@@ -231,7 +231,7 @@ module _ {t : Tree} {s : State} (inv : Invariant t s) (g : ℕ → Bool) (known 
   awaits-after (note-awaited a x r h n m b) =
       awaits-change b (eqb a (t .root)) (λ q. g q && not (eqb q x)) (eq-eqb a (t .root)) (ne-eqb a (t .root))
       (λ z q. has-without (s .columns a .awaited) x q ∙ struck a x z q)
-  awaits-after (note-other a x r h n m b) =
+  awaits-after (note-other a x r h n m u b) =
       awaits-change b (eqb a (t .root)) (λ q. g q && not (eqb q x)) (eq-eqb a (t .root)) (ne-eqb a (t .root))
       (λ z q. struck-none (s .columns a .awaited) x q m ∙ struck a x z q)
   awaits-after (halt a r b) = awaits-stay b (λ z q. refl)

@@ -187,4 +187,4 @@ module _ (s : State) (formed : Formed s) (orders : List ℕ) where
       go st below ok h false a =
           let k = note-in t i c j ok in
           refines-quiet s formed st i below _ (formed .numbers-fit i) s refl refl (formed .whole) orders orders e
-          (λ s' z. move.note-other i j (model-runs s st i below orders (k .1)) (k .0) (halted h) (not-member a) z)
+          (λ s' z. move.note-other i j (model-runs s st i below orders (k .1)) (k .0) (halted h) (not-member a) (k .2) z)

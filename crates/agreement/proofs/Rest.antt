@@ -55,7 +55,7 @@ module _ (t : Tree) (tree : IsTree t) {s : State} (inv : Invariant t s) (rest : 
   deeper (suc n) p d h w q m = awaited-awaits p h
       (λ q k v m. deeper n q (omega (arith, below-deeper t tree (inv .inside p h) (inv .locals p h .own w q (inr m)))) k v) q m
 
-  none-awaited : (p : ℕ) → Runs s p → Empty (s .columns p .awaited)
+  pub none-awaited : (p : ℕ) → Runs s p → Empty (s .columns p .awaited)
   none-awaited p h = awaited-awaits p h (λ q k v m. deeper 15 q (omega arith) k v)
 
   -- a running column whose goal is the whole bank: no running column has a lower number

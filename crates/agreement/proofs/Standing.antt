@@ -237,7 +237,7 @@ module _ {t : Tree} {s : State} (tree : IsTree t) (inv : Invariant t s) (v : Sta
       (stands a r (with-children a r (s .columns a .send) j (w .send)) (struck a r (s .columns a .awaited) j (w .awaited) m) (w .owed)
       (insert-lt (t .columns) (s .columns a .noted) j (w .noted) h) (owes-not-self a r))
       unmoved (λ _ _ _. r)
-  standing-kept (note-other a j r h n m b) =
+  standing-kept (note-other a j r h n m u b) =
       let w = before a r in
       stand b
       (stands a r (w .send) (w .awaited) (w .owed) (insert-lt (t .columns) (s .columns a .noted) j (w .noted) h) (owes-not-self a r))

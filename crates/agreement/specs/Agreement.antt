@@ -10,9 +10,8 @@ use Rattle.column.specs.declared.tree.Tree.{Tree}
 use Rattle.bank.specs.Banks.{State, state, columnAt, freshBank, capacity}
 use Rattle.bank.specs.Steps.{refused, send}
 use Rattle.bank.specs.Rest.{Running, AtRest}
-use Rattle.bank.specs.declared.step.Step.{Step}
 use Rattle.agreement.specs.Orders.{given}
-use Rattle.agreement.specs.History.{World, rootOf, run}
+use Rattle.agreement.specs.History.{World, rootOf, Line, follow}
 
 -- a fresh bank, whatever the words in the free places of its network
 abbrev pub begin : Tree → List ℕ → List ℕ → World
@@ -44,12 +43,12 @@ pub record Agreement (w : World) : Type 0 where
 
 -- ---- the statement
 
--- Of every list of steps, with any numbers, refused ones included, and the empty one: from the fresh bank of every tree that the check
+-- Of every list of steps and dispatches, with any numbers, refused ones included, and the empty one: from the fresh bank of every tree that the check
 -- does not refuse, with any words in its two arrays of 512.
 abbrev pub AfterEveryList : (World → Type 0) → Type 0
 AfterEveryList P = (t : Tree) → treeRefusal t ≡ 0
     → (heads doors : List ℕ) → length heads ≡ capacity → length doors ≡ capacity
-    → (xs : List Step) → P (run (begin t heads doors) xs)
+    → (lines : List Line) → P (follow (begin t heads doors) lines)
 
 abbrev pub Agrees : Type 0
 Agrees = AfterEveryList Agreement

@@ -1,13 +1,16 @@
 -- What stands beside agreement, so that a bank that refuses everything would not do.
 use Prim.Native.Nat.{ℕ, suc}
 use mathlib.Core.Path.{_≡_}
+use mathlib.Core.List.{List}
 use lib.ListN.{length}
-use Rattle.bank.specs.Banks.{State, columnAt, bankRefusal}
+use Rattle.column.specs.Trees.{treeRefusal}
+use Rattle.column.specs.declared.tree.Tree.{Tree}
+use Rattle.bank.specs.Banks.{State, columnAt, capacity, bankRefusal}
 use Rattle.bank.specs.Steps.{accepted, perform}
 use Rattle.bank.specs.Rest.{Running, AtRest}
 use Rattle.bank.specs.declared.step.Step.the-variants.{Order}
-use Rattle.agreement.specs.History.{World, rootOf}
-use Rattle.agreement.specs.Agreement.{AfterEveryList}
+use Rattle.agreement.specs.History.{World, rootOf, Line, follow}
+use Rattle.agreement.specs.Agreement.{begin, AfterEveryList}
 
 -- a bank passes rows 2, 3 and 4, its halted columns and the count of its packets included: a step is refused with 4 only for its own
 -- parameters
@@ -25,3 +28,8 @@ OrdersCount = AfterEveryList Ordered
 -- "A bank with every column halted is at rest."
 abbrev pub HaltedRests : Type 0
 HaltedRests = AfterEveryList (λ w. ((i : ℕ) → Running (w .state) i → ⊥) → AtRest (w .state))
+
+-- the tree of the bank is the one that it was made from, so that N is the count of its table: no list of lines changes it
+abbrev pub KeepsTree : Type 0
+KeepsTree = (t : Tree) → treeRefusal t ≡ 0 → (heads doors : List ℕ) → length heads ≡ capacity → length doors ≡ capacity → (lines : List Line)
+    → follow (begin t heads doors) lines .state .bank .tree ≡ t

@@ -12,6 +12,7 @@ use Rattle.column.specs.declared.packet.Packet.{Packet}
 use Rattle.column.specs.declared.packet.Packet.the-variants.{Message, Acknowledgement}
 use Rattle.bank.specs.Banks.{State, columnAt, packetAt}
 use Rattle.bank.specs.Steps.{Outcome, accepted, refused, perform}
+use Rattle.bank.specs.Dispatch.{dispatched}
 use Rattle.bank.specs.declared.step.Step.{Step}
 use Rattle.bank.specs.declared.step.Step.the-variants.{Order, Send, Take, Ack, All, Note, Halt}
 
@@ -31,6 +32,9 @@ changed f a x j = cond (eqb j a) x (f j)
 
 abbrev pub rootOf : State → ℕ
 rootOf s = s .bank .tree .root
+
+abbrev pub columnsOf : World → ℕ
+columnsOf w = w .state .bank .tree .columns
 
 -- ---- the accepted orders
 
@@ -102,3 +106,18 @@ told w x (refused n s) = record { state = s; orders = w .orders; received = w .r
 unfoldable pub run : World → List Step → World
 run w [] = w
 run w (x ∷ xs) = run (told w x (perform (w .state) x)) xs
+
+-- ---- a list of lines: "a step that a change adds joins the list". A dispatch stands for the steps that it takes.
+
+pub data Line : Type 0 where
+  step : Step → Line
+  dispatching : ℕ → Line
+
+-- the steps of a line, in the bank as the last line left it
+abbrev pub stepsOf : World → Line → List Step
+stepsOf w (step x) = x ∷ []
+stepsOf w (dispatching limit) = dispatched limit (w .state)
+
+unfoldable pub follow : World → List Line → World
+follow w [] = w
+follow w (l ∷ ls) = follow (run w (stepsOf w l)) ls

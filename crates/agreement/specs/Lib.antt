@@ -4,3 +4,5 @@ pub mod Agreement
 pub mod Companions
 pub mod Runs
 pub mod Premises
+pub mod Dispatching
+pub mod DispatchRuns

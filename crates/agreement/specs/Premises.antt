@@ -5,7 +5,7 @@ use native.Mathlib.Omega.{arith}
 use mathlib.Core.Path.{_≡_, refl, sym, ap, subst, _∙_}
 use mathlib.Core.Logic.{_⊎_, inl, inr}
 use mathlib.Core.Bool.{Bool, true, false, not, _&&_, _||_, cond, true≢false}
-use mathlib.Core.List.{List, [], _∷_, _++_}
+use mathlib.Core.List.{List, [], _∷_, _++_, map}
 use lib.Count.{trailing-le}
 use lib.Dec.{eqb, ltb}
 use lib.ListN.{length, replicate, length-replicate}
@@ -25,7 +25,7 @@ use Rattle.bank.specs.RestLaws.{rest-exact}
 use Rattle.bank.specs.Unchanged.{unchanged}
 use Rattle.bank.specs.declared.step.Step.{Step}
 use Rattle.bank.specs.declared.step.Step.the-variants.{Order, Send, Take, Ack, All, Note, Halt}
-use Rattle.agreement.specs.History.{World, changed, rootOf, acknowledged, awaitsAfter, told, run}
+use Rattle.agreement.specs.History.{World, changed, rootOf, acknowledged, awaitsAfter, told, run, step, follow}
 use Rattle.agreement.specs.Agreement.{Holds, HighestReceived, NeitherSends, NorAwaits, Agreement, AfterEveryList, Agrees}
 use Rattle.agreement.specs.Companions.{Ordered, OrdersCount, HaltedRests}
 use Rattle.agreement.specs.Runs.{Row, fromFresh, after, refusal, refusals, rowIn, recordIs, holds, Case, row, runs-pass}
@@ -84,6 +84,13 @@ accepted-by : (o : Outcome State) → refusal o ++ [] ≡ [] → (s : State) × 
 accepted-by (accepted s) e = (s, refl)
 accepted-by (refused m s) e = let z : _≡_ {A = ℕ} 1 0 = ap length e in absurd (omega arith)
 
+-- ---- a list of steps is a list of lines
+
+pub follow-steps : (w : World) (xs : List Step) → follow w (map step xs) ≡ run w xs
+unfolding follow run
+follow-steps w [] = refl
+follow-steps w (x ∷ xs) = follow-steps (told w x (perform (w .state) x)) xs
+
 -- ---- what a row says of its world
 
 abbrev pub world : Case → World
@@ -112,7 +119,8 @@ module _ (c : Case) where
   pub spoken-of : (P : World → Type 0) → AfterEveryList P → P w
   spoken-of P f =
       let words : length {A = ℕ} (replicate capacity 0) ≡ capacity = length-replicate {A = ℕ} capacity 0 in
-      f (row c .tree) (ap (λ x. x .1) (runs-pass c)) (replicate capacity 0) (replicate capacity 0) words words (row c .steps)
+      subst P (follow-steps (fromFresh (row c .tree)) (row c .steps))
+      (f (row c .tree) (ap (λ x. x .1) (runs-pass c)) (replicate capacity 0) (replicate capacity 0) words words (map step (row c .steps)))
 
   pub bank-stands : Stands s
   bank-stands = stands s (ap (λ x. x .2) (runs-pass c))

@@ -22,4 +22,13 @@ pub mod Rest
 pub mod RestSteps
 pub mod RestLaws
 pub mod Places
+pub mod StandingOn
 pub mod StepExamples
+pub mod Dispatch
+pub mod Dispatches
+pub mod DispatchLaws
+pub mod Quick
+pub mod QuickLaws
+pub mod QuickTurn
+pub mod Offers
+pub mod QuickSteps

@@ -1,11 +1,12 @@
 -- What a list holds after one place of its first c was taken out, or only some of its first c were kept: in front what is left, then what
 -- the free places hold, and from c on what was there.
 -- Assumes nothing.
-use Prim.Native.Nat.{ℕ, _+_, _-_, _≤_, _<_}
+use Prim.Native.Nat.{ℕ, zero, suc, _+_, _-_, _≤_, _<_}
 use mathlib.Core.Path.{_≡_, sym, ap, ap₂, _∙_, refl}
 use mathlib.Core.List.{List, _∷_, _++_, append-assoc, []}
 use native.Mathlib.Omega.{arith}
-use lib.ListN.{length, getD, take, drop, replicate, length-take, length-drop, length-append, length-replicate, getD-replicate, List·getD-append, replicate-append-replicate}
+use native.Mathlib.Numerals.{add-one}
+use lib.ListN.{length, getD, set, take, drop, replicate, length-take, length-drop, length-append, length-replicate, getD-replicate, List·getD-append, replicate-append-replicate}
 use lib.Seq.{length-take-le, take-at, take-take, take-add, drop-at, drop-append-add, getD-at, getD-append-add}
 use Rattle.bank.specs.Lists.{keeping, closedUp, padded}
 use mathlib.Core.Bool.{Bool, true, false, _&&_, cond}
@@ -69,6 +70,75 @@ module _ {A : Type 0} (w old : List A) (c : ℕ) (v : A) where
         others-kept = ap (drop c) (sym (append-assoc w r (drop c old)))
             ∙ drop-at (w ++ r) (drop c old) c (simp (length-append, length-replicate) (omega arith));
       }
+
+-- ---- one place taken out, read place by place; a list that ends before c holds v from its end on
+
+module _ {A : Type 0} (v : A) where
+  take-none : (n : ℕ) → take {A = A} n [] ≡ []
+  take-none zero = refl
+  take-none (suc n) = refl
+
+  drop-none : (n : ℕ) → drop {A = A} n [] ≡ []
+  drop-none zero = refl
+  drop-none (suc n) = refl
+
+  closed-up-none : (p c k : ℕ) → getD (closedUp [] p c v) k v ≡ v
+  unfolding closedUp
+  closed-up-none p c k =
+      ap (λ (l : List A). getD l k v) (ap₂ (λ (a b : List A). (a ++ take (c - 1 - p) (drop (p + 1) [])) ++ (v ∷ b)) (take-none p) (drop-none c)
+      ∙ ap (λ (a : List A). a ++ (v ∷ [])) (ap (take (c - 1 - p)) (drop-none (p + 1)) ∙ take-none (c - 1 - p)))
+      ∙ go k
+    where
+      go : (k : ℕ) → getD (v ∷ []) k v ≡ v
+      go zero = refl
+      go (suc k) = refl
+
+  closed-up-first : (x : A) (l : List A) (c : ℕ) → closedUp (x ∷ l) 0 (suc c) v ≡ take c l ++ (v ∷ drop c l)
+  unfolding closedUp
+  closed-up-first x l c =
+      let e : suc c - 1 - 0 ≡ c = omega arith in
+      ap (λ n. take n l ++ (v ∷ drop c l)) e
+
+  closed-up-later : (x : A) (l : List A) (p c : ℕ) → closedUp (x ∷ l) (suc p) (suc c) v ≡ x ∷ closedUp l p c v
+  unfolding closedUp
+  closed-up-later x l p c =
+      let e : suc c - 1 - suc p ≡ c - 1 - p = omega arith in
+      let f : suc p + 1 ≡ suc (p + 1) = omega arith in
+      ap₂ (λ n m. (take (suc p) (x ∷ l) ++ take n (drop m (x ∷ l))) ++ (v ∷ drop c l)) e f
+
+  gap-at : (c : ℕ) (l : List A) (k : ℕ) → k < c → getD (take c l ++ (v ∷ drop c l)) k v ≡ getD l k v
+  gap-at zero l k h = absurd (omega arith)
+  gap-at (suc c) [] zero h = refl
+  gap-at (suc c) [] (suc k) h = refl
+  gap-at (suc c) (x ∷ l) zero h = refl
+  gap-at (suc c) (x ∷ l) (suc k) h = gap-at c l k (omega arith)
+
+  pub closed-up-before : (l : List A) (p c k : ℕ) → k < p → k + 1 < c → getD (closedUp l p c v) k v ≡ getD l k v
+  closed-up-before [] p c k h g = closed-up-none p c k
+  closed-up-before (x ∷ l) zero c k h g = absurd (omega arith)
+  closed-up-before (x ∷ l) (suc p) zero k h g = absurd (omega arith)
+  closed-up-before (x ∷ l) (suc p) (suc c) zero h g = ap (λ (l : List A). getD l 0 v) (closed-up-later x l p c)
+  closed-up-before (x ∷ l) (suc p) (suc c) (suc k) h g =
+      ap (λ (l : List A). getD l (suc k) v) (closed-up-later x l p c) ∙ closed-up-before l p c k (omega arith) (omega arith)
+
+  pub closed-up-after : (l : List A) (p c k : ℕ) → p ≤ k → k + 1 < c → getD (closedUp l p c v) k v ≡ getD l (k + 1) v
+  closed-up-after [] p c k h g = closed-up-none p c k
+  closed-up-after (x ∷ l) p zero k h g = absurd (omega arith)
+  closed-up-after (x ∷ l) zero (suc c) k h g =
+      ap (λ (l : List A). getD l k v) (closed-up-first x l c) ∙ gap-at c l k (omega arith) ∙ ap (λ n. getD (x ∷ l) n v) (sym (add-one k))
+  closed-up-after (x ∷ l) (suc p) (suc c) zero h g = absurd (omega arith)
+  closed-up-after (x ∷ l) (suc p) (suc c) (suc k) h g =
+      let e : suc k + 1 ≡ suc (k + 1) = omega arith in
+      ap (λ (l : List A). getD l (suc k) v) (closed-up-later x l p c) ∙ closed-up-after l p c k (omega arith) (omega arith)
+      ∙ ap (λ n. getD (x ∷ l) n v) (sym e)
+
+-- what one place's new value has in common with its old one, all places keep
+pub set-keeps : {A B : Type 0} (f : A → B) (d : A) (l : List A) (i : ℕ) (a : A) → f a ≡ f (getD l i d) → (j : ℕ) → f (getD (set l i a) j d) ≡ f (getD l j d)
+set-keeps f d [] i a e j = refl
+set-keeps f d (x ∷ l) zero a e zero = e
+set-keeps f d (x ∷ l) zero a e (suc j) = refl
+set-keeps f d (x ∷ l) (suc i) a e zero = refl
+set-keeps f d (x ∷ l) (suc i) a e (suc j) = set-keeps f d l i a e j
 
 -- ---- kept twice, cleared twice
 

@@ -9,7 +9,7 @@ use native.Mathlib.Omega.{arith}
 use lib.Dec.{eqb, leb, ltb}
 use lib.ListN.{getD}
 use lib.Seq.{getD-set-other}
-use borrow.Author.Tests.{eq-eqb, eqb-true, eqb-false, not-false}
+use borrow.Author.Tests.{eq-eqb, ne-eqb, eqb-true, eqb-false, not-false}
 use Rattle.column.specs.Cases.{truth}
 use Rattle.column.specs.Sets.{has}
 use Rattle.column.specs.Refusals.{first, earlier}
@@ -22,8 +22,8 @@ use Rattle.column.specs.declared.tree.Tree.{Tree}
 use Rattle.column.specs.declared.state.Column.{Column}
 use Rattle.column.specs.declared.packet.Packet.{Packet}
 use Rattle.bank.specs.Banks.{State, columnAt, runs, packetAt, capacity, noColumn, bankRefusal, actingRefusal}
-use Rattle.bank.specs.Networks.{withPacket, put, puts, removed}
-use Rattle.bank.specs.Steps.{Outcome, accepted, refused, after, unless, fitting, settled, acted, delivered, takeRefusal, halted, haltConditions, haltRefusal, perform}
+use Rattle.bank.specs.Networks.{withPacket, put, puts, removed, vanished}
+use Rattle.bank.specs.Steps.{Outcome, accepted, refused, after, unless, fitting, withColumn, settled, acted, delivered, takeRefusal, halted, haltConditions, haltRefusal, perform}
 use Rattle.bank.specs.Exact.{ownRefusal, refusalOf}
 use Rattle.bank.specs.ExactLaws.{exact}
 use Rattle.bank.specs.StripStates.{column-at}
@@ -42,24 +42,53 @@ acts s (All i) j = eqb j i
 acts s (Note i k) j = eqb j i
 acts s (Halt m) j = has m j
 
--- ---- the other places
+-- the only step of which more than one column may act
+abbrev pub isHalt : Step → Bool
+isHalt (Order doors) = false
+isHalt (Send i) = false
+isHalt (Take place) = false
+isHalt (Ack i) = false
+isHalt (All i) = false
+isHalt (Note i j) = false
+isHalt (Halt m) = true
 
-put-columns : (s : State) (p : Packet) → put s p .bank .columns ≡ s .bank .columns
-unfolding put
-put-columns s p = go (runs (s .bank) (receiver p))
+pub one-acts : (s : State) (x : Step) (i j : ℕ) → isHalt x ≡ false → acts s x i ≡ true → (j ≡ i → ⊥) → acts s x j ≡ false
+one-acts s x i j = go x
   where
-    go : (b : Bool) → cond b (withPacket s p) s .bank .columns ≡ s .bank .columns
-    go true = refl
-    go false = refl
+    one : (k : ℕ) → eqb i k ≡ true → (j ≡ i → ⊥) → eqb j k ≡ false
+    one k h other = ne-eqb j k (λ e. other (e ∙ sym (eqb-true i k h)))
 
-puts-columns : (l : List Packet) (s : State) → puts s l .bank .columns ≡ s .bank .columns
+    go : (x : Step) → isHalt x ≡ false → acts s x i ≡ true → (j ≡ i → ⊥) → acts s x j ≡ false
+    go (Order doors) e = one (s .bank .tree .root)
+    go (Send k) e = one k
+    go (Take place) e = one (receiver (packetAt s place))
+    go (Ack k) e = one k
+    go (All k) e = one k
+    go (Note k l) e = one k
+    go (Halt m) e = absurd (true≢false e)
+
+-- ---- what a step keeps
+
+put-kept : (s : State) (p : Packet) → (put s p .bank .tree ≡ s .bank .tree) × (put s p .bank .columns ≡ s .bank .columns)
+unfolding put
+put-kept s p = go (runs (s .bank) (receiver p))
+  where
+    go : (b : Bool) → let u : State = cond b (withPacket s p) s in (u .bank .tree ≡ s .bank .tree) × (u .bank .columns ≡ s .bank .columns)
+    go true = (refl, refl)
+    go false = (refl, refl)
+
+puts-kept : (l : List Packet) (s : State) → (puts s l .bank .tree ≡ s .bank .tree) × (puts s l .bank .columns ≡ s .bank .columns)
 unfolding puts
-puts-columns [] s = refl
-puts-columns (p ∷ l) s = puts-columns l (put s p) ∙ put-columns s p
+puts-kept [] s = (refl, refl)
+puts-kept (p ∷ l) s =
+    let one = put-kept s p in
+    let rest = puts-kept l (put s p) in
+    (rest .0 ∙ one .0, rest .1 ∙ one .1)
 
-module _ (s : State) (i j : ℕ) (other : j ≡ i → ⊥) where
+-- what no refusal rewrites, read off a state
+module _ {A : Type 0} (read : State → A) (s : State) where
   abbrev Kept : Outcome State → Type 0
-  Kept o = columnAt (after o .bank) j ≡ columnAt (s .bank) j
+  Kept o = read (after o) ≡ read s
 
   kept-unless : (n : ℕ) (o : Outcome State) → Kept o → Kept (unless n s o)
   kept-unless n o h = go (eqb n 0)
@@ -68,7 +97,7 @@ module _ (s : State) (i j : ℕ) (other : j ≡ i → ⊥) where
       go true = h
       go false = refl
 
-  kept-fitting : (next : State) → columnAt (next .bank) j ≡ columnAt (s .bank) j → Kept (fitting s next)
+  kept-fitting : (next : State) → read next ≡ read s → Kept (fitting s next)
   unfolding fitting
   kept-fitting next h = go (ltb capacity (next .bank .count))
     where
@@ -76,19 +105,27 @@ module _ (s : State) (i j : ℕ) (other : j ≡ i → ⊥) where
       go true = refl
       go false = h
 
-  kept-settled : (gone : State) → gone .bank .columns ≡ s .bank .columns → (r : core.Result) → Kept (settled s gone i r)
-  kept-settled gone same (core.refused n c) = refl
-  kept-settled gone same (core.accepted c packets left) =
-      kept-fitting _ (ap (λ (l : List Column). getD l j noColumn) (puts-columns packets _)
-      ∙ getD-set-other (cond left s gone .bank .columns) i j c noColumn other ∙ go left)
-    where
-      go : (b : Bool) → columnAt (cond b s gone .bank) j ≡ columnAt (s .bank) j
-      go true = refl
-      go false = ap (λ (l : List Column). getD l j noColumn) same
+  -- a step of column i keeps it, where neither a packet nor the place of column i alters it
+  module _ (i : ℕ)
+      (over : (u : State) (c : Column) (l : List Packet) → read u ≡ read s → read (puts (withColumn u i c) l) ≡ read s) where
+    kept-settled : (gone : State) → read gone ≡ read s → (r : core.Result) → Kept (settled s gone i r)
+    kept-settled gone same (core.refused n c) = refl
+    kept-settled gone same (core.accepted c packets left) = kept-fitting _ (over (cond left s gone) c packets (go left))
+      where
+        go : (b : Bool) → read (cond b s gone) ≡ read s
+        go true = refl
+        go false = same
 
-  kept-acted : (r : core.Result) → Kept (acted s i r)
-  unfolding acted
-  kept-acted r = kept-unless (actingRefusal s i) _ (kept-settled s refl r)
+    kept-acted : (r : core.Result) → Kept (acted s i r)
+    unfolding acted
+    kept-acted r = kept-unless (actingRefusal s i) _ (kept-settled s refl r)
+
+-- ---- the other places
+
+place-kept : (s : State) (i j : ℕ) → (j ≡ i → ⊥) → (u : State) (c : Column) (l : List Packet)
+    → columnAt (u .bank) j ≡ columnAt (s .bank) j → columnAt (puts (withColumn u i c) l .bank) j ≡ columnAt (s .bank) j
+place-kept s i j other u c l same =
+    ap (λ (l : List Column). getD l j noColumn) (puts-kept l _ .1) ∙ getD-set-other (u .bank .columns) i j c noColumn other ∙ same
 
 kept-halted : (s : State) (m j : ℕ) → has m j ≡ false → (b : Bool)
     → columnAt (after (cond b (accepted (halted s (has m))) (refused (haltRefusal s m) s)) .bank) j ≡ columnAt (s .bank) j
@@ -97,15 +134,51 @@ kept-halted s m j e false = refl
 
 pub others-kept : (s : State) (x : Step) (j : ℕ) → acts s x j ≡ false → columnAt (after (perform s x) .bank) j ≡ columnAt (s .bank) j
 unfolding perform delivered
-others-kept s (Order doors) j e = kept-acted s _ j (eqb-false j _ e) _
-others-kept s (Send i) j e = kept-acted s i j (eqb-false j i e) _
-others-kept s (Take place) j e =
-    let other = eqb-false j (receiver (packetAt s place)) e in
-    kept-unless s _ j other (takeRefusal s place) _ (kept-settled s _ j other (removed s place) refl (core.take _ _ _ _))
-others-kept s (Ack i) j e = kept-acted s i j (eqb-false j i e) _
-others-kept s (All i) j e = kept-acted s i j (eqb-false j i e) _
-others-kept s (Note i k) j e = kept-acted s i j (eqb-false j i e) _
-others-kept s (Halt m) j e = kept-halted s m j e (eqb (haltRefusal s m) 0)
+others-kept s x j = go x
+  where
+    read : State → Column
+    read u = columnAt (u .bank) j
+
+    one : (i : ℕ) → eqb j i ≡ false → (r : core.Result) → read (after (acted s i r)) ≡ read s
+    one i e = kept-acted read s i (place-kept s i j (eqb-false j i e))
+
+    go : (x : Step) → acts s x j ≡ false → read (after (perform s x)) ≡ read s
+    go (Order doors) e = one _ e _
+    go (Send i) e = one i e _
+    go (Take place) e =
+        let i = receiver (packetAt s place) in
+        kept-unless read s (takeRefusal s place) _
+        (kept-settled read s i (place-kept s i j (eqb-false j i e)) (removed s place) refl (core.take _ _ _ _))
+    go (Ack i) e = one i e _
+    go (All i) e = one i e _
+    go (Note i k) e = one i e _
+    go (Halt m) e = kept-halted s m j e (eqb (haltRefusal s m) 0)
+
+-- ---- the tree
+
+pub tree-kept : (s : State) (x : Step) → after (perform s x) .bank .tree ≡ s .bank .tree
+unfolding perform delivered halted vanished
+tree-kept s x = go x
+  where
+    read : State → Tree
+    read u = u .bank .tree
+
+    over : (i : ℕ) (u : State) (c : Column) (l : List Packet) → read u ≡ read s → read (puts (withColumn u i c) l) ≡ read s
+    over i u c l same = puts-kept l _ .0 ∙ same
+
+    one : (i : ℕ) (r : core.Result) → read (after (acted s i r)) ≡ read s
+    one i = kept-acted read s i (over i)
+
+    go : (x : Step) → read (after (perform s x)) ≡ read s
+    go (Order doors) = one _ _
+    go (Send i) = one i _
+    go (Take place) =
+        let i = receiver (packetAt s place) in
+        kept-unless read s (takeRefusal s place) _ (kept-settled read s i (over i) (removed s place) refl (core.take _ _ _ _))
+    go (Ack i) = one i _
+    go (All i) = one i _
+    go (Note i k) = one i _
+    go (Halt m) = kept-unless read s (haltRefusal s m) _ refl
 
 -- ---- who acts
 

@@ -1,6 +1,6 @@
 -- Which steps of a bank are refused: those that `refusalOf` refuses; where no packet is under way, those that the core refuses.
 -- Assumes nothing.
-use Prim.Native.Nat.{ℕ, _≤_, _<_}
+use Prim.Native.Nat.{ℕ, suc, _≤_, _<_}
 use mathlib.Core.Path.{_≡_, refl, ap, _∙_}
 use mathlib.Core.Logic.{⊎-elim}
 use mathlib.Core.Bool.{Bool, true, false, not, _&&_, _||_, cond, and-false}
@@ -28,6 +28,15 @@ refuses n = not (eqb n 0)
 -- a condition of the list holds
 pub met : (n : ℕ) (l : List (ℕ × Bool)) → T (numbered l) → (Passed l → ⊥) → refuses (earlier n (first l)) ≡ true
 met n l h f = ap not (ne-eqb (earlier n (first l)) 0 (λ e. f (passed l h (earlier-none n (first l) e .1))))
+
+-- one condition after others
+pub then-refuses : (n k : ℕ) (holds : Bool) → refuses (earlier n (first ((suc k, holds) ∷ []))) ≡ (holds || refuses n)
+then-refuses n k false = ap refuses (earlier-zero n)
+then-refuses n k true = go (eqb n 0) refl
+  where
+    go : (b : Bool) → eqb n 0 ≡ b → refuses (cond b (suc k) n) ≡ true
+    go true e = ap not (ne-eqb (suc k) 0 (λ z. omega arith))
+    go false e = ap not e
 
 module _ (s : State) (x : Step) where
   pub refused-exactly : isRefused (perform s x) ≡ refuses (refusalOf s x)
@@ -76,15 +85,7 @@ module _ (s : State) (none : s .bank .count ≡ 0) (good : bankRefusal s ≡ 0) 
   -- "j is halted, differs from i and is not yet noted by i"
   pub note-refused : (j : ℕ) → isRefused (note s i j) ≡ (runs (s .bank) j || refuses (core.noteRefusal (s .bank .tree) i c j))
   unfolding perform
-  note-refused j = own-refused s (Note i j) none good ∙ go (runs (s .bank) j) (core.noteRefusal (s .bank .tree) i c j)
-    where
-      six : (n : ℕ) (b : Bool) → eqb n 0 ≡ b → refuses (cond b 6 n) ≡ true
-      six n true e = refl
-      six n false e = ap not e
-
-      go : (running : Bool) (n : ℕ) → refuses (earlier n (first ((6, running) ∷ []))) ≡ (running || refuses n)
-      go true n = six n (eqb n 0) refl
-      go false n = ap refuses (earlier-zero n)
+  note-refused j = own-refused s (Note i j) none good ∙ then-refuses (core.noteRefusal (s .bank .tree) i c j) 5 (runs (s .bank) j)
 
 -- "every j": one that is not below columns is refused in any bank
 module _ (s : State) (i : ℕ) where

@@ -1,11 +1,11 @@
 -- What every step tests first, from the heads of the packets alone: the doors that they carry are not looked at.
-use Prim.Native.Nat.{ℕ}
+use Prim.Native.Nat.{ℕ, _-_}
 use mathlib.Core.Path.{_≡_}
 use mathlib.Core.List.{List}
 use mathlib.Core.Bool.{Bool, not, _&&_, _||_}
 use lib.Dec.{eqb, leb, ltb}
 use Rattle.column.specs.Sets.{has}
-use Rattle.bank.specs.Banks.{state, bankRefusal, actingRefusal}
+use Rattle.bank.specs.Banks.{State, state, packetAt, columnStands, packetStands, bankRefusal, actingRefusal}
 use Rattle.bank.specs.declared.bank.Bank.{Bank}
 use Rattle.bank.specs.Words.{acknowledging, receiverIn, senderIn}
 
@@ -22,3 +22,19 @@ RefusesBank n b heads = (doors : List ℕ) → n ≡ bankRefusal (state b heads 
 
 abbrev pub RefusesActing : ℕ → Bank → List ℕ → ℕ → Type 0
 RefusesActing n b heads i = (doors : List ℕ) → n ≡ actingRefusal (state b heads doors) i
+
+-- ---- what a step can have changed
+
+-- row 4 of the newest packet, where there is one
+abbrev pub newestStands : State → Bool
+newestStands s = eqb (s .bank .count) 0 || packetStands (s .bank) (packetAt s (s .bank .count - 1))
+
+-- of a bank that stood before a step of column i: that column, and the packet that was put
+abbrev pub stillStands : State → ℕ → Bool
+stillStands s i = columnStands (s .bank) i && newestStands s
+
+abbrev pub TellsNewest : Bool → Bank → List ℕ → Type 0
+TellsNewest r b heads = (doors : List ℕ) → r ≡ newestStands (state b heads doors)
+
+abbrev pub TellsStill : Bool → Bank → List ℕ → ℕ → Type 0
+TellsStill r b heads i = (doors : List ℕ) → r ≡ stillStands (state b heads doors) i

@@ -152,10 +152,6 @@ module _ (b : Bank) (i j : ℕ) where
 
 -- ---- take
 
--- n is the refusal of a take, whatever the doors
-abbrev pub RefusesTaking : ℕ → Bank → List ℕ → ℕ → Type 0
-RefusesTaking n b heads place = (doors : List ℕ) → n ≡ takeRefusal (state b heads doors) place
-
 pub takes : (s : State) (place : ℕ) → takeRefusal s place ≡ 0
     → (receiver (packetAt s place) < 16) × (place < s .bank .count) × (s .bank .count ≤ 512)
 takes s place e =
@@ -168,9 +164,9 @@ takes s place e =
 
 -- ---- halt
 
--- n is the refusal of a halt, whatever the doors
-abbrev pub RefusesHalting : ℕ → Bank → List ℕ → ℕ → Type 0
-RefusesHalting n b heads m = (doors : List ℕ) → n ≡ strip.haltRefusal (state b heads doors) m
+-- the refusal of a halt where n is the bank's: the words are not looked at
+abbrev pub haltingRefusal : ℕ → Bank → ℕ → ℕ
+haltingRefusal n b m = earlier n (first (strip.haltConditions (state b [] []) m))
 
 pub vanished-few : (s : State) (member : ℕ → Bool) → s .bank .count ≤ capacity → vanished s member .bank .count ≤ capacity
 unfolding vanished

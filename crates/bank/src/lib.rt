@@ -1,5 +1,6 @@
 // The bank: up to sixteen columns, each the core of its own, and the packets between them.
 pub mod bank;
+pub mod dispatch;
 mod network;
 pub mod rest;
 mod settling;

@@ -6,15 +6,15 @@ use crate::bank::NO_COLUMN;
 use crate::bank::Result;
 use crate::network::append;
 use crate::network::remove;
-use crate::standing::acting_refusal;
 use column::packet::Packet;
 use column::packet::receiver;
+use column::precedence::refuse_if;
 use column::state::Column;
 use column::step::Outcome;
 ghost use mathlib.Core.Path.{_≡_};
 ghost use Prim.Native.Nat.{_≤_, _<_};
 ghost use Rattle.column.specs.Steps.{meant};
-ghost use Rattle.bank.specs.Banks.{state, columnAt, runs};
+ghost use Rattle.bank.specs.Banks.{state, columnAt, runs, bankRefusal};
 ghost use Rattle.bank.specs.Networks.{put, removed};
 ghost use Rattle.bank.specs.StepLaws.{takesOff};
 ghost use Rattle.bank.specs.Steps.{answered, accepted, refused, outcome, withPlace, withColumn, fitting, settled, acted};
@@ -143,13 +143,22 @@ pub fn settle_taken(
     settle(remove(b, place, heads, doors), i, o, heads, doors)
 }
 
-// A step of column i that takes no packet off, where the core's outcome is o.
-pub fn act(b: Bank, i: usize, o: Outcome, heads: &mut [u64; 512], doors: &mut [u64; 512]) -> Result
+// A step of column i that takes no packet off, of a bank that is refused by n, where the core's outcome is o.
+pub fn act(
+    b: Bank,
+    n: u8,
+    i: usize,
+    o: Outcome,
+    heads: &mut [u64; 512],
+    doors: &mut [u64; 512],
+) -> Result
+    requires { ⌜ n ≡ bankRefusal (state b (now heads) (now doors)) ⌝ }
     ensures { λ r. ⌜ outcome r (now (heads .exit)) (now (doors .exit)) ≡ acted (state b (now (heads .entry)) (now (doors .entry))) i (meant o) ⌝ }
 {
-    let n = acting_refusal(b, i, heads);
-    if n != 0 {
-        return refused(b, n);
+    let t = b.tree;
+    let m = refuse_if(n, t.columns <= i, 4);
+    if m != 0 {
+        return refused(b, m);
     }
     settle(b, i, o, heads, doors)
 }

@@ -1,6 +1,7 @@
 // What every step tests first: the tree, then row 4 of every column and of every packet.
 use crate::bank::Bank;
 use crate::bank::CAPACITY;
+use crate::settling::column_at;
 use crate::words::ACKNOWLEDGING;
 use crate::words::receiver_in;
 use crate::words::sender_in;
@@ -13,7 +14,7 @@ ghost use lib.ListN.{getD};
 ghost use Rattle.column.specs.Sets.{selected};
 ghost use Rattle.column.specs.Trees.{every};
 ghost use Rattle.bank.specs.Banks.{runs, columnsStand};
-ghost use Rattle.bank.specs.Standing.{headStands, RefusesBank, RefusesActing};
+ghost use Rattle.bank.specs.Standing.{headStands, RefusesBank, RefusesActing, TellsNewest, TellsStill};
 
 fn columns_stand(b: Bank) -> bool
     requires { ⌜ b .tree .columns ≤ 16 ⌝ }
@@ -106,4 +107,28 @@ pub fn acting_refusal(b: Bank, i: usize, heads: &[u64; 512]) -> u8
 {
     let t = b.tree;
     refuse_if(bank_refusal(b, heads), t.columns <= i, 4)
+}
+
+// Row 4 of the newest packet, where there is one.
+fn newest_stands(b: Bank, heads: &[u64; 512]) -> bool
+    requires { ⌜ (b .tree .columns ≤ 16) × (b .count ≤ 512) ⌝ }
+    ensures { λ r. ⌜ TellsNewest r b (now (heads .entry)) ⌝ }
+{
+    let t = b.tree;
+    let count = b.count;
+    if count == 0 {
+        return true;
+    }
+    head_stands(t.columns, t.root, running(b), heads[count - 1])
+}
+
+// Row 4 of what a step of column i can have changed.
+pub(crate) fn still_stands(b: Bank, i: usize, heads: &[u64; 512]) -> bool
+    requires { ⌜ (b .tree .columns ≤ 16) × (b .count ≤ 512) ⌝ }
+    ensures { λ r. ⌜ TellsStill r b (now (heads .entry)) i ⌝ }
+{
+    if state_refusal(b.tree, i, column_at(b, i)) != 0 {
+        return false;
+    }
+    newest_stands(b, heads)
 }

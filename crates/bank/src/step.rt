@@ -23,8 +23,7 @@ ghost use mathlib.Core.Path.{_≡_};
 ghost use Prim.Native.Nat.{_≤_, _<_};
 ghost use Rattle.column.specs.Packets.{receiver};
 ghost use Rattle.column.specs.Steps.{meant};
-ghost use Rattle.bank.specs.Banks.{state};
-ghost use Rattle.bank.specs.StepLaws.{RefusesTaking};
+ghost use Rattle.bank.specs.Banks.{state, bankRefusal};
 ghost use Rattle.bank.specs.Steps.{outcome, delivered, order, send, take, ack, all, noted, note, halt, perform};
 
 pub enum Step {
@@ -35,30 +34,6 @@ pub enum Step {
     All(usize),
     Note(usize, usize),
     Halt(u32),
-}
-
-// The bank with these doors given to its root under the next number.
-pub fn order(b: Bank, given: u64, heads: &mut [u64; 512], doors: &mut [u64; 512]) -> Result
-    ensures { λ r. ⌜ outcome r (now (heads .exit)) (now (doors .exit)) ≡ order (state b (now (heads .entry)) (now (doors .entry))) given ⌝ }
-{
-    let t = b.tree;
-    let i = t.root;
-    let o = column::step::order(t, i, column_at(b, i), given);
-    act(b, i, o, heads, doors)
-}
-
-// The bank after column i served the lowest that it is to send to; a message to a running one is put.
-pub fn send(b: Bank, i: usize, heads: &mut [u64; 512], doors: &mut [u64; 512]) -> Result
-    ensures { λ r. ⌜ outcome r (now (heads .exit)) (now (doors .exit)) ≡ send (state b (now (heads .entry)) (now (doors .entry))) i ⌝ }
-{
-    let o = column::step::send(b.tree, i, column_at(b, i));
-    act(b, i, o, heads, doors)
-}
-
-fn take_refusal(b: Bank, place: usize, heads: &[u64; 512]) -> u8
-    ensures { λ r. ⌜ RefusesTaking r b (now (heads .entry)) place ⌝ }
-{
-    refuse_if(bank_refusal(b, heads), b.count <= place, 10)
 }
 
 // Packet p, which stands at a place, goes to its receiver.
@@ -77,32 +52,23 @@ fn receive(
     settle_taken(b, place, i, o, heads, doors)
 }
 
-// The bank after the packet at a place went to its receiver.
-pub fn take(b: Bank, place: usize, heads: &mut [u64; 512], doors: &mut [u64; 512]) -> Result
+// The packet at a place of a bank that is refused by n.
+fn take_packet(
+    b: Bank,
+    n: u8,
+    place: usize,
+    heads: &mut [u64; 512],
+    doors: &mut [u64; 512],
+) -> Result
+    requires { ⌜ n ≡ bankRefusal (state b (now heads) (now doors)) ⌝ }
     ensures { λ r. ⌜ outcome r (now (heads .exit)) (now (doors .exit)) ≡ take (state b (now (heads .entry)) (now (doors .entry))) place ⌝ }
 {
-    let n = take_refusal(b, place, heads);
-    if n != 0 {
-        return refused(b, n);
+    let m = refuse_if(n, b.count <= place, 10);
+    if m != 0 {
+        return refused(b, m);
     }
     let p = packet(heads[place], doors[place]);
     receive(b, place, p, heads, doors)
-}
-
-// The bank after column i acknowledged its record to the lowest owed.
-pub fn ack(b: Bank, i: usize, heads: &mut [u64; 512], doors: &mut [u64; 512]) -> Result
-    ensures { λ r. ⌜ outcome r (now (heads .exit)) (now (doors .exit)) ≡ ack (state b (now (heads .entry)) (now (doors .entry))) i ⌝ }
-{
-    let o = column::step::ack(b.tree, i, column_at(b, i));
-    act(b, i, o, heads, doors)
-}
-
-// The bank after column i took over.
-pub fn all(b: Bank, i: usize, heads: &mut [u64; 512], doors: &mut [u64; 512]) -> Result
-    ensures { λ r. ⌜ outcome r (now (heads .exit)) (now (doors .exit)) ≡ all (state b (now (heads .entry)) (now (doors .entry))) i ⌝ }
-{
-    let o = column::step::all(b.tree, i, column_at(b, i));
-    act(b, i, o, heads, doors)
 }
 
 // The core believes that the column to note is halted; the bank tests it.
@@ -121,35 +87,107 @@ fn noted(b: Bank, i: usize, j: usize) -> Outcome
     }
 }
 
-// The bank after column i noted that j is halted.
-pub fn note(b: Bank, i: usize, j: usize, heads: &mut [u64; 512], doors: &mut [u64; 512]) -> Result
-    ensures { λ r. ⌜ outcome r (now (heads .exit)) (now (doors .exit)) ≡ note (state b (now (heads .entry)) (now (doors .entry))) i j ⌝ }
-{
-    act(b, i, noted(b, i, j), heads, doors)
-}
-
-// The bank with every column of a set halted, and without the packets to them.
-pub fn halt(b: Bank, m: u32, heads: &mut [u64; 512], doors: &mut [u64; 512]) -> Result
+// The columns of a set, of a bank that is refused by n.
+fn halt_columns(b: Bank, n: u8, m: u32, heads: &mut [u64; 512], doors: &mut [u64; 512]) -> Result
+    requires { ⌜ n ≡ bankRefusal (state b (now heads) (now doors)) ⌝ }
     ensures { λ r. ⌜ outcome r (now (heads .exit)) (now (doors .exit)) ≡ halt (state b (now (heads .entry)) (now (doors .entry))) m ⌝ }
 {
-    let n = halt_refusal(b, m, heads);
-    if n != 0 {
-        return refused(b, n);
+    let k = halt_refusal(b, n, m);
+    if k != 0 {
+        return refused(b, k);
     }
     done(stop(vanish(b, m, heads, doors), m))
+}
+
+// Any of the seven steps, of a bank that is refused by n: whoever knows n need not test the bank again.
+pub(crate) fn perform_tested(
+    b: Bank,
+    n: u8,
+    x: Step,
+    heads: &mut [u64; 512],
+    doors: &mut [u64; 512],
+) -> Result
+    requires { ⌜ n ≡ bankRefusal (state b (now heads) (now doors)) ⌝ }
+    ensures { λ r. ⌜ outcome r (now (heads .exit)) (now (doors .exit)) ≡ perform (state b (now (heads .entry)) (now (doors .entry))) x ⌝ }
+{
+    let t = b.tree;
+    match x {
+        Step::Order(given) => {
+            let i = t.root;
+            let o = column::step::order(t, i, column_at(b, i), given);
+            act(b, n, i, o, heads, doors)
+        }
+        Step::Send(i) => {
+            let o = column::step::send(t, i, column_at(b, i));
+            act(b, n, i, o, heads, doors)
+        }
+        Step::Take(place) => take_packet(b, n, place, heads, doors),
+        Step::Ack(i) => {
+            let o = column::step::ack(t, i, column_at(b, i));
+            act(b, n, i, o, heads, doors)
+        }
+        Step::All(i) => {
+            let o = column::step::all(t, i, column_at(b, i));
+            act(b, n, i, o, heads, doors)
+        }
+        Step::Note(i, j) => act(b, n, i, noted(b, i, j), heads, doors),
+        Step::Halt(m) => halt_columns(b, n, m, heads, doors),
+    }
 }
 
 // The bank after any of the seven steps.
 pub fn perform(b: Bank, x: Step, heads: &mut [u64; 512], doors: &mut [u64; 512]) -> Result
     ensures { λ r. ⌜ outcome r (now (heads .exit)) (now (doors .exit)) ≡ perform (state b (now (heads .entry)) (now (doors .entry))) x ⌝ }
 {
-    match x {
-        Step::Order(given) => order(b, given, heads, doors),
-        Step::Send(i) => send(b, i, heads, doors),
-        Step::Take(place) => take(b, place, heads, doors),
-        Step::Ack(i) => ack(b, i, heads, doors),
-        Step::All(i) => all(b, i, heads, doors),
-        Step::Note(i, j) => note(b, i, j, heads, doors),
-        Step::Halt(m) => halt(b, m, heads, doors),
-    }
+    let n = bank_refusal(b, heads);
+    perform_tested(b, n, x, heads, doors)
+}
+
+// The bank with these doors given to its root under the next number.
+pub fn order(b: Bank, given: u64, heads: &mut [u64; 512], doors: &mut [u64; 512]) -> Result
+    ensures { λ r. ⌜ outcome r (now (heads .exit)) (now (doors .exit)) ≡ order (state b (now (heads .entry)) (now (doors .entry))) given ⌝ }
+{
+    perform(b, Step::Order(given), heads, doors)
+}
+
+// The bank after column i served the lowest that it is to send to; a message to a running one is put.
+pub fn send(b: Bank, i: usize, heads: &mut [u64; 512], doors: &mut [u64; 512]) -> Result
+    ensures { λ r. ⌜ outcome r (now (heads .exit)) (now (doors .exit)) ≡ send (state b (now (heads .entry)) (now (doors .entry))) i ⌝ }
+{
+    perform(b, Step::Send(i), heads, doors)
+}
+
+// The bank after the packet at a place went to its receiver.
+pub fn take(b: Bank, place: usize, heads: &mut [u64; 512], doors: &mut [u64; 512]) -> Result
+    ensures { λ r. ⌜ outcome r (now (heads .exit)) (now (doors .exit)) ≡ take (state b (now (heads .entry)) (now (doors .entry))) place ⌝ }
+{
+    perform(b, Step::Take(place), heads, doors)
+}
+
+// The bank after column i acknowledged its record to the lowest owed.
+pub fn ack(b: Bank, i: usize, heads: &mut [u64; 512], doors: &mut [u64; 512]) -> Result
+    ensures { λ r. ⌜ outcome r (now (heads .exit)) (now (doors .exit)) ≡ ack (state b (now (heads .entry)) (now (doors .entry))) i ⌝ }
+{
+    perform(b, Step::Ack(i), heads, doors)
+}
+
+// The bank after column i took over.
+pub fn all(b: Bank, i: usize, heads: &mut [u64; 512], doors: &mut [u64; 512]) -> Result
+    ensures { λ r. ⌜ outcome r (now (heads .exit)) (now (doors .exit)) ≡ all (state b (now (heads .entry)) (now (doors .entry))) i ⌝ }
+{
+    perform(b, Step::All(i), heads, doors)
+}
+
+// The bank after column i noted that j is halted.
+pub fn note(b: Bank, i: usize, j: usize, heads: &mut [u64; 512], doors: &mut [u64; 512]) -> Result
+    ensures { λ r. ⌜ outcome r (now (heads .exit)) (now (doors .exit)) ≡ note (state b (now (heads .entry)) (now (doors .entry))) i j ⌝ }
+{
+    perform(b, Step::Note(i, j), heads, doors)
+}
+
+// The bank with every column of a set halted, and without the packets to them.
+pub fn halt(b: Bank, m: u32, heads: &mut [u64; 512], doors: &mut [u64; 512]) -> Result
+    ensures { λ r. ⌜ outcome r (now (heads .exit)) (now (doors .exit)) ≡ halt (state b (now (heads .entry)) (now (doors .entry))) m ⌝ }
+{
+    perform(b, Step::Halt(m), heads, doors)
 }

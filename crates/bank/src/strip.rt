@@ -2,13 +2,12 @@
 use crate::bank::Bank;
 use crate::network::member;
 use crate::settling::runs;
-use crate::standing::bank_refusal;
 use column::state::Column;
 ghost use mathlib.Core.Path.{_≡_};
 ghost use Prim.Native.Nat.{_≤_, _<_, _^_};
 ghost use Rattle.column.specs.Sets.{has};
 ghost use Rattle.column.specs.Columns.{stopped};
-ghost use Rattle.bank.specs.StepLaws.{RefusesHalting};
+ghost use Rattle.bank.specs.StepLaws.{haltingRefusal};
 ghost use Rattle.bank.specs.Steps.{withStopped, membersRun};
 
 // Every member of m runs.
@@ -27,11 +26,11 @@ fn members_run(b: Bank, m: u32) -> bool
     run
 }
 
-// 2, 3 or 4 of the bank, then 4 of a member that it has not, then 5 of one that is halted; else 0.
-pub fn halt_refusal(b: Bank, m: u32, heads: &[u64; 512]) -> u8
-    ensures { λ r. ⌜ RefusesHalting r b (now (heads .entry)) m ⌝ }
+// The number n by which the bank is refused, then 4 of a member that it has not, then 5 of one that is halted; else 0.
+pub fn halt_refusal(b: Bank, n: u8, m: u32) -> u8
+    requires { ⌜ (n ≡ 0 → b .tree .columns ≤ 16) ⌝ }
+    ensures { λ r. ⌜ r ≡ haltingRefusal n b m ⌝ }
 {
-    let n = bank_refusal(b, heads);
     if n != 0 {
         return n;
     }

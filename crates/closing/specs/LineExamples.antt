@@ -6,7 +6,7 @@ use Rattle.column.specs.Packets.{lowValue}
 use Rattle.bank.specs.declared.step.Step.the-variants.{Order, Send, Take, Ack, All, Note, Halt}
 use Rattle.closing.specs.Text.{bytes, Reading, read, unread, allDigits, valueFrom, leadingZero, numeral, startsWith, afterKey}
 use Rattle.closing.specs.Tables.{longer, pieces, withNumber, numerals, numeralIn}
-use Rattle.closing.specs.Lines.{Command, perform, list, allHexadecimal, hexadecimalBytes, doorsIn, asking, noteOf, noteOfPieces, noteIn, withMembers, haltAfter, haltIn, orElse, commandOf}
+use Rattle.closing.specs.Lines.{Command, perform, list, dispatch, allHexadecimal, hexadecimalBytes, doorsIn, asking, noteOf, noteOfPieces, noteIn, withMembers, haltAfter, haltIn, orElse, commandOf}
 
 -- a line, and what it asks for
 abbrev lines : List (String × Reading Command)
@@ -50,6 +50,12 @@ lines =
     ∷ ("take=999", read (perform (Take 999)))
     ∷ ("take=00", unread)
     ∷ ("take=1000", unread)
+    -- of `run=` "The limit numeral has up to four digits, no leading zero."
+    ∷ ("run=0", read (dispatch 0))
+    ∷ ("run=9999", read (dispatch 9999))
+    ∷ ("run=10000", unread)
+    ∷ ("run=01", unread)
+    ∷ ("run=", unread)
     -- no key
     ∷ ("jump=1", unread)
     ∷ ("", unread)

@@ -16,9 +16,9 @@ use Rattle.column.specs.Sets.{has, insert}
 use Rattle.column.specs.SetLaws.{has-none, has-insert}
 use Rattle.bank.specs.Strips.{among}
 use Rattle.bank.specs.declared.step.Step.the-variants.{Send, Take, Ack, All, Halt}
-use Rattle.closing.specs.Text.{orderKey, sendKey, takeKey, ackKey, allKey, noteKey, haltKey, listKey, comma, Reading, read, unread, isDigit, allDigits, valueFrom, leadingZero, numeral, startsWith, afterKey}
+use Rattle.closing.specs.Text.{orderKey, sendKey, takeKey, ackKey, allKey, noteKey, haltKey, listKey, runKey, comma, Reading, read, unread, isDigit, allDigits, valueFrom, leadingZero, numeral, startsWith, afterKey}
 use Rattle.closing.specs.Tables.{pieces, withNumber, numerals, numeralIn, keyed}
-use Rattle.closing.specs.Lines.{Command, perform, list, asking, doorsIn, noteOf, noteOfPieces, noteIn, memberOf, withMembers, haltAfter, haltIn, orElse, commandOf}
+use Rattle.closing.specs.Lines.{Command, perform, list, dispatch, asking, doorsIn, noteOf, noteOfPieces, noteIn, memberOf, withMembers, haltAfter, haltIn, orElse, commandOf}
 use Rattle.closing.specs.Readings.{starts-length, rest-of}
 use Rattle.closing.specs.Cutting.{Found, pieces-next, piecesFrom, pieces-end, piece-from}
 use Rattle.closing.specs.declared.line.Asked.{Asked}
@@ -31,6 +31,7 @@ asked asked-is.Take n = perform (Take n)
 asked asked-is.Ack n = perform (Ack n)
 asked asked-is.All n = perform (All n)
 asked asked-is.List n = list n
+asked asked-is.Run n = dispatch n
 
 -- ---- keys
 
@@ -59,12 +60,14 @@ module _ (l : List ℕ) where
     starts-few noteKey l (omega arith),
     starts-few haltKey l (omega arith),
     starts-few listKey l (omega arith),
+    starts-few runKey l (omega arith),
   )
 
   pub other-line : (getD l 0 0 ≡ 111 → ⊥) → (getD l 0 0 ≡ 115 → ⊥) → (getD l 0 0 ≡ 116 → ⊥) → (getD l 0 0 ≡ 97 → ⊥)
-      → (getD l 0 0 ≡ 110 → ⊥) → (getD l 0 0 ≡ 104 → ⊥) → (getD l 0 0 ≡ 108 → ⊥) → commandOf l ≡ unread
+      → (getD l 0 0 ≡ 110 → ⊥) → (getD l 0 0 ≡ 104 → ⊥) → (getD l 0 0 ≡ 108 → ⊥) → (getD l 0 0 ≡ 114 → ⊥)
+      → commandOf l ≡ unread
   unfolding commandOf afterKey asking doorsIn noteIn haltIn orElse numeralIn
-  other-line o s t a n h i = rw (
+  other-line o s t a n h i r = rw (
     starts-not 111 (drop 1 orderKey) l o,
     starts-not 115 (drop 1 sendKey) l s,
     starts-not 116 (drop 1 takeKey) l t,
@@ -73,6 +76,7 @@ module _ (l : List ℕ) where
     starts-not 110 (drop 1 noteKey) l n,
     starts-not 104 (drop 1 haltKey) l h,
     starts-not 108 (drop 1 listKey) l i,
+    starts-not 114 (drop 1 runKey) l r,
   )
 
 first-byte : (b : ℕ) (f : List ℕ → Reading Command) → 0 < b → ((l : List ℕ) → commandOf (b ∷ l) ≡ f (b ∷ l))
@@ -114,7 +118,11 @@ halt-line = first-byte 104 _ (omega arith) (λ l. or-unread _)
 
 pub list-line : (l : List ℕ) → getD l 0 0 ≡ 108 → commandOf l ≡ asking (asked asked-is.List) (keyed listKey 2 l)
 unfolding commandOf startsWith afterKey asking doorsIn noteIn haltIn orElse numeralIn
-list-line = first-byte 108 _ (omega arith) (λ l. refl)
+list-line = first-byte 108 _ (omega arith) (λ l. or-unread _)
+
+pub run-line : (l : List ℕ) → getD l 0 0 ≡ 114 → commandOf l ≡ asking (asked asked-is.Run) (keyed runKey 4 l)
+unfolding commandOf startsWith afterKey asking doorsIn noteIn haltIn orElse numeralIn
+run-line = first-byte 114 _ (omega arith) (λ l. refl)
 
 -- ---- notes
 

@@ -8,7 +8,7 @@ use Rattle.column.specs.Sets.{insert}
 use Rattle.column.specs.Packets.{lowValue}
 use Rattle.bank.specs.declared.step.Step.{Step}
 use Rattle.bank.specs.declared.step.Step.the-variants.{Order, Send, Take, Ack, All, Note, Halt}
-use Rattle.closing.specs.Text.{orderKey, sendKey, takeKey, ackKey, allKey, noteKey, haltKey, listKey, Reading, read, unread, isDigit, numeral, afterKey}
+use Rattle.closing.specs.Text.{orderKey, sendKey, takeKey, ackKey, allKey, noteKey, haltKey, listKey, runKey, Reading, read, unread, isDigit, numeral, afterKey}
 use Rattle.closing.specs.Tables.{pieces, numerals, keyed}
 use Rattle.closing.specs.declared.line.Line as line
 use Rattle.closing.specs.declared.line.Line.the-variants as line-is
@@ -17,11 +17,13 @@ use Rattle.closing.specs.declared.line.Line.the-variants as line-is
 pub data Command : Type 0 where
   perform : Step → Command
   list : ℕ → Command
+  dispatch : ℕ → Command
 
 -- the values of each case of `Line`
 abbrev pub lineMeant : line.Line → Reading Command
 lineMeant (line-is.Perform x) = read (perform x)
 lineMeant (line-is.List i) = read (list i)
+lineMeant (line-is.Dispatch limit) = read (dispatch limit)
 lineMeant line-is.Unread = unread
 
 -- ---- "`order=` with 16 lowercase hexadecimal digits (byte 0 first)"
@@ -47,7 +49,8 @@ doorsIn (read l) =
     cond (eqb (length l) 16 && allHexadecimal l) (read (perform (Order (lowValue (hexadecimalBytes l))))) unread
 doorsIn unread = unread
 
--- ---- "with a column", "`note=` with two divided by a comma", "`take=` with a place of one to three digits"
+-- ---- "with a column", "`note=` with two divided by a comma", "`take=` with a place of one to three digits"; of `run=` "The limit numeral has
+-- up to four digits, no leading zero."
 
 unfoldable pub asking : (ℕ → Command) → Reading ℕ → Reading Command
 asking command (read n) = read (command n)
@@ -103,4 +106,5 @@ commandOf l =
     (orElse (asking (λ i. perform (All i)) (keyed allKey 2 l))
     (orElse (noteIn (afterKey noteKey l))
     (orElse (haltIn (afterKey haltKey l))
-    (asking list (keyed listKey 2 l))))))))
+    (orElse (asking list (keyed listKey 2 l))
+    (asking dispatch (keyed runKey 4 l)))))))))

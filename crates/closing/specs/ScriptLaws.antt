@@ -1,6 +1,6 @@
 -- What a call of the script's run leaves: laws from what was written to `Advanced`.
 -- Assumes nothing.
-use Prim.Native.Nat.{ℕ, _+_, _-_, _≤_, _<_}
+use Prim.Native.Nat.{ℕ, _+_, _-_, _^_, _≤_, _<_}
 use native.Mathlib.Omega.{arith}
 use mathlib.Core.Path.{_≡_, refl, sym, ap, ap₂, _∙_}
 use mathlib.Core.Bool.{Bool, true, false, not, cond}
@@ -14,6 +14,9 @@ use Rattle.column.specs.RefusalLaws.{earlier-none}
 use Rattle.bank.specs.Banks.{State, state, freshBank}
 use Rattle.bank.specs.Steps as steps
 use Rattle.bank.specs.Steps.{Outcome, after}
+use Rattle.bank.specs.Dispatch.{dispatched, dispatchOutcome}
+use Rattle.bank.specs.Dispatches.{Dispatches}
+use Rattle.bank.specs.declared.dispatch.Dispatched.{Dispatched}
 use Rattle.bank.specs.declared.bank.Bank.{Bank}
 use Rattle.bank.specs.declared.bank.Result.{Result}
 use Rattle.bank.specs.declared.bank.Answer.{Answer}
@@ -24,7 +27,7 @@ use Rattle.closing.specs.Writing.{Writes, written-taken, writes-within}
 use Rattle.closing.specs.Tables.{cut, Table, tableOf, treeIn, tableRefusal, Placed, placedAt, noTree, judged, readTable}
 use Rattle.closing.specs.Cutting.{Found, line-ended, line-unended, line-length}
 use Rattle.closing.specs.Lines.{commandOf}
-use Rattle.closing.specs.Scripts.{limit, Printed, printed, answered, refusedText, stepText, listedText}
+use Rattle.closing.specs.Scripts.{limit, Printed, printed, answered, refusedText, stepText, stepsText, dispatchText, dispatchPrinted, listedText}
 use Rattle.closing.specs.declared.script.Run.{Run}
 use Rattle.closing.specs.Advances.{Progress, progress, progressOf, Advanced, tableAdvance, firstAdvance, lineAdvance, laterAdvance, advance}
 
@@ -43,6 +46,14 @@ stepReplied next o = replied next (printed (stepText o) (after o))
 abbrev pub WritesStep : ℕ → List ℕ → List ℕ → Answer → Type 0
 WritesStep r new old answer = (s : State) → Writes r new old 0 (stepText (steps.answered answer s))
 
+-- after a dispatch
+abbrev pub dispatchReplied : ℕ → ℕ → State → Progress
+dispatchReplied next limit s = replied next (dispatchPrinted (length (dispatched limit s)) (dispatchOutcome limit s))
+
+-- the text of a dispatch, whatever the bank after it
+abbrev pub WritesDispatch : ℕ → List ℕ → List ℕ → ℕ → Answer → Type 0
+WritesDispatch r new old taken answer = (s : State) → Writes r new old 0 (dispatchText taken (steps.answered answer s))
+
 -- the text of a list, whatever doors the packets carry
 abbrev pub WritesListed : ℕ → List ℕ → List ℕ → Bank → List ℕ → ℕ → Type 0
 WritesListed r new old b heads i = (doors : List ℕ) → Writes r new old 0 (listedText (state b heads doors) i)
@@ -60,6 +71,9 @@ AdvancedFirst q out old input r =
 
 pub refused-length : (n : ℕ) → n < 256 → length (refusedText n) ≤ 12
 refused-length n h = simp length-append (omega (arith, decimal-length 20 2 n (omega arith)))
+
+pub steps-length : (n : ℕ) → n < 2 ^ 64 → length (stepsText n) ≤ 35
+steps-length n h = simp length-append (omega (arith, decimal-length 20 19 n (omega arith)))
 
 -- ---- what was written, as an advance
 
@@ -84,6 +98,13 @@ pub step-advanced : {next n : ℕ} {heads doors out old : List ℕ} (r : Result)
 step-advanced {next} {n} {heads} {doors} r o e w =
     let s = state (r .bank) heads doors in
     rw (← e, after-answered (r .answer) s) (text-advanced (stepText (steps.answered (r .answer) s)) (w s))
+
+pub dispatch-advanced : {next n : ℕ} {heads doors out old : List ℕ} (r : Dispatched) (limit : ℕ) (s : State)
+    → Dispatches r heads doors limit s (dispatchOutcome limit s) → WritesDispatch n out old (r .steps) (r .answer)
+    → Advanced (runTo (r .bank) next false n) heads doors out old (dispatchReplied next limit s)
+dispatch-advanced {heads} {doors} r limit s d w =
+    let m = state (r .bank) heads doors in
+    rw (← d .outcome-is, ← d .count-is, after-answered (r .answer) m) (text-advanced (dispatchText (r .steps) (steps.answered (r .answer) m)) (w m))
 
 -- ---- which advance it is
 

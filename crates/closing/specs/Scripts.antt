@@ -7,7 +7,8 @@ use lib.ListN.{length, drop, replicate}
 use Rattle.bank.specs.Banks.{State, state, columnAt, capacity, freshBank}
 use Rattle.bank.specs.Steps.{Outcome, accepted, refused, after, perform}
 use Rattle.bank.specs.Rest.{atRest}
-use Rattle.closing.specs.Text.{refusedKey, tableOk, stepOk, restYes, restNo, field, Reading, read, unread}
+use Rattle.bank.specs.Dispatch.{dispatched, dispatchOutcome}
+use Rattle.closing.specs.Text.{stepsKey, refusedKey, tableOk, stepOk, restYes, restNo, field, Reading, read, unread}
 use Rattle.closing.specs.Closing.{listText, listRefusal}
 use Rattle.closing.specs.Tables.{Cut, ended, unended, cut, Placed, readTable}
 use Rattle.closing.specs.Lines as lines
@@ -39,10 +40,22 @@ stepText (refused n s) = refusedText n
 abbrev pub listedText : State → ℕ → List ℕ
 listedText s i = cond (eqb (listRefusal s i) 0) (listText i (columnAt (s .bank) i)) (refusedText (listRefusal s i))
 
+-- "The script prints `steps=` with the steps taken and then `step=ok`."
+abbrev pub stepsText : ℕ → List ℕ
+stepsText steps = field stepsKey steps ++ stepOk
+
+unfoldable pub dispatchText : ℕ → Outcome State → List ℕ
+dispatchText steps (accepted s) = stepsText steps
+dispatchText steps (refused n s) = refusedText n
+
+abbrev pub dispatchPrinted : ℕ → Outcome State → Printed
+dispatchPrinted steps o = printed (dispatchText steps o) (after o)
+
 -- "13: script line of no form above"
 unfoldable pub answered : State → Reading Command → Printed
 answered s (read (lines.perform x)) = printed (stepText (perform s x)) (after (perform s x))
 answered s (read (lines.list i)) = printed (listedText s i) s
+answered s (read (lines.dispatch limit)) = dispatchPrinted (length (dispatched limit s)) (dispatchOutcome limit s)
 answered s unread = printed (refusedText 13) s
 
 -- ---- the lines of a script

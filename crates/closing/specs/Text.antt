@@ -60,6 +60,12 @@ haltKey = bytes "halt="
 abbrev pub listKey : List ℕ
 listKey = bytes "list="
 
+abbrev pub runKey : List ℕ
+runKey = bytes "run="
+
+abbrev pub stepsKey : List ℕ
+stepsKey = bytes "steps="
+
 abbrev pub refusedKey : List ℕ
 refusedKey = bytes "refused="
 

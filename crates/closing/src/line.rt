@@ -21,16 +21,18 @@ const SIXTEEN: u32 = 65536;
 pub enum Line {
     Perform(Step),
     List(usize),
+    Dispatch(usize),
     Unread,
 }
 
-// What is asked with one number, a column or a place.
+// What is asked with one number, a column, a place or a limit.
 enum Asked {
     Send,
     Take,
     Ack,
     All,
     List,
+    Run,
 }
 
 fn command(kind: Asked, n: usize) -> Line
@@ -42,11 +44,12 @@ fn command(kind: Asked, n: usize) -> Line
         Asked::Ack => Line::Perform(Step::Ack(n)),
         Asked::All => Line::Perform(Step::All(n)),
         Asked::List => Line::List(n),
+        Asked::Run => Line::Dispatch(n),
     }
 }
 
 fn numbered(line: &[u8], key: &[u8], width: usize, kind: Asked) -> Line
-    requires { ⌜ width ≤ 3 ⌝ }
+    requires { ⌜ width ≤ 4 ⌝ }
     ensures { λ r. ⌜ lineMeant r ≡ asking (asked kind) (keyed (now (key .entry)) width (now (line .entry))) ⌝ }
 {
     match keyed(line, key, width) {
@@ -142,6 +145,7 @@ pub fn parse(line: &[u8]) -> Line
         b'n' => note(line),
         b'h' => halt(line),
         b'l' => numbered(line, b"list=", 2, Asked::List),
+        b'r' => numbered(line, b"run=", 4, Asked::Run),
         _ => Line::Unread,
     }
 }

@@ -12,7 +12,7 @@ pub enum Number {
 
 // The value of digits alone, however many zeros lead.
 fn value_of(text: &[u8]) -> Number
-    requires { do ⌜ (← ⟦text.len()⟧) ≤ 3 ⌝ }
+    requires { do ⌜ (← ⟦text.len()⟧) ≤ 4 ⌝ }
     ensures { λ r. ⌜ numberMeant r ≡ digits 0 (now (text .entry)) ⌝ }
 {
     let mut value: usize = 0;
@@ -27,9 +27,9 @@ fn value_of(text: &[u8]) -> Number
     Number::Is(value)
 }
 
-// Three digits at most, so that the value is held.
+// Four digits at most, so that the value is held.
 pub fn numeral(text: &[u8], width: usize) -> Number
-    requires { ⌜ width ≤ 3 ⌝ }
+    requires { ⌜ width ≤ 4 ⌝ }
     ensures { λ r. ⌜ numberMeant r ≡ numeral width (now (text .entry)) ⌝ }
 {
     if text.len() == 0 {
@@ -64,7 +64,7 @@ pub fn starts_with(text: &[u8], key: &[u8]) -> bool
 }
 
 pub fn keyed(line: &[u8], key: &[u8], width: usize) -> Number
-    requires { ⌜ width ≤ 3 ⌝ }
+    requires { ⌜ width ≤ 4 ⌝ }
     ensures { λ r. ⌜ numberMeant r ≡ keyed (now (key .entry)) width (now (line .entry)) ⌝ }
 {
     if !starts_with(line, key) {

@@ -11,6 +11,7 @@ use bank::bank::Answer;
 use bank::bank::Bank;
 use bank::bank::NO_COLUMN;
 use bank::bank::fresh;
+use bank::dispatch::dispatch;
 use bank::rest::at_rest;
 use bank::step::Step;
 use bank::step::perform;
@@ -22,10 +23,10 @@ ghost use lib.ListN.{length};
 ghost use Rattle.bank.specs.Banks.{state};
 ghost use Rattle.bank.specs.Steps.{perform};
 ghost use Rattle.closing.specs.Lines.{commandOf};
-ghost use Rattle.closing.specs.Scripts.{refusedText, restText, answered};
+ghost use Rattle.closing.specs.Scripts.{refusedText, stepsText, restText, answered};
 ghost use Rattle.closing.specs.Advances.{progressOf, startRun, Advanced, laterAdvance, advance};
 ghost use Rattle.closing.specs.Writing.{Writes};
-ghost use Rattle.closing.specs.ScriptLaws.{WritesStep, WritesListed, AdvancedFirst, runTo, replied, stepReplied, nextLine};
+ghost use Rattle.closing.specs.ScriptLaws.{WritesStep, WritesDispatch, WritesListed, AdvancedFirst, runTo, replied, stepReplied, dispatchReplied, nextLine};
 
 // The longest input that is read.
 pub const LIMIT: usize = 65536;
@@ -82,6 +83,24 @@ fn put_step(answer: Answer, out: &mut [u8]) -> usize
     }
 }
 
+fn put_steps(steps: usize, out: &mut [u8]) -> usize
+    requires { ⌜ 224 ≤ length (now out) ⌝ }
+    ensures { λ r. ⌜ Writes r (now (out .exit)) (now (out .entry)) 0 (stepsText steps) ⌝ }
+{
+    let end = put_field(out, 0, b"steps=", steps as u64);
+    put_all(out, end, b"step=ok\n")
+}
+
+fn put_dispatched(answer: Answer, steps: usize, out: &mut [u8]) -> usize
+    requires { ⌜ 224 ≤ length (now out) ⌝ }
+    ensures { λ r. ⌜ WritesDispatch r (now (out .exit)) (now (out .entry)) steps answer ⌝ }
+{
+    match answer {
+        Answer::Done => put_steps(steps, out),
+        Answer::Refused(n) => put_refused(out, n),
+    }
+}
+
 fn put_listed(b: Bank, i: usize, heads: &[u64; 512], out: &mut [u8]) -> usize
     requires { ⌜ 224 ≤ length (now out) ⌝ }
     ensures { λ r. ⌜ WritesListed r (now (out .exit)) (now (out .entry)) b (now (heads .entry)) i ⌝ }
@@ -111,6 +130,23 @@ fn perform_line(
     run_to(done.bank, next, false, length)
 }
 
+fn dispatch_line(
+    b: Bank,
+    limit: usize,
+    next: usize,
+    heads: &mut [u64; 512],
+    doors: &mut [u64; 512],
+    out: &mut [u8],
+) -> Run
+    requires { ⌜ 224 ≤ length (now out) ⌝ }
+    ensures { λ r. ⌜ Advanced r (now (heads .exit)) (now (doors .exit)) (now (out .exit)) (now (out .entry)) (dispatchReplied next limit (state b (now (heads .entry)) (now (doors .entry)))) ⌝ }
+{
+    let done = dispatch(b, limit, heads, doors);
+    let answer = done.answer;
+    let length = put_dispatched(answer, done.steps, out);
+    run_to(done.bank, next, false, length)
+}
+
 fn answer_line(
     b: Bank,
     line: &[u8],
@@ -128,6 +164,7 @@ fn answer_line(
             let length = put_listed(b, i, heads, out);
             run_to(b, next, false, length)
         }
+        Line::Dispatch(limit) => dispatch_line(b, limit, next, heads, doors, out),
         Line::Unread => {
             let length = put_refused(out, 13);
             run_to(b, next, false, length)

@@ -1,10 +1,10 @@
 // What each step does where nothing refuses it.
+use crate::members::has;
+use crate::members::lowest;
 use crate::packet::Number;
 use crate::packet::Packet;
 use crate::packet::sender;
-use crate::sets::has;
 use crate::sets::insert;
-use crate::sets::lowest;
 use crate::sets::single;
 use crate::sets::without;
 use crate::state::Column;

@@ -1,5 +1,6 @@
 // Which step is refused, and by which number: 0 where it is not. Each function lists its conditions in document 01's order; every one
 // may be tested in any state, so none has to wait for those before it.
+use crate::members::has;
 use crate::packet::HIGHEST;
 use crate::packet::Packet;
 use crate::packet::is_message;
@@ -7,7 +8,6 @@ use crate::packet::receiver;
 use crate::packet::sender;
 use crate::precedence::earlier;
 use crate::precedence::refuse_if;
-use crate::sets::has;
 use crate::state::Column;
 use crate::state::standing;
 use crate::tree::Tree;

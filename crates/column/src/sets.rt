@@ -1,16 +1,7 @@
-// Sets of columns as masks: column i is a member where bit i is 1.
+// Sets of columns as masks, changed: each asks for a column below 16.
 ghost use mathlib.Core.Path.{_≡_};
 ghost use Prim.Native.Nat.{_<_};
-ghost use Rattle.column.specs.Sets.{has, single, insert, without, lowest, within};
-
-pub fn has(m: u16, i: usize) -> bool
-    ensures { λ r. ⌜ r ≡ has m i ⌝ }
-{
-    if 16 <= i {
-        return false;
-    }
-    (m >> i) % 2 == 1
-}
+ghost use Rattle.column.specs.Sets.{single, insert, without};
 
 pub fn single(i: usize) -> u16
     requires { ⌜ i < 16 ⌝ }
@@ -32,19 +23,4 @@ pub fn without(m: u16, i: usize) -> u16
     ensures { λ r. ⌜ r ≡ without m i ⌝ }
 {
     insert(m, i) ^ single(i)
-}
-
-pub fn lowest(m: u16) -> usize
-    ensures { λ r. ⌜ r ≡ lowest m ⌝ }
-{
-    u16::trailing_zeros(m) as usize
-}
-
-pub fn within(m: u16, n: usize) -> bool
-    ensures { λ r. ⌜ r ≡ within m n ⌝ }
-{
-    if 16 <= n {
-        return true;
-    }
-    m >> n == 0
 }

@@ -1,9 +1,9 @@
 // What a column holds, and the test of a handed-in state.
+use crate::members::has;
+use crate::members::within;
 use crate::packet::Number;
 use crate::precedence::earlier;
 use crate::precedence::refuse_if;
-use crate::sets::has;
-use crate::sets::within;
 use crate::tree::Tree;
 use crate::tree::column_refusal;
 use crate::tree::tree_refusal;

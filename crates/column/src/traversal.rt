@@ -1,6 +1,6 @@
 // Parents, children and subtrees in a handed-in tree. What is asked of the tree here has been checked by the caller.
+use crate::members::lowest;
 use crate::sets::insert;
-use crate::sets::lowest;
 use crate::sets::single;
 use crate::sets::without;
 use crate::tree::Tree;

@@ -1,6 +1,6 @@
 // The tree of a bank.
+use crate::members::within;
 use crate::precedence::refuse_if;
-use crate::sets::within;
 use crate::traversal::children_of;
 use crate::traversal::climbs_end;
 use crate::traversal::parents_below;

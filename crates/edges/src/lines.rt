@@ -1,6 +1,7 @@
-// Lines on a fresh bank of three columns: "`take=512` is 10, `take=1000` is 13".
+// Lines on a fresh bank of three columns: "`take=512` is 10, `take=1000` is 13"; "The limit numeral has up to four digits, no leading zero".
 use crate::print::print;
 use crate::print::print_answer;
+use crate::print::print_number;
 use bank::bank::Answer;
 use bank::bank::fresh;
 use bank::step::Step;
@@ -30,6 +31,7 @@ fn line(text: &[u8]) {
     match parse(text) {
         Line::Perform(x) => print_answer(performed(x)),
         Line::List(_) => print(b"a list"),
+        Line::Dispatch(limit) => print_number(b"a run of at most ", limit as u64),
         Line::Unread => print_answer(Answer::Refused(13)),
     }
     print(b"\n");
@@ -52,6 +54,11 @@ pub fn cases() {
     line(b"take=5a");
     line(b"send=99");
     line(b"send=100");
+    line(b"run=0");
+    line(b"run=9999");
+    line(b"run=10000");
+    line(b"run=01");
+    line(b"run=");
     line(b"jump=1");
     line(b"");
 }

@@ -2,6 +2,7 @@
 // arrays are as they were, and what the step did.
 mod case;
 mod comparing;
+mod dispatching;
 mod fine;
 mod full;
 mod halting;
@@ -22,4 +23,5 @@ fn main() {
     full::cases();
     halting::cases();
     resting::cases();
+    dispatching::cases();
 }

@@ -1,36 +1,17 @@
 use borrow.Author.Needs.{needs}
-use Prim.Native.Nat.{ℕ, _≤_, _/_, _^_}
-use mathlib.Core.Path.{_≡_, sym, ap, _∙_}
-use mathlib.Core.Bool.{true, false, not}
-use mathlib.Core.List.{List, []}
+use Prim.Native.Nat.{_≤_, _/_, _^_}
+use mathlib.Core.Path.{_≡_, sym, _∙_}
+use mathlib.Core.Bool.{not}
 use native.Mathlib.Omega.{arith}
-use lib.Dec.{eqb}
 use borrow.Author.Tests.{eq-eqb, ne-eqb, not-true, not-false}
-use Rattle.column.specs.TreeLaws.{tree-sixteen}
-use Rattle.bank.specs.Banks.{state, bankRefusal}
-use Rattle.bank.specs.StandingLaws.{stands}
-use Rattle.bank.specs.Steps.{membersRun, haltRefusal}
 use Rattle.bank.proofs.strip.halt_refusal.Statement.{statement}
 use Rattle.bank.proofs.strip.halt_refusal.Tie as tie
 
-bank-refusal-requires : tie.Need-bank-refusal-requires
-bank-refusal-requires c κs = search needs
-
 returns : tie.Need-returns
-unfolding haltRefusal
-returns c doors =
-    let k = c .before in
-    let a = k .before .args in
-    let e = k .bank-refusal .ensures doors in
-    rw (ne-eqb (bankRefusal (state (a .b) (a .heads .now) doors)) 0 (λ z. c .if1 .taken (e ∙ z))) e
+returns c = rw (ne-eqb (c .before .args .n) 0 (c .if1 .taken))
 
-standing : (c : tie.Else1) (doors : List ℕ) → bankRefusal (state (c .before .before .args .b) (c .before .before .args .heads .now) doors) ≡ 0
-standing c doors = sym (c .before .bank-refusal .ensures doors) ∙ c .if1 .left
-
-sixteen : (c : tie.Else1) → c .before .before .args .b .tree .columns ≤ 16
-sixteen c =
-    let a = c .before .before .args in
-    tree-sixteen (a .b .tree) (stands (state (a .b) (a .heads .now) []) (standing c []) .tree)
+sixteen : (c : tie.Else1) → c .before .args .b .tree .columns ≤ 16
+sixteen c = c .before .pre (c .if1 .left)
 
 cast-high : tie.Need-cast-high
 cast-high c = record { fits = omega (arith, sixteen (c .before)) }
@@ -39,50 +20,31 @@ shr-high : tie.Need-shr-high
 shr-high c = omega (arith, sixteen (c .before))
 
 returns-2 : tie.Need-returns-2
-unfolding haltRefusal
-returns-2 c doors =
+returns-2 c =
     let e = c .before .before in
-    let a = e .before .before .args in
-    rw (eq-eqb (bankRefusal (state (a .b) (a .heads .now) doors)) 0 (standing e doors), ne-eqb (a .m / 2 ^ a .b .tree .columns) 0 (c .if2 .taken))
+    let a = e .before .args in
+    rw (eq-eqb (a .n) 0 (e .if1 .left), ne-eqb (a .m / 2 ^ a .b .tree .columns) 0 (c .if2 .taken))
 
 members-run-requires : tie.Need-members-run-requires
 members-run-requires c κs = sixteen (c .before .before)
 
 returns-3 : tie.Need-returns-3
-unfolding haltRefusal
-returns-3 c doors =
+returns-3 c =
     let k = c .before in
     let f = k .before in
     let e = f .before .before in
-    let a = e .before .before .args in
-    rw (
-      eq-eqb (bankRefusal (state (a .b) (a .heads .now) doors)) 0 (standing e doors),
-      eq-eqb (a .m / 2 ^ a .b .tree .columns) 0 (f .if2 .left),
-      sym (k .members-run .ensures) ∙ not-true _ (c .if3 .taken),
-    )
+    let a = e .before .args in
+    rw (eq-eqb (a .n) 0 (e .if1 .left), eq-eqb (a .m / 2 ^ a .b .tree .columns) 0 (f .if2 .left), sym (k .members-run .ensures) ∙ not-true _ (c .if3 .taken))
 
 returns-4 : tie.Need-returns-4
-unfolding haltRefusal
-returns-4 c doors =
+returns-4 c =
     let k = c .before in
     let f = k .before in
     let e = f .before .before in
-    let a = e .before .before .args in
-    rw (
-      eq-eqb (bankRefusal (state (a .b) (a .heads .now) doors)) 0 (standing e doors),
-      eq-eqb (a .m / 2 ^ a .b .tree .columns) 0 (f .if2 .left),
-      sym (k .members-run .ensures) ∙ not-false _ (c .if3 .left),
-    )
+    let a = e .before .args in
+    rw (eq-eqb (a .n) 0 (e .if1 .left), eq-eqb (a .m / 2 ^ a .b .tree .columns) 0 (f .if2 .left), sym (k .members-run .ensures) ∙ not-false _ (c .if3 .left))
 
 pub halt-refusal-spec : {M : Type 1} → statement M
 halt-refusal-spec =
     tie.close
-    (tie.spec
-    bank-refusal-requires
-    returns
-    cast-high
-    shr-high
-    returns-2
-    members-run-requires
-    returns-3
-    returns-4)
+    (tie.spec returns cast-high shr-high returns-2 members-run-requires returns-3 returns-4)

@@ -29,6 +29,12 @@ put-listed-requires c κs = search needs
 run-to-requires : tie.Need-run-to-requires
 run-to-requires c κs = search needs
 
+enum-known-limit : tie.Need-enum-known-limit
+enum-known-limit c = search needs
+
+dispatch-line-requires : tie.Need-dispatch-line-requires
+dispatch-line-requires c κs = search needs
+
 enum-told : tie.Need-enum-told
 enum-told c = search needs
 
@@ -65,6 +71,16 @@ same-length-3 c = search needs
 returns-3 : tie.Need-returns-3
 unfolding answered
 returns-3 c =
+    let l = c .before .before in
+    let x = l .before .before .before .before .before in
+    rw (meaning (x .before .before) _ (x .limit .given .1)) (l .dispatch-line .ensures)
+
+same-length-4 : tie.Need-same-length-4
+same-length-4 c = search needs
+
+returns-4 : tie.Need-returns-4
+unfolding answered
+returns-4 c =
     let k = c .before .before .before in
     let e = k .before .before in
     rw (c .run-to2 .ensures, meaning (e .before .before) _ (e .enum-told .given .1)) (text-advanced _ (k .put-refused .ensures))
@@ -79,6 +95,8 @@ answer-line-spec =
     enum-known-i
     put-listed-requires
     run-to-requires
+    enum-known-limit
+    dispatch-line-requires
     enum-told
     put-refused-requires
     run-to-requires-2
@@ -87,4 +105,6 @@ answer-line-spec =
     same-length-2
     returns-2
     same-length-3
-    returns-3)
+    returns-3
+    same-length-4
+    returns-4)

@@ -15,7 +15,7 @@ use Rattle.column.proofs.traversal.subtrees_in.Reads as subtrees-in
 use Rattle.column.proofs.traversal.subtrees_in.Kinds as subtrees-in-kinds
 use Rattle.column.proofs.traversal.+subtree_in+subtrees_in.Lts-subtrees_in as subtrees-in-lts
 use Rattle.column.proofs.traversal.children_of.Reads as children-of-reads
-use Rattle.column.proofs.sets.lowest.Reads as lowest-reads
+use Rattle.column.proofs.members.lowest.Reads as lowest-reads
 use Rattle.column.proofs.sets.single.Reads as single-reads
 use Rattle.column.proofs.sets.without.Reads as without-reads
 use Rattle.column.proofs.traversal.+subtree_in+subtrees_in.{statement}

@@ -4,8 +4,8 @@ use mathlib.Core.Path.{sym}
 use native.Mathlib.Nat.{lt-of-lt-of-le}
 use lib.Pow.{pow-mono}
 use Rattle.column.specs.SetLaws.{lt-within}
-use Rattle.column.proofs.sets.within.Statement.{statement}
-use Rattle.column.proofs.sets.within.Tie as tie
+use Rattle.column.proofs.members.within.Statement.{statement}
+use Rattle.column.proofs.members.within.Tie as tie
 
 returns : tie.Need-returns
 returns c =

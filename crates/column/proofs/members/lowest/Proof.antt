@@ -1,8 +1,8 @@
 use borrow.Author.Needs.{needs}
 use native.Mathlib.Omega.{arith}
 use lib.Count.{trailing-le}
-use Rattle.column.proofs.sets.lowest.Statement.{statement}
-use Rattle.column.proofs.sets.lowest.Tie as tie
+use Rattle.column.proofs.members.lowest.Statement.{statement}
+use Rattle.column.proofs.members.lowest.Tie as tie
 
 cast-result : tie.Need-cast-result
 cast-result c = omega (arith, trailing-le 16 (c .args .m))

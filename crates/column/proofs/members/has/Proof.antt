@@ -1,8 +1,8 @@
 use borrow.Author.Needs.{needs}
 use mathlib.Core.Path.{sym}
 use Rattle.column.specs.SetLaws.{has-above}
-use Rattle.column.proofs.sets.has.Statement.{statement}
-use Rattle.column.proofs.sets.has.Tie as tie
+use Rattle.column.proofs.members.has.Statement.{statement}
+use Rattle.column.proofs.members.has.Tie as tie
 
 returns : tie.Need-returns
 returns c = sym (has-above 16 (c .before .args .m) (c .before .args .i) (search needs) (search needs))

@@ -1,0 +1,93 @@
+/* The dispatcher of a bank in plain C, in place: what crates/bank is measured beside. */
+#include "bank.h"
+
+enum kind { NOTE, SEND, ACK, ALL, TAKE };
+
+struct step {
+    enum kind kind;
+    size_t i, j;
+};
+
+/* Whether a packet to j would find room, or would not be put. */
+static bool fits(const struct bank *b, uint16_t halted, size_t j) { return b->count < CAPACITY || has(halted, j); }
+
+static bool can_send(const struct bank *b, uint16_t halted, size_t i, const struct column *c) {
+    if (!c->send)
+        return false;
+    size_t k = (size_t)__builtin_ctz(c->send);
+    return k == i || has(c->noted, k) || fits(b, halted, k);
+}
+
+static bool can_ack(const struct bank *b, uint16_t halted, const struct column *c) {
+    return may_ack(c) && fits(b, halted, (size_t)__builtin_ctz(c->owed));
+}
+
+/* The first step that would be accepted, or the take of the oldest packet. */
+static struct step next_step(const struct bank *b) {
+    uint16_t halted = halted_columns(b);
+    for (size_t i = 0; i < b->tree.columns; i++) {
+        const struct column *c = &b->columns[i];
+        uint16_t new = halted & ~c->noted;
+        if (!c->running)
+            continue;
+        if (new)
+            return (struct step){NOTE, i, (size_t)__builtin_ctz(new)};
+        if (can_send(b, halted, i, c))
+            return (struct step){SEND, i, 0};
+        if (can_ack(b, halted, c))
+            return (struct step){ACK, i, 0};
+        if (may_all(&b->tree, i, c))
+            return (struct step){ALL, i, 0};
+    }
+    return (struct step){TAKE, b->packets[0].to % 16, 0};
+}
+
+static uint8_t perform(struct bank *b, struct step x) {
+    switch (x.kind) {
+    case NOTE: return bank_note(b, x.i, x.j);
+    case SEND: return bank_send(b, x.i);
+    case ACK: return bank_ack(b, x.i);
+    case ALL: return bank_all(b, x.i);
+    default: return bank_take(b, 0);
+    }
+}
+
+/* The same of a bank that stands: the core tests its tree and its column, and nobody the rest. */
+static uint8_t perform_standing(struct bank *b, struct step x) {
+    struct column *c = &b->columns[x.i], before = *c;
+    struct answer a;
+    switch (x.kind) {
+    case NOTE: a = note(&b->tree, x.i, c, x.j); break;
+    case SEND: a = send(&b->tree, x.i, c); break;
+    case ACK: a = ack(&b->tree, x.i, c); break;
+    case ALL: a = all(&b->tree, x.i, c); break;
+    default:
+        if (!b->count)
+            return 10;
+        a = take(&b->tree, x.i, c, b->packets[0]);
+        return a.refusal ? a.refusal : settle_taken(b, 0, &before, a);
+    }
+    return a.refusal ? a.refusal : settle(b, c, &before, a.put);
+}
+
+static bool still_stands(const struct bank *b, size_t i) {
+    if (!stands(&b->tree, i, &b->columns[i]))
+        return false;
+    return !b->count || packet_stands(b->tree.columns, b->tree.root, (uint16_t)~halted_columns(b), &b->packets[b->count - 1]);
+}
+
+uint8_t bank_dispatch(struct bank *b, size_t limit, bool thorough, size_t *steps) {
+    *steps = 0;
+    uint8_t refusal = bank_refusal(b);
+    if (refusal)
+        return refusal;
+    while (*steps < limit) {
+        struct step x = next_step(b);
+        if (thorough ? perform(b, x) : perform_standing(b, x))
+            break;
+        ++*steps;
+        if (!thorough && !still_stands(b, x.i))
+            break;
+    }
+    return 0;
+}

@@ -1,0 +1,80 @@
+-- Of the moves after a reached state, halts among them but no order, at most 9 N N - 5 N are no halts: each of those lowers the potential.
+-- Assumes nothing.
+use Prim.Native.Nat.{ℕ, zero, suc, _≤_, _<_}
+use native.Mathlib.Omega.{arith}
+use mathlib.Core.Path.{_≡_, sym, subst}
+use mathlib.Core.Bool.{Bool, true, false, true≢false}
+use Rattle.column.specs.Sets.{without}
+use Rattle.column.specs.Trees.{IsTree}
+use Rattle.column.specs.declared.tree.Tree.{Tree}
+use Rattle.agreement.specs.Dispatching.{stepsWithin}
+use Rattle.agreement.proofs.Model.{In, State, Runs, Becomes}
+use Rattle.agreement.proofs.Move.{serving, Event, orders, sends, takes, acknowledges, widens, notes, halts, Move, order, send-self, send-noted, send-message, take-acknowledgement, take-stale, take-equal, take-lower, take-left, take-higher, acknowledge, widen, note-awaited, note-other, halt}
+use Rattle.agreement.proofs.Invariant.{Invariant}
+use Rattle.agreement.proofs.Kept.{kept}
+use Rattle.agreement.proofs.Standing.{Standing, standing-kept}
+use Rattle.agreement.proofs.Bounded.{Bounded}
+use Rattle.agreement.proofs.BoundedKept.{bounded}
+use Rattle.agreement.proofs.Potential.{potential}
+use Rattle.agreement.proofs.Falling.{fall-answer, fall-acknowledgement, fall-stale, fall-equal, fall-lower, fall-self, fall-noted, fall-message, fall-note-awaited, fall-note-other, fall-higher, fall-widen, rise-halt}
+use Rattle.agreement.proofs.Ceiling.{ceiling}
+
+-- a move that brings the bank nearer to rest
+abbrev pub settling : Event → Bool
+settling (orders d) = false
+settling (sends a x) = true
+settling (takes p) = true
+settling (acknowledges a) = true
+settling (widens a) = true
+settling (notes a j) = true
+settling (halts a) = false
+
+-- what holds of every reached state
+pub record Good (t : Tree) (s : State) : Type 0 where
+  pub invariant : Invariant t s
+  pub standing : Standing t s
+  pub bounded : Bounded t s
+
+module _ (t : Tree) (tree : IsTree t) {s s' : State} (g : Good t s) where
+  pub fall : {e : Event} → Move t s s' e → settling e ≡ true → potential t s' < potential t s
+  fall (order d r idle b) e = absurd (true≢false (sym e))
+  fall (send-self a x r z m b) e = fall-self t tree a (g .invariant) r (g .bounded .spreads a r) (subst (In (s .columns a .send)) z m)
+      (subst (λ (y : ℕ). Becomes s s' a (serving (s .columns a) (without (s .columns a .send) y) (s .columns a .awaited)) (s .network) (s .orders)) z b)
+  fall (send-noted a x r m k b) e = fall-noted t tree a (g .invariant) r x (g .bounded .spreads a r)
+      (λ z. g .invariant .coverages a r .noted-halted x k (subst (Runs s) (sym z) r)) m b
+  fall (send-message a x r ne m k b) e = fall-message t tree a (g .invariant) r x (g .bounded .spreads a r) ne m b
+  fall (take-acknowledgement a q k r z taken b) e = fall-acknowledgement t tree a (g .invariant) r q k taken b
+  fall (take-stale a q k r z taken b) e = fall-stale t tree a (g .invariant) r q k taken b
+  fall (take-equal a q k d r z taken b) e = fall-equal t tree a (g .invariant) r q k d taken b
+  fall (take-lower a q k d r z taken b) e = fall-lower t tree a (g .invariant) r q k d taken b
+  fall (take-left a q k d x r z taken m b) e = fall-answer t tree a (g .invariant) r x (g .standing) m b
+  fall (take-higher a q k d r z taken none b) e = fall-higher t tree a (g .invariant) r q k d z taken b
+  fall (acknowledge a x r m z b) e = fall-answer t tree a (g .invariant) r x (g .standing) m b
+  fall (widen a r ne m w idle b) e = fall-widen t tree a (g .invariant) r ne w b
+  fall (note-awaited a j r l h m b) e = fall-note-awaited t tree a (g .invariant) r j l h m b
+  fall (note-other a j r l h m new b) e = fall-note-other t tree a (g .invariant) r j l h new b
+  fall (halt a r b) e = absurd (true≢false (sym e))
+
+  pub halt-stays : {a : ℕ} → Move t s s' (halts a) → potential t s' ≤ potential t s
+  halt-stays (halt a r b) = rise-halt t tree a (g .invariant) r b
+
+-- ---- lists of moves
+
+-- moves from s to s', none of which is an order; n of them are no halts
+pub data Moves (t : Tree) (s' : State) : State → ℕ → Type 0 where
+  none : Moves t s' s' zero
+  settles : {s m : State} {e : Event} {n : ℕ} → Move t s m e → settling e ≡ true → Moves t s' m n → Moves t s' s (suc n)
+  stops : {s m : State} {a n : ℕ} → Move t s m (halts a) → Moves t s' m n → Moves t s' s n
+
+module _ (t : Tree) (tree : IsTree t) where
+  pub good : {s m : State} {e : Event} → Good t s → Move t s m e → Good t m
+  good g k = record { invariant = kept tree (g .invariant) k; standing = standing-kept tree (g .invariant) (g .standing) k; bounded = bounded tree (g .invariant) (g .bounded) k }
+
+  pub few : {s' s : State} {n : ℕ} → Good t s → Moves t s' s n → n ≤ potential t s
+  few g none = omega arith
+  few g (settles k e l) = omega (arith, fall t tree g k e, few (good g k) l)
+  few g (stops k l) = omega (arith, halt-stays t tree g k, few (good g k) l)
+
+  -- "a bank of N columns rests within 9 times N squared less 5 times N steps", whichever steps are taken
+  pub rests-within : {s' s : State} {n : ℕ} → Good t s → Moves t s' s n → n ≤ stepsWithin (t .columns)
+  rests-within g l = omega (arith, few g l, ceiling t tree (g .invariant) (g .standing) (g .bounded))

@@ -1,0 +1,92 @@
+-- Dispatches, computed: a bank of two columns is brought to rest by steps of every kind, and each premise of `Rests` holds of it.
+use Prim.Native.Nat.{ℕ, _≤_, _<_}
+use native.Mathlib.Omega.{arith}
+use mathlib.Core.Path.{_≡_, refl, sym, ap, subst}
+use mathlib.Core.Bool.{Bool, true, _&&_}
+use mathlib.Core.List.{List, [], _∷_, map}
+use lib.Count.{trailingZeros}
+use lib.ListN.{length, replicate, length-replicate}
+use Rattle.column.specs.Cases.{and-left, and-right}
+use Rattle.column.specs.Sets.{selected}
+use Rattle.column.specs.Trees.{treeOf, every, climbsIn, treeRefusal}
+use Rattle.column.specs.Columns.{stateRefusal}
+use Rattle.column.specs.Steps as core
+use Rattle.column.specs.declared.tree.Tree.{Tree}
+use Rattle.bank.specs.Words.{packetOf}
+use Rattle.bank.specs.Lists.{closedUp, keeping, padded}
+use Rattle.bank.specs.Banks.{capacity, places, freshPlace, bankRefusal}
+use Rattle.bank.specs.Networks.{put, puts, vanished}
+use Rattle.bank.specs.Steps.{perform, fitting, acted, delivered, stopping, halted, haltRefusal}
+use Rattle.bank.specs.Rest.{AtRest}
+use Rattle.bank.specs.Dispatch.{offered, firstAccepted, turn, dispatched, dispatch}
+use Rattle.bank.specs.declared.step.Step.{Step}
+use Rattle.bank.specs.declared.step.Step.the-variants.{Order, Send, Take, Ack, All, Note, Halt}
+use Rattle.agreement.specs.History.{World, columnsOf, told, run, step}
+use Rattle.agreement.specs.Agreement.{begin}
+use Rattle.agreement.specs.Premises.{follow-steps}
+use Rattle.agreement.specs.Dispatching.{stepsWithin, allSettling, allAccepted, Settles, Rests}
+
+abbrev twoColumns : Tree
+twoColumns = treeOf 2 0 (replicate 16 0)
+
+abbrev after : List Step → World
+after steps = run (begin twoColumns (replicate capacity 0) (replicate capacity 0)) steps
+
+-- the root has an order; or its message is under way, and it has halted
+pub data Case : Type 0 where
+  ordered : Case
+  rootHalted : Case
+
+abbrev pub begun : Case → List Step
+begun ordered = Order 513 ∷ []
+begun rootHalted = Order 513 ∷ Send 0 ∷ Halt 1 ∷ []
+
+abbrev pub toRest : Case → List Step
+toRest ordered = Send 0 ∷ Take 0 ∷ Ack 1 ∷ Take 0 ∷ []
+toRest rootHalted = Note 1 0 ∷ All 1 ∷ Send 1 ∷ Send 1 ∷ Take 0 ∷ Ack 1 ∷ All 1 ∷ Send 1 ∷ Send 1 ∷ []
+
+abbrev firstTwo : Case → List Step
+firstTwo ordered = Send 0 ∷ Take 0 ∷ []
+firstTwo rootHalted = Note 1 0 ∷ All 1 ∷ []
+
+abbrev pub world : Case → World
+world c = after (begun c)
+
+-- the steps of a dispatch with a limit of 12, that of one with a limit of 2, and what the premises of `Rests` ask of them
+abbrev Said : Type 0
+Said = List Step × List Step × Bool × ℕ × ℕ
+
+pub dispatches-pass : (c : Case) → _≡_ {A = Said}
+    (dispatched 12 (world c .state), dispatched 2 (world c .state), allSettling (toRest c) && allAccepted (world c) (toRest c), columnsOf (world c), treeRefusal twoColumns)
+    (toRest c, firstTwo c, true, 2, 0)
+unfolding run told perform every closedUp keeping padded places freshPlace bankRefusal packetOf put puts vanished fitting acted delivered stopping halted haltRefusal climbsIn treeRefusal stateRefusal selected trailingZeros offered firstAccepted turn dispatched allSettling allAccepted core.orderRefusal core.sendRefusal core.packetRefusal core.takeRefusal core.ackRefusal core.allRefusal core.noteRefusal core.orderEffect core.sendEffect core.acknowledgementEffect core.receiveEffect core.messageEffect core.ackEffect core.allEffect core.noteEffect
+dispatches-pass ordered = refl
+dispatches-pass rootHalted = refl
+
+-- ---- what `Rests` says of these banks: each of its premises holds
+
+module _ (rests : Rests) (c : Case) where
+  settles : Settles (world c)
+  settles =
+      let words : length {A = ℕ} (replicate capacity 0) ≡ capacity = length-replicate {A = ℕ} capacity 0 in
+      subst Settles (follow-steps (begin twoColumns (replicate capacity 0) (replicate capacity 0)) (begun c))
+      (rests twoColumns (ap (λ x. x .4) (dispatches-pass c)) (replicate capacity 0) (replicate capacity 0) words words (map step (begun c)))
+
+  both : (allSettling (toRest c) && allAccepted (world c) (toRest c)) ≡ true
+  both = ap (λ x. x .2) (dispatches-pass c)
+
+  within : stepsWithin (columnsOf (world c)) ≡ 26
+  within = ap stepsWithin (ap (λ x. x .3) (dispatches-pass c))
+
+  pub any-steps-said : length (toRest c) ≤ 26
+  any-steps-said = omega (arith, within, settles .any-steps (toRest c) (and-left _ _ both) (and-right (allSettling (toRest c)) _ both))
+
+  pub rests-said : AtRest (dispatch 26 (world c .state))
+  rests-said = settles .rests 26 (omega (arith, within))
+
+  pub until-said : AtRest (dispatch 12 (world c .state))
+  until-said = settles .until 12 (subst (λ (l : List Step). length l < 12) (sym (ap (λ x. x .0) (dispatches-pass c))) (few c))
+    where
+      few : (c : Case) → length (toRest c) < 12
+      few ordered = omega arith
+      few rootHalted = omega arith

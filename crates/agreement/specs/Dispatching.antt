@@ -1,0 +1,51 @@
+-- Document 02, Point 2: "From any state reached from fresh by accepted steps, a bank of N columns rests within 9 times N squared less 5
+-- times N steps (2,224 for 16)."
+use Prim.Native.Nat.{ℕ, _-_, _*_, _≤_, _<_}
+use mathlib.Core.Path.{_≡_}
+use mathlib.Core.Bool.{Bool, true, false, not, _&&_}
+use mathlib.Core.List.{List, [], _∷_}
+use lib.ListN.{length}
+use Rattle.bank.specs.Steps.{perform}
+use Rattle.bank.specs.Rest.{isRefused, AtRest}
+use Rattle.bank.specs.Dispatch.{dispatched, dispatch}
+use Rattle.bank.specs.declared.step.Step.{Step}
+use Rattle.bank.specs.declared.step.Step.the-variants.{Order, Send, Take, Ack, All, Note, Halt}
+use Rattle.agreement.specs.History.{World, columnsOf, told, run}
+use Rattle.agreement.specs.Agreement.{AfterEveryList}
+
+abbrev pub stepsWithin : ℕ → ℕ
+stepsWithin n = 9 * (n * n) - 5 * n
+
+-- a step that is neither an order nor a halt
+abbrev pub isSettling : Step → Bool
+isSettling (Order doors) = false
+isSettling (Send i) = true
+isSettling (Take place) = true
+isSettling (Ack i) = true
+isSettling (All i) = true
+isSettling (Note i j) = true
+isSettling (Halt m) = false
+
+unfoldable pub allSettling : List Step → Bool
+allSettling [] = true
+allSettling (x ∷ xs) = isSettling x && allSettling xs
+
+-- no step of a list is refused
+unfoldable pub allAccepted : World → List Step → Bool
+allAccepted w [] = true
+allAccepted w (x ∷ xs) = not (isRefused (perform (w .state) x)) && allAccepted (told w x (perform (w .state) x)) xs
+
+pub record Settles (w : World) : Type 0 where
+  -- whichever steps are taken, and in whichever sequence
+  pub any-steps : (xs : List Step) → allSettling xs ≡ true → allAccepted w xs ≡ true → length xs ≤ stepsWithin (columnsOf w)
+  -- the dispatcher's
+  pub few : (limit : ℕ) → length (dispatched limit (w .state)) ≤ stepsWithin (columnsOf w)
+  pub rests : (limit : ℕ) → stepsWithin (columnsOf w) ≤ limit → AtRest (dispatch limit (w .state))
+  -- "until rest, until the limit"
+  pub until : (limit : ℕ) → length (dispatched limit (w .state)) < limit → AtRest (dispatch limit (w .state))
+  -- they are a list of accepted steps, to which demand 3 applies
+  pub steps-accepted : (limit : ℕ) → allAccepted w (dispatched limit (w .state)) ≡ true
+  pub steps-lead : (limit : ℕ) → run w (dispatched limit (w .state)) .state ≡ dispatch limit (w .state)
+
+abbrev pub Rests : Type 0
+Rests = AfterEveryList Settles

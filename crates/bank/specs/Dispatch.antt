@@ -1,0 +1,47 @@
+-- The dispatcher, after document 02, Point 2: "At each turn it takes the first accepted one among, for running columns from 0 up, note
+-- (lowest j first), send, ack, all; if no column has any, the oldest packet is taken."
+use Prim.Native.Nat.{ℕ, zero, suc}
+use mathlib.Core.Bool.{cond}
+use mathlib.Core.List.{List, [], _∷_, _++_}
+use Rattle.bank.specs.Banks.{State, runs, places, bankRefusal}
+use Rattle.bank.specs.Steps.{Outcome, accepted, refused, unless, perform}
+use Rattle.bank.specs.Rest.{isRefused}
+use Rattle.bank.specs.declared.step.Step.{Step}
+use Rattle.bank.specs.declared.step.Step.the-variants.{Send, Take, Ack, All, Note}
+
+-- what column i of n can be given to do
+abbrev pub offers : ℕ → ℕ → List Step
+offers n i = places (λ j. Note i j) n ++ (Send i ∷ Ack i ∷ All i ∷ [])
+
+-- the same for the running columns below k
+unfoldable pub offered : State → ℕ → List Step
+offered s zero = []
+offered s (suc k) = offered s k ++ cond (runs (s .bank) k) (offers (s .bank .tree .columns) k) []
+
+-- the first step of a list that is accepted, and the other where none is
+unfoldable pub firstAccepted : State → List Step → Step → Step
+firstAccepted s [] other = other
+firstAccepted s (x ∷ xs) other = cond (isRefused (perform s x)) (firstAccepted s xs other) x
+
+-- the step of a turn
+unfoldable pub turn : State → Step
+turn s = firstAccepted s (offered s (s .bank .tree .columns)) (Take 0)
+
+-- what follows an accepted step, or a stop
+abbrev pub onward : {A : Type 0} → Outcome State → A → (State → A) → A
+onward (accepted s) stop next = next s
+onward (refused n s) stop next = stop
+
+-- "takes steps until rest, until the limit, or until the turn's step is refused": at rest it is refused, by `rest-stops` of DispatchLaws
+unfoldable pub dispatched : ℕ → State → List Step
+dispatched zero s = []
+dispatched (suc limit) s = onward (perform s (turn s)) [] (λ next. turn s ∷ dispatched limit next)
+
+-- the bank after them
+unfoldable pub dispatch : ℕ → State → State
+dispatch zero s = s
+dispatch (suc limit) s = onward (perform s (turn s)) s (λ next. dispatch limit next)
+
+-- a bank that 2, 3 or 4 refuses is refused as by every step; nothing else refuses a dispatch
+abbrev pub dispatchOutcome : ℕ → State → Outcome State
+dispatchOutcome limit s = unless (bankRefusal s) s (accepted (dispatch limit s))

@@ -1,0 +1,67 @@
+-- The step of a turn, found by sets alone: in a bank that stands it is the dispatcher's, by `quick-turn` of QuickLaws.
+use Prim.Native.Nat.{ℕ, zero, suc}
+use mathlib.Core.Bool.{Bool, not, _&&_, _||_, cond}
+use lib.Bits.{bitXor}
+use lib.Dec.{eqb, ltb}
+use Rattle.column.specs.Sets.{has, join, lowest, choose, selected}
+use Rattle.column.specs.Columns.{idle}
+use Rattle.column.specs.declared.state.Column.{Column}
+use Rattle.bank.specs.Words.{receiverIn}
+use Rattle.bank.specs.Banks.{columnAt, runs, capacity}
+use Rattle.bank.specs.declared.bank.Bank.{Bank}
+use Rattle.bank.specs.declared.step.Step.{Step}
+use Rattle.bank.specs.declared.step.Step.the-variants.{Order, Send, Take, Ack, All, Note, Halt}
+
+-- the members of a that are none of b
+abbrev pub minus : ℕ → ℕ → ℕ
+minus a b = bitXor (join a b) b
+
+-- a packet to column j would be put where there is room, or not be put
+abbrev pub fits : Bool → ℕ → ℕ → Bool
+fits full halted j = not full || has halted j
+
+abbrev pub canSend : Bool → ℕ → ℕ → Column → Bool
+canSend full halted i c =
+    let k = choose (c .send) in
+    not (eqb (c .send) 0) && (eqb k i || (has (c .noted) k || fits full halted k))
+
+abbrev pub canAck : Bool → ℕ → Column → Bool
+canAck full halted c = not (eqb (c .owed) 0) && ((c .whole || idle c) && fits full halted (lowest (c .owed)))
+
+abbrev pub canTakeOver : ℕ → ℕ → Column → Bool
+canTakeOver root i c = not (eqb i root) && (has (c .noted) root && (not (c .whole) && idle c))
+
+-- what column i, which is c, can do, and the other step where it can do nothing
+unfoldable pub stepOf : Bool → ℕ → ℕ → ℕ → Column → Step → Step
+stepOf full halted root i c other =
+    let new = minus halted (c .noted) in
+    cond (c .running)
+    (cond (eqb new 0)
+    (cond (canSend full halted i c) (Send i) (cond (canAck full halted c) (Ack i) (cond (canTakeOver root i c) (All i) other)))
+    (Note i (lowest new)))
+    other
+
+-- the same for k columns from i on
+unfoldable pub stepFrom : Bank → Bool → ℕ → ℕ → ℕ → Step
+stepFrom b full halted i zero = Take 0
+stepFrom b full halted i (suc k) = stepOf full halted (b .tree .root) i (columnAt b i) (stepFrom b full halted (suc i) k)
+
+abbrev pub isFull : Bank → Bool
+isFull b = not (ltb (b .count) capacity)
+
+-- the columns that do not run
+abbrev pub haltedOf : Bank → ℕ
+haltedOf b = selected (λ j. not (runs b j)) (b .tree .columns)
+
+abbrev pub quickTurn : Bank → Step
+quickTurn b = stepFrom b (isFull b) (haltedOf b) 0 (b .tree .columns)
+
+-- the column whose place a turn's step rewrites, by the head of the oldest packet
+abbrev pub actingIn : Step → ℕ → ℕ
+actingIn (Send i) oldest = i
+actingIn (Ack i) oldest = i
+actingIn (All i) oldest = i
+actingIn (Note i j) oldest = i
+actingIn (Take place) oldest = receiverIn oldest
+actingIn (Order doors) oldest = receiverIn oldest
+actingIn (Halt m) oldest = receiverIn oldest

@@ -1,0 +1,179 @@
+-- The turns of the dispatcher in a bank that stands, by the step that the sets give: one that is refused ends the dispatch; after one that
+-- is accepted the bank stands, or it does not and refuses every step. Assumes nothing.
+use Prim.Native.Nat.{ℕ, zero, suc, _+_, _-_, _≤_, _<_}
+use native.Mathlib.Omega.{arith}
+use mathlib.Core.Path.{_≡_, refl, sym, ap, subst, _∙_}
+use mathlib.Core.Bool.{Bool, true, false, cond, true≢false}
+use mathlib.Core.List.{List, [], _∷_}
+use lib.Dec.{eqb}
+use lib.ListN.{length, getD}
+use borrow.Author.Tests.{eq-eqb, eqb-true}
+use Rattle.column.specs.Sets.{lowest}
+use Rattle.column.specs.TreeLaws.{tree-sixteen}
+use Rattle.column.specs.declared.tree.Tree.{Tree}
+use Rattle.column.specs.declared.state.Column.{Column}
+use Rattle.bank.specs.Banks.{State, state, columnAt, bankRefusal}
+use Rattle.bank.specs.Standing.{stillStands}
+use Rattle.bank.specs.StandingLaws.{stands}
+use Rattle.bank.specs.StandingOn.{room-on, tree-on, stands-on}
+use Rattle.bank.specs.WordLaws.{receiver-of}
+use Rattle.bank.specs.Steps.{Outcome, accepted, refused, answered, perform}
+use Rattle.bank.specs.Unchanged.{unchanged}
+use Rattle.bank.specs.Rest.{isRefused}
+use Rattle.bank.specs.RestSteps.{broken-refused}
+use Rattle.bank.specs.Places.{acts, isHalt}
+use Rattle.bank.specs.Dispatch.{turn, onward, dispatched, dispatch}
+use Rattle.bank.specs.Quick.{minus, canSend, canAck, canTakeOver, stepOf, stepFrom, quickTurn, actingIn}
+use Rattle.bank.specs.QuickTurn.{quick-turn}
+use Rattle.bank.specs.Offers.{isRefusal}
+use Rattle.bank.specs.Dispatches.{Dispatches, Ended}
+use Rattle.bank.specs.declared.bank.Bank.{Bank}
+use Rattle.bank.specs.declared.bank.Answer.{Answer}
+use Rattle.bank.specs.declared.bank.Answer.the-variants.{Done, Refused}
+use Rattle.bank.specs.declared.dispatch.Dispatched.{Dispatched}
+use Rattle.bank.specs.declared.step.Step.{Step}
+use Rattle.bank.specs.declared.step.Step.the-variants.{Send, Take, Ack, All, Note}
+
+-- ---- who acts in a turn
+
+abbrev Acts : State → Step → Type 0
+Acts s x = (isHalt x ≡ false) × (acts s x (actingIn x (getD (s .heads) 0 0)) ≡ true)
+
+module _ (s : State) where
+  either : (b : Bool) (x y : Step) → Acts s x → Acts s y → Acts s (cond b x y)
+  either true x y h k = h
+  either false x y h k = k
+
+  column-acts : (full : Bool) (halted root i : ℕ) (c : Column) (other : Step) → Acts s other → Acts s (stepOf full halted root i c other)
+  unfolding stepOf
+  column-acts full halted root i c other h =
+      let own : eqb i i ≡ true = eq-eqb i i refl in
+      let new = minus halted (c .noted) in
+      let third : Step = cond (canTakeOver root i c) (All i) other in
+      let second : Step = cond (canAck full halted c) (Ack i) third in
+      let first : Step = cond (canSend full halted i c) (Send i) second in
+      let last : Acts s third = either (canTakeOver root i c) (All i) other (refl, own) h in
+      let later : Acts s second = either (canAck full halted c) (Ack i) third (refl, own) last in
+      either (c .running) (cond (eqb new 0) first (Note i (lowest new))) other
+      (either (eqb new 0) first (Note i (lowest new)) (either (canSend full halted i c) (Send i) second (refl, own) later) (refl, own))
+      h
+
+  turn-acts-from : (b : Bank) (full : Bool) (halted i k : ℕ) → Acts s (stepFrom b full halted i k)
+  unfolding stepFrom
+  turn-acts-from b full halted i zero = (refl, eq-eqb _ _ (sym (receiver-of (getD (s .heads) 0 0) (getD (s .doors) 0 0))))
+  turn-acts-from b full halted i (suc k) =
+      column-acts full halted (b .tree .root) i (columnAt b i) (stepFrom b full halted (suc i) k) (turn-acts-from b full halted (suc i) k)
+
+  turn-acts : Acts s (quickTurn (s .bank))
+  turn-acts = turn-acts-from (s .bank) _ _ 0 _
+
+-- ---- a turn
+
+refused-with : (o : Outcome State) → isRefused o ≡ true → (n : ℕ) × (m : State) × (o ≡ refused n m)
+refused-with (accepted s) e = absurd (true≢false (sym e))
+refused-with (refused n s) e = (n, s, refl)
+
+module _ (s : State) (ok : bankRefusal s ≡ 0) (x : Step) (quick : x ≡ quickTurn (s .bank)) where
+  own : perform s x ≡ perform s (turn s)
+  own = ap (perform s) (quick ∙ sym (quick-turn s (stands s ok)))
+
+  module _ (k : ℕ) where
+    stops : (n : ℕ) (s' : State) → refused n s' ≡ perform s x → (length (dispatched (suc k) s) ≡ 0) × (dispatch (suc k) s ≡ s')
+    unfolding dispatched dispatch
+    stops n s' e = rw (sym (e ∙ own)) (refl, sym (unchanged s x n s' (sym e)))
+
+    goes : (s' : State) → accepted s' ≡ perform s x → (length (dispatched (suc k) s) ≡ suc (length (dispatched k s'))) × (dispatch (suc k) s ≡ dispatch k s')
+    unfolding dispatched dispatch
+    goes s' e = rw (sym (e ∙ own)) (refl, refl)
+
+-- a bank that does not stand takes no step
+pub broken : (limit : ℕ) (s : State) → (bankRefusal s ≡ 0 → ⊥) → (0 ≡ length (dispatched limit s)) × (s ≡ dispatch limit s)
+unfolding dispatched dispatch
+broken zero s ne = (refl, refl)
+broken (suc k) s ne = rw (refused-with (perform s (turn s)) (broken-refused s (turn s) ne) .2) (refl, refl)
+
+-- ---- the dispatch from s on its way: `steps` were taken, and now it is at m
+
+pub record Going (limit steps : ℕ) (s m : State) : Type 0 where
+  pub within : steps ≤ limit
+  pub counted : length (dispatched limit s) ≡ steps + length (dispatched (limit - steps) m)
+  pub leads : dispatch limit s ≡ dispatch (limit - steps) m
+
+-- the dispatch from s ended so
+abbrev pub Over : ℕ → ℕ → State → State → Type 0
+Over limit steps s m = (steps ≡ length (dispatched limit s)) × (m ≡ dispatch limit s)
+
+-- what the function answers then
+pub over : {r : Dispatched} {b : Bank} {heads doors : List ℕ} {limit steps : ℕ} {s : State} → Ended r b steps → Over limit steps s (state b heads doors)
+    → Dispatches r heads doors limit s (accepted (dispatch limit s))
+over e z = record { count-is = e .steps-are ∙ z .0; outcome-is = rw (e .done, e .bank-is) (ap accepted (z .1)) }
+
+pub going-start : (limit : ℕ) (s : State) → Going limit 0 s s
+going-start limit s =
+    let e : limit - 0 ≡ limit = omega arith in
+    record {
+      within = omega arith;
+      counted = omega (arith, ap (λ (k : ℕ). length (dispatched k s)) e);
+      leads = sym (ap (λ (k : ℕ). dispatch k s) e);
+    }
+
+module _ {limit steps : ℕ} {s m : State} (g : Going limit steps s m) where
+  pub going-ends : limit ≤ steps → Over limit steps s m
+  unfolding dispatched dispatch
+  going-ends h =
+      let e : limit - steps ≡ 0 = omega (arith, h) in
+      (omega (arith, g .counted, ap (λ (k : ℕ). length (dispatched k m)) e), sym (g .leads ∙ ap (λ (k : ℕ). dispatch k m) e))
+
+  pub going-broken : (bankRefusal m ≡ 0 → ⊥) → Over limit steps s m
+  going-broken ne =
+      let z = broken (limit - steps) m ne in
+      (omega (arith, g .counted, z .0), z .1 ∙ sym (g .leads))
+
+  module _ (ok : bankRefusal m ≡ 0) (l : steps < limit) (x : Step) (quick : x ≡ quickTurn (m .bank)) (a : Answer) (m' : State) (e : answered a m' ≡ perform m x) where
+    abbrev k : ℕ
+    k = limit - (steps + 1)
+
+    more : limit - steps ≡ suc k
+    more = omega arith
+
+    pub going-stops : isRefusal a ≡ true → Over limit steps s m'
+    going-stops r = go a r e
+      where
+        go : (a : Answer) → isRefusal a ≡ true → answered a m' ≡ perform m x → Over limit steps s m'
+        go Done r e = absurd (true≢false (sym r))
+        go (Refused n) r e =
+            let z = stops m ok x quick k n m' e in
+            (omega (arith, g .counted, ap (λ (j : ℕ). length (dispatched j m)) more, z .0), sym (g .leads ∙ ap (λ (j : ℕ). dispatch j m) more ∙ z .1))
+
+    module _ (r : isRefusal a ≡ false) where
+      done : perform m x ≡ accepted m'
+      done = go a r e
+        where
+          go : (a : Answer) → isRefusal a ≡ false → answered a m' ≡ perform m x → perform m x ≡ accepted m'
+          go Done r e = sym e
+          go (Refused n) r e = absurd (true≢false r)
+
+      pub going-on : Going limit (steps + 1) s m'
+      going-on =
+          let z = goes m ok x quick k m' (sym done) in
+          record {
+            within = omega (arith, l);
+            counted = omega (arith, g .counted, ap (λ (j : ℕ). length (dispatched j m)) more, z .0);
+            leads = g .leads ∙ ap (λ (j : ℕ). dispatch j m) more ∙ z .1;
+          }
+
+      acting-turn : Acts m x
+      acting-turn = subst (Acts m) (sym quick) (turn-acts m)
+
+      -- what the test of the next turn asks
+      pub turned-within : (m' .bank .tree .columns ≤ 16) × (m' .bank .count ≤ 512)
+      turned-within =
+          let z = acting-turn in
+          let tree = tree-on m x m' _ (z .0) ok done (z .1) in
+          let room = room-on m x m' _ (z .0) ok done (z .1) in
+          (subst (λ (t : Tree). t .columns ≤ 16) (sym tree) (tree-sixteen (m .bank .tree) (stands m ok .tree)), room)
+
+      pub turned-stands : (i : ℕ) → i ≡ actingIn x (getD (m .heads) 0 0) → stillStands m' i ≡ eqb (bankRefusal m') 0
+      turned-stands i is =
+          let z = acting-turn in
+          stands-on m x m' i (z .0) ok done (ap (acts m x) is ∙ z .1)
