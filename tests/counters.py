@@ -22,8 +22,8 @@ REFUSALS = {
               "3: another length", "3: root not its own parent", "3: a climb that misses the root", "13: past the limit"],
 }
 # The model knows more words, and they fail the run where it tells them: an acknowledgement of a higher number (it has the number of a message that its
-# receiver sent, and numbers rise), 8 (65,535 orders do not fit into a script), 9 (the fullest network that is known has 420 packets), and
-# a run until a refused step, which only 9 could bring about.
+# receiver sent, and numbers rise), 8 (65,535 orders do not fit into a script), 9 (no network fills, `never-nine` of
+# crates/agreement), and a run until a refused step, which only 9 could bring about.
 BRANCHES = [
     "the first order", "a further order after rest", "a further order before rest",
     "send to itself", "send to a noted column, whose children join", "send to a noted column without children", "send to a running column",
@@ -66,14 +66,19 @@ def step_limit(columns):
     return 9 * columns ** 2 - 5 * columns
 
 
+def packet_limit(columns):
+    """Document 02, Point 3: "2 times N times (N−1)"."""
+    return 2 * columns * (columns - 1)
+
+
 class Counters:
     """What the model met, and whether demand 3 held after every line."""
 
     def __init__(self):
         self.met = collections.Counter()
         self.lines = 0
-        self.most_packets = 0
-        # The longest run of a bank, by its columns.
+        # The most packets under way at once and the longest run, by the columns of the bank.
+        self.most_packets = collections.Counter()
         self.most_steps = collections.Counter()
         self.agreed = True
 
@@ -87,9 +92,8 @@ class Counters:
             texts.append(text)
             if bank:
                 self.lines += 1
-                self.most_packets = max(self.most_packets, len(bank.network))
                 self.agreed = self.agreed and bank.agrees()
-                self.measure(text, len(bank.columns))
+                self.measure(text, len(bank.columns), len(bank.network))
         text = data.decode("latin-1")
         if bank:
             self.tell(rest(bank))
@@ -99,7 +103,8 @@ class Counters:
         self.met["input at the limit"] += len(data) == model.LIMIT
         return "".join(texts)
 
-    def measure(self, text, columns):
+    def measure(self, text, columns, packets):
+        self.most_packets[columns] = max(self.most_packets[columns], packets)
         run = re.match("steps=([0-9]+)", text)
         if run:
             self.most_steps[columns] = max(self.most_steps[columns], int(run[1]))
@@ -107,4 +112,5 @@ class Counters:
     def faults(self):
         """What was met too seldom, what was told that nobody wants, and what is above its limit."""
         return [*(f"{name}: {self.met[name]}" for name in WANTED if self.met[name] < LEAST), *(name for name in self.met if name not in WANTED),
-                *(f"{most} steps of {columns} columns" for columns, most in self.most_steps.items() if most > step_limit(columns))]
+                *(f"{most} steps of {columns} columns" for columns, most in self.most_steps.items() if most > step_limit(columns)),
+                *(f"{most} packets of {columns} columns" for columns, most in self.most_packets.items() if most > packet_limit(columns))]

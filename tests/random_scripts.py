@@ -101,8 +101,8 @@ def seed_part(seed, met):
         if not count.agreed:
             return fault(f"seed {seed}, lit columns disagree after:", shortest(data, disagree))
     met.append(count)
-    print(f"seed {seed}: {len(printed)} scripts, {count.lines} lines, at most {count.most_packets} packets at once, 0 differences", flush=True)
-    faults = [f"seed {seed}, {words}" for words in count.faults()] + ["no crowded network"] * (count.most_packets < CROWDED)
+    print(f"seed {seed}: {len(printed)} scripts, {count.lines} lines, at most {max(count.most_packets.values())} packets at once, 0 differences", flush=True)
+    faults = [f"seed {seed}, {words}" for words in count.faults()] + ["no crowded network"] * (count.most_packets[16] < CROWDED)
     return sum(map(fault, faults)) + mutants_part(printed)
 
 
@@ -113,9 +113,10 @@ def seeds_part(seeds):
     print("least  most  of what a seed met")
     for name in counters.WANTED * bool(met):
         print(f"{min(one.met[name] for one in met):5} {max(one.met[name] for one in met):5}  {name}")
-    print("columns  longest run  at most")
+    print("columns  longest run  at most  most packets  at most")
     for columns in range(1, 17):
-        print(f"{columns:7} {max((one.most_steps[columns] for one in met), default=0):12} {counters.step_limit(columns):8}")
+        run, packets = (max((most[columns] for most in seen), default=0) for seen in ([one.most_steps for one in met], [one.most_packets for one in met]))
+        print(f"{columns:7} {run:12} {counters.step_limit(columns):8} {packets:13} {counters.packet_limit(columns):8}")
     if faults:
         return fault(f"{faults} faults")
     print(f"{len(met)} seeds: each of {len(counters.WANTED)} counters met {counters.LEAST} times or more on each, each of {len(model_mutants.TOLD)} "

@@ -49,5 +49,6 @@ pub mod Reached
 pub mod Quiet
 pub mod Agreement
 pub mod Companions
-mod Limits
+mod Nine
+pub mod Limits
 pub mod Dispatched

@@ -1,27 +1,40 @@
--- How many packets a bank that is reached from fresh has under way, and that it takes one more. Assumes nothing.
+-- Document 02, Point 3: the theorem. Assumes nothing.
 use Prim.Native.Nat.{ℕ, _-_, _*_, _≤_, _<_}
 use native.Mathlib.Nat.{mul-le-mul}
 use native.Mathlib.Omega.{arith}
+use mathlib.Core.Path.{_≡_}
 use Rattle.column.specs.TreeLaws.{tree-sixteen}
-use Rattle.bank.specs.Banks.{capacity}
+use Rattle.bank.specs.Banks.{State, capacity}
 use Rattle.bank.specs.NetworkLaws.{packets-length}
+use Rattle.bank.specs.Steps.{refused, perform}
+use Rattle.bank.specs.declared.step.Step.{Step}
 use Rattle.agreement.specs.History.{World, columnsOf}
+use Rattle.agreement.specs.Limits.{packetLimit, NeverFills, At480, NeverNine}
 use Rattle.agreement.proofs.Counting.{network-bounded}
-use Rattle.agreement.proofs.Reached.{Reached}
+use Rattle.agreement.proofs.Reached.{Reached, after-every}
+use Rattle.agreement.proofs.Nine.{no-nine}
 
--- two for each of the pairs of columns
-abbrev pairsTwice : ℕ → ℕ
-pairsTwice n = 2 * (n * (n - 1))
-
-sixteen-fit : (n : ℕ) → n ≤ 16 → pairsTwice n < capacity
-sixteen-fit n h =
+limit-480 : (n : ℕ) → n ≤ 16 → packetLimit n ≤ 480
+limit-480 n h =
     let less : n - 1 ≤ 15 = omega arith in
     let z : n * (n - 1) ≤ 16 * 15 = mul-le-mul h less in
     omega (arith, z)
 
 module _ (w : World) (r : Reached w) where
-  reached-bounded : w .state .bank .count ≤ pairsTwice (columnsOf w)
+  reached-bounded : w .state .bank .count ≤ packetLimit (columnsOf w)
   reached-bounded = omega (arith, packets-length (w .state) (r .formed .whole) (r .room), network-bounded (r .standing) (r .bounded))
 
+  reached-480 : w .state .bank .count ≤ 480
+  reached-480 = omega (arith, reached-bounded, limit-480 (columnsOf w) (tree-sixteen (w .state .bank .tree) (r .tree)))
+
   pub reached-room : w .state .bank .count < capacity
-  reached-room = omega (arith, reached-bounded, sixteen-fit (columnsOf w) (tree-sixteen (w .state .bank .tree) (r .tree)))
+  reached-room = omega (arith, reached-480)
+
+pub never-fills : NeverFills
+never-fills = after-every (λ w. w .state .bank .count ≤ packetLimit (columnsOf w)) reached-bounded
+
+pub at-480 : At480
+at-480 = after-every (λ w. w .state .bank .count ≤ 480) reached-480
+
+pub never-nine : NeverNine
+never-nine = after-every (λ w. (x : Step) (s : State) → perform (w .state) x ≡ refused 9 s → ⊥) (λ w r. no-nine (w .state) (reached-room w r))

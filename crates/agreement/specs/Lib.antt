@@ -4,5 +4,6 @@ pub mod Agreement
 pub mod Companions
 pub mod Runs
 pub mod Premises
+pub mod Limits
 pub mod Dispatching
 pub mod DispatchRuns

@@ -1,0 +1,25 @@
+-- Document 02, Point 3: the network never fills.
+use Prim.Native.Nat.{ℕ, _-_, _*_, _≤_}
+use mathlib.Core.Path.{_≡_}
+use Rattle.bank.specs.Banks.{State}
+use Rattle.bank.specs.Steps.{refused, perform}
+use Rattle.bank.specs.declared.step.Step.{Step}
+use Rattle.agreement.specs.History.{World, columnsOf}
+use Rattle.agreement.specs.Agreement.{AfterEveryList}
+
+-- "2 times N times (N−1) packets under way"
+abbrev pub packetLimit : ℕ → ℕ
+packetLimit n = 2 * (n * (n - 1))
+
+-- "no bank of N columns, however stepped from fresh, has more": every packet of the network counts, whether its sender runs or has halted,
+-- and as often as it is there. N is the count of the bank's table, by `KeepsTree` of Companions.
+abbrev pub NeverFills : Type 0
+NeverFills = AfterEveryList (λ w. w .state .bank .count ≤ packetLimit (columnsOf w))
+
+-- "480 for 16", the most columns that a bank has
+abbrev pub At480 : Type 0
+At480 = AfterEveryList (λ w. w .state .bank .count ≤ 480)
+
+-- "Refusal 9 thus never occurs in such a bank": no step, whatever its numbers, is refused with 9
+abbrev pub NeverNine : Type 0
+NeverNine = AfterEveryList (λ w. (x : Step) (s : State) → perform (w .state) x ≡ refused 9 s → ⊥)
