@@ -1,6 +1,7 @@
-/* Laps of one step of a lone column or of a bank: standard input as for crates/timing; the number printed must be the same. Letter B
-   prints the bytes of a bank and of its packets; G is F with the tests that the proved dispatcher makes, and no other. */
+/* Laps of one step of a lone column or of a bank, or of a frame read: standard input as for crates/timing; the number printed must be the
+   same. Letter B prints the bytes of a bank and of its packets; G is F with the tests that the proved dispatcher makes, and no other. */
 #include "bank.h"
+#include "frame.h"
 #include <stdio.h>
 #include <string.h>
 
@@ -36,6 +37,24 @@ static uint64_t column_laps(char letter, uint64_t laps) {
     for (uint64_t lap = 0; lap < laps; lap++) {
         struct column c = column_lap(letter, lap);
         sum = fold(sum, (uint64_t)c.number + c.send + c.awaited + c.owed + c.noted + c.running);
+    }
+    return sum;
+}
+
+/* ---- a frame of 512 messages, in each lap the doors of another one the lap's */
+
+static uint64_t frame_laps(uint64_t laps) {
+    static const uint8_t message[MESSAGE_SIZE] = {1, 0, 1, 1, 2, 1, 2, 3, 4, 5, 6, 7, 8};
+    static uint8_t bytes[FRAME_PACKETS * MESSAGE_SIZE];
+    static struct frame frame;
+    for (size_t i = 0; i < sizeof bytes; i++)
+        bytes[i] = message[i % MESSAGE_SIZE];
+    uint64_t sum = 0;
+    for (uint64_t lap = 0; lap < laps; lap++) {
+        size_t place = lap % FRAME_PACKETS;
+        bytes[place * MESSAGE_SIZE + ACKNOWLEDGEMENT_SIZE] = (uint8_t)lap;
+        uint8_t refusal = read_frame(bytes, sizeof bytes, &frame);
+        sum = fold(fold(sum, refusal ? refusal : frame.count), frame.packets[place].doors);
     }
     return sum;
 }
@@ -157,7 +176,7 @@ int main(void) {
     else if (sscanf(line, "%c %llu %llu %llu", &letter, &columns, &packets, &laps) == 4)
         printf("%llu\n", (unsigned long long)bank_laps(letter, columns, packets, laps));
     else if (sscanf(line, "%c %llu", &letter, &laps) == 2)
-        printf("%llu\n", (unsigned long long)(strchr("DFG", letter) ? dispatch_laps : column_laps)(letter, laps));
+        printf("%llu\n", (unsigned long long)(letter == 'f' ? frame_laps(laps) : strchr("DFG", letter) ? dispatch_laps(letter, laps) : column_laps(letter, laps)));
     else
         return 1;
     return 0;

@@ -1,4 +1,4 @@
-"""What the program pair writes, held to document 01's packets and trees by a reader of its own."""
+"""What the program pair writes, held to the papers' packets, frames and trees by a reader of its own."""
 import os
 import re
 import subprocess
@@ -14,11 +14,21 @@ def occupied(doors):
 
 
 def packet(data):
-    """Kind, from, to, number and doors of exactly one packet."""
+    """Kind, from, to, number and doors of the packet at the start, and the bytes after it."""
     kind, sender, receiver = data[0], data[1], data[2]
-    assert (kind, len(data)) in ((1, 13), (2, 5)), data
+    size = {1: 13, 2: 5}[kind]
+    assert size <= len(data), data
     assert sender < 16 and receiver < 16 and sender != receiver, data
-    return kind, sender, receiver, int.from_bytes(data[3:5], "big"), occupied(data[5:]) if kind == 1 else None
+    return (kind, sender, receiver, int.from_bytes(data[3:5], "big"), occupied(data[5:13]) if kind == 1 else None), data[size:]
+
+
+def packets(frame):
+    """'takes packets until the frame ends'."""
+    found = []
+    while frame:
+        first, frame = packet(frame)
+        found.append(first)
+    return found
 
 
 def listed(columns):
@@ -54,15 +64,16 @@ class Pair(unittest.TestCase):
         tree = written.index("columns=5")
         cls.exchange, cls.tree = [line.split("=") for line in written[:tree]], written[tree:]
 
-    def test_one_message_down_and_one_acknowledgement_up(self):
-        packets = [packet(bytes.fromhex(value)) for key, value in self.exchange if key == "packet"]
-        self.assertEqual(packets, [(1, 0, 1, 1, DOORS), (2, 1, 0, 1, None)])
+    def test_two_messages_down_in_one_frame_and_two_acknowledgements_up_in_one(self):
+        frames = [packets(bytes.fromhex(value)) for key, value in self.exchange if key == "frame"]
+        self.assertEqual(frames, [[(1, 0, 1, 1, DOORS), (1, 0, 2, 1, DOORS)], [(2, 1, 0, 1, None), (2, 2, 0, 1, None)]])
 
-    def test_both_columns_hold_the_order(self):
-        values = {key: [value for k, value in self.exchange if k == key] for key in ("column", "number", "doors")}
-        self.assertEqual(values["column"], ["0", "1"])
-        self.assertEqual(values["number"], ["1", "1"])
-        self.assertEqual([occupied(bytes.fromhex(doors)) for doors in values["doors"]], [DOORS, DOORS])
+    def test_every_column_holds_the_order_and_awaits_nobody(self):
+        values = {key: [value for k, value in self.exchange if k == key] for key in ("column", "number", "doors", "awaited")}
+        self.assertEqual(values["column"], ["0", "1", "2"])
+        self.assertEqual(values["number"], ["1", "1", "1"])
+        self.assertEqual([occupied(bytes.fromhex(doors)) for doors in values["doors"]], [DOORS] * 3)
+        self.assertEqual(values["awaited"], ["", "", ""])
 
     def test_children_and_subtrees_follow_from_the_parents(self):
         tree = Tree(2, [int(parent) for parent in re.findall(r" up=(\d+)", "\n".join(self.tree))])

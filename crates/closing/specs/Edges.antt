@@ -95,7 +95,7 @@ Says last-door =
     (packets.occupied doors 64 ≡ true) × (packets.occupied doors 63 ≡ false) × (packets.occupied doors 1 ≡ false)
 -- "message of 13 bytes read, 12 refused"
 Says message-bytes =
-    (packets.read thirteen ≡ given (Message 0 1 258 578437695752307201)) × (packets.read (take 12 thirteen) ≡ refused 12)
+    (packets.read thirteen ≡ given (packets.part (Message 0 1 258 578437695752307201) 13)) × (packets.read (take 12 thirteen) ≡ refused 12)
 -- "take of an equal number adds to those owed"
 Says equal-number =
     columnAt (after (perform (messageTo 4 4) (Take 0)) .bank) 1

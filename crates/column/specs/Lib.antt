@@ -16,6 +16,10 @@ pub mod Columns
 pub mod Packets
 pub mod PacketLaws
 pub mod PacketExamples
+pub mod Frames
+pub mod FrameLaws
+pub mod FramePlaces
+pub mod FrameExamples
 pub mod Steps
 pub mod StateLaws
 pub mod StepExamples

@@ -3,35 +3,35 @@ use Prim.Native.Nat.{ℕ, zero, suc}
 use native.Mathlib.Omega.{arith}
 use mathlib.Core.Path.{_≡_, refl}
 use mathlib.Core.Bool.{Bool, true, false, _&&_}
-use mathlib.Core.List.{List, [], _∷_, map}
+use mathlib.Core.List.{List, [], _∷_, _++_, map}
 use lib.Dec.{ltb}
 use lib.ListN.{take, replicate}
 use borrow.Author.Tests.{ltb-true}
 use Rattle.column.specs.Cases.{and-left, and-right}
 use Rattle.column.specs.Refusals.{given, refused}
-use Rattle.column.specs.Packets.{lowFirst, lowValue, bytesOf, goodEnds, occupied, write, read}
-use Rattle.column.specs.PacketLaws.{Bytes, read-write, write-read}
+use Rattle.column.specs.Packets.{lowFirst, lowValue, bytesOf, occupied, write, part, read}
+use Rattle.column.specs.PacketLaws.{Bytes, read-write, write-read, Stands}
 use Rattle.column.specs.declared.packet.Packet.{Packet}
 use Rattle.column.specs.declared.packet.Packet.the-variants.{Message, Acknowledgement}
 
 -- order 258 from column 0 to column 1, whose doors are the bytes 1 to 8
-abbrev message : Packet
+abbrev pub message : Packet
 message = Message 0 1 258 578437695752307201
 
-abbrev messageBytes : List ℕ
+abbrev pub messageBytes : List ℕ
 messageBytes = 1 ∷ 0 ∷ 1 ∷ 1 ∷ 2 ∷ 1 ∷ 2 ∷ 3 ∷ 4 ∷ 5 ∷ 6 ∷ 7 ∷ 8 ∷ []
 
-abbrev acknowledgement : Packet
+abbrev pub acknowledgement : Packet
 acknowledgement = Acknowledgement 1 0 7
 
-abbrev acknowledgementBytes : List ℕ
+abbrev pub acknowledgementBytes : List ℕ
 acknowledgementBytes = 2 ∷ 1 ∷ 0 ∷ 0 ∷ 7 ∷ []
 
 message-bytes : bytesOf message ≡ messageBytes
 unfolding bytesOf lowFirst
 message-bytes = refl
 
-message-read : read messageBytes ≡ given message
+message-read : read messageBytes ≡ given (part message 13)
 unfolding read lowValue
 message-read = refl
 
@@ -39,17 +39,17 @@ acknowledgement-written : write acknowledgement ≡ record { size = given 5; byt
 unfolding write bytesOf lowFirst
 acknowledgement-written = refl
 
-acknowledgement-read : read acknowledgementBytes ≡ given acknowledgement
+acknowledgement-read : read (acknowledgementBytes ++ messageBytes) ≡ given (part acknowledgement 5)
 unfolding read lowValue
 acknowledgement-read = refl
 
--- bytes that are not exactly one packet
+-- bytes at whose start no packet stands
 abbrev wrong : List (List ℕ)
 wrong =
     -- "message of 13 bytes read, 12 refused"
     take 12 messageBytes
-    -- the one's size with the other's kind
-    ∷ (2 ∷ 0 ∷ 1 ∷ 1 ∷ 2 ∷ 1 ∷ 2 ∷ 3 ∷ 4 ∷ 5 ∷ 6 ∷ 7 ∷ 8 ∷ [])
+    -- a kind that is none, and a message of an acknowledgement's size
+    ∷ (3 ∷ 0 ∷ 1 ∷ 1 ∷ 2 ∷ 1 ∷ 2 ∷ 3 ∷ 4 ∷ 5 ∷ 6 ∷ 7 ∷ 8 ∷ [])
     ∷ (1 ∷ 1 ∷ 0 ∷ 0 ∷ 7 ∷ [])
     -- equal ends, and an end above 15
     ∷ (2 ∷ 1 ∷ 1 ∷ 0 ∷ 7 ∷ [])
@@ -72,17 +72,18 @@ last-door = refl
 
 -- ---- what the laws of packets ask for holds of these
 
-pub message-back : read (bytesOf message) ≡ given message
-message-back = read-write message (record { number = omega arith; doors = omega arith }) refl
+pub message-back : read (bytesOf message ++ acknowledgementBytes) ≡ given (part message 13)
+unfolding bytesOf lowFirst
+message-back = read-write message acknowledgementBytes (record { number = omega arith; doors = omega arith }) refl
 
-abbrev allBytes : List ℕ → Bool
+abbrev pub allBytes : List ℕ → Bool
 allBytes [] = true
 allBytes (b ∷ s) = ltb b 256 && allBytes s
 
-are-bytes : (s : List ℕ) → allBytes s ≡ true → Bytes s
+pub are-bytes : (s : List ℕ) → allBytes s ≡ true → Bytes s
 are-bytes [] e i = omega arith
 are-bytes (b ∷ s) e zero = ltb-true b 256 (and-left _ _ e)
 are-bytes (b ∷ s) e (suc i) = are-bytes s (and-right (ltb b 256) _ e) i
 
-pub message-again : (bytesOf message ≡ messageBytes) × (goodEnds message ≡ true)
-message-again = write-read messageBytes (are-bytes messageBytes refl) message message-read
+pub message-again : Stands messageBytes (part message 13)
+message-again = write-read messageBytes (are-bytes messageBytes refl) (part message 13) message-read

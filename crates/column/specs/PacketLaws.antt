@@ -4,17 +4,17 @@ use Prim.Native.Nat.{ℕ, zero, suc, _+_, _-_, _*_, _/_, _%_, _^_, _≤_, _<_}
 use mathlib.Core.Path.{_≡_, refl, sym, ap, ap₂, _∙_}
 use mathlib.Core.Bool.{Bool, true, false, _&&_, cond}
 use mathlib.Core.Logic.{_⊎_, inl, inr}
-use mathlib.Core.List.{List, [], _∷_, _++_, reverse, reverseAux, reverse-reverse}
+use mathlib.Core.List.{List, [], _∷_, _++_, reverse, reverseAux, reverse-reverse, append-nil}
 use native.Mathlib.Nat.{pow-suc, one-le-pow}
 use native.Mathlib.Omega.{arith}
-use lib.Dec.{eqb}
+use lib.Dec.{eqb, leb}
 use lib.ListN.{length, take, drop, getD, length-append, length-drop, length-reverse, take-append-drop}
 use lib.Pow.{shr-shr, field, mod-mod-pow}
-use lib.Seq.{length-take-le, take-all, take-at, getD-drop, drop-drop}
-use borrow.Author.Tests.{eqb-true}
+use lib.Seq.{length-take-le, take-at, getD-drop, drop-drop, take-add}
+use borrow.Author.Tests.{eqb-true, le-leb, lt-leb, leb-true}
 use Rattle.column.specs.Refusals.{Given, given, refused}
 use Rattle.column.specs.Sets.{digit, has}
-use Rattle.column.specs.Packets.{lowFirst, lowValue, highFirst, highValue, numberSize, doorsSize, acknowledgementSize, messageSize, occupied, bytesOf, goodEnds, padded, write, read, messageIn, acknowledgementIn, readAs, numberIn}
+use Rattle.column.specs.Packets.{lowFirst, lowValue, highFirst, highValue, numberSize, doorsSize, acknowledgementSize, messageSize, occupied, bytesOf, goodEnds, padded, write, read, Part, part, messageIn, acknowledgementIn, startsAs, numberIn}
 use Rattle.column.specs.declared.packet.Packet.{Packet}
 use Rattle.column.specs.declared.packet.Packet.the-variants.{Message, Acknowledgement}
 
@@ -116,12 +116,14 @@ pub record Fits (p : Packet) : Type 0 where
 
 -- ---- what is written is read back
 
-pub read-write : (p : Packet) → Fits p → goodEnds p ≡ true → read (bytesOf p) ≡ given p
+pub read-write : (p : Packet) (rest : List ℕ) → Fits p → goodEnds p ≡ true → read (bytesOf p ++ rest) ≡ given (part p (length (bytesOf p)))
 unfolding read bytesOf lowFirst lowValue
-read-write (Message from to number doors) f g =
-    rw g (ap₂ (λ n d. given (Message from to n d)) (high-value-first numberSize number (f .number)) (low-value-first doorsSize doors (f .doors)))
-read-write (Acknowledgement from to number) f g =
-    rw g (ap (λ n. given (Acknowledgement from to n)) (high-value-first numberSize number (f .number)))
+read-write (Message from to number doors) rest f g =
+    rw (le-leb messageSize (length (bytesOf (Message from to number doors) ++ rest)) (omega arith), g)
+    (ap₂ (λ n d. given (part (Message from to n d) messageSize)) (high-value-first numberSize number (f .number)) (low-value-first doorsSize doors (f .doors)))
+read-write (Acknowledgement from to number) rest f g =
+    rw (le-leb acknowledgementSize (length (bytesOf (Acknowledgement from to number) ++ rest)) (omega arith), g)
+    (ap (λ n. given (part (Acknowledgement from to n) acknowledgementSize)) (high-value-first numberSize number (f .number)))
 
 pub write-good : (p : Packet) → goodEnds p ≡ true → write p ≡ record { size = given (length (bytesOf p)); bytes = padded (bytesOf p) }
 unfolding write
@@ -140,6 +142,12 @@ write-first p n e = go (goodEnds p) refl
         let s : refused 12 ≡ given n = rw g at e in
         let z : _≡_ {A = ℕ} 0 1 = cc in absurd (omega arith)
 
+pub write-length : (p : Packet) (n : ℕ) → write p .size ≡ given n → length (bytesOf p) ≡ n
+unfolding write
+write-length p n e =
+    let s : given (length (bytesOf p)) ≡ given n = rw (write-first p n e .0) at e in
+    cc
+
 -- the packet is among the bytes
 pub write-size : (p : Packet) (n : ℕ) → write p .size ≡ given n → n ≤ length (write p .bytes)
 unfolding write
@@ -149,37 +157,71 @@ write-size p n e =
     let z : length (bytesOf p) ≡ n = cc in
     rw (w .0) (simp length-append (omega arith))
 
-pub written-reads : (p : Packet) (n : ℕ) → Fits p → write p .size ≡ given n → read (take n (write p .bytes)) ≡ given p
+pub written-reads : (p : Packet) (n : ℕ) → Fits p → write p .size ≡ given n → read (take n (write p .bytes)) ≡ given (part p n)
 written-reads p n f e =
     let w = write-first p n e in
-    ap read (w .1) ∙ read-write p f (w .0)
+    let same : length (bytesOf p) ≡ n = write-length p n e in
+    ap read (w .1 ∙ sym (append-nil (bytesOf p))) ∙ read-write p [] f (w .0) ∙ ap (λ k. given (part p k)) same
 
 -- ---- what is read is written back
 
--- the bytes s were read as the packet p of a size and kind
-record ReadAs (s : List ℕ) (count kind : ℕ) (p q : Packet) : Type 0 where
-  size-is : length s ≡ count
+-- at the start of the bytes s the packet p of a size and kind was read, which q answers
+record StartsAs (s : List ℕ) (count kind : ℕ) (p : Packet) (q : Part) : Type 0 where
+  size-is : count ≤ length s
   kind-is : getD s 0 0 ≡ kind
   ends : goodEnds p ≡ true
-  same : p ≡ q
+  same : part p count ≡ q
 
-read-as : (s : List ℕ) (count kind : ℕ) (p q : Packet) (other : Given Packet)
-    → readAs s count kind p other ≡ given q → (ReadAs s count kind p q) ⊎ (other ≡ given q)
-read-as s count kind p q other = go (eqb (length s) count) (eqb (getD s 0 0) kind) (goodEnds p) refl refl refl
+starts-as : (s : List ℕ) (count kind : ℕ) (p : Packet) (q : Part) (other : Given Part)
+    → startsAs s count kind p other ≡ given q → (StartsAs s count kind p q) ⊎ (other ≡ given q)
+starts-as s count kind p q other = go (eqb (getD s 0 0) kind) (leb count (length s)) (goodEnds p) refl refl refl
   where
-    go : (a b g : Bool) → eqb (length s) count ≡ a → eqb (getD s 0 0) kind ≡ b → goodEnds p ≡ g
-        → cond (a && b) (cond g (given p) (refused 12)) other ≡ given q → (ReadAs s count kind p q) ⊎ (other ≡ given q)
-    go true true true x y z e = inl (record { size-is = eqb-true _ _ x; kind-is = eqb-true _ _ y; ends = z; same = cc })
+    go : (a b g : Bool) → eqb (getD s 0 0) kind ≡ a → leb count (length s) ≡ b → goodEnds p ≡ g
+        → cond a (cond (b && g) (given (part p count)) (refused 12)) other ≡ given q → (StartsAs s count kind p q) ⊎ (other ≡ given q)
+    go true true true x y z e = inl (record { size-is = leb-true _ _ y; kind-is = eqb-true _ _ x; ends = z; same = cc })
     go true true false x y z e = let z : _≡_ {A = ℕ} 0 1 = cc in absurd (omega arith)
-    go true false g x y z e = inr e
+    go true false g x y z e = let z : _≡_ {A = ℕ} 0 1 = cc in absurd (omega arith)
     go false b g x y z e = inr e
 
+-- fewer bytes than any packet has
+pub read-short : (s : List ℕ) → length s < acknowledgementSize → read s ≡ refused 12
+unfolding read
+read-short s l =
+    rw (lt-leb messageSize (length s) (omega arith), lt-leb acknowledgementSize (length s) (omega arith))
+    (go (eqb (getD s 0 0) 1) (eqb (getD s 0 0) 2))
+  where
+    go : (a b : Bool) → cond {A = Given Part} a (refused 12) (cond b (refused 12) (refused 12)) ≡ refused 12
+    go true b = refl
+    go false true = refl
+    go false false = refl
+
+-- what is used is among the bytes, and no less than the shortest packet
+pub read-sized : (s : List ℕ) (q : Part) → read s ≡ given q → (acknowledgementSize ≤ q .used) × (q .used ≤ length s)
+unfolding read
+read-sized s q e = message (starts-as _ _ _ _ _ _ e)
+  where
+    acknowledgement : (StartsAs s acknowledgementSize 2 (acknowledgementIn s) q) ⊎ (refused 12 ≡ given q) → (acknowledgementSize ≤ q .used) × (q .used ≤ length s)
+    acknowledgement (inl r) = rw (← r .same) (omega arith, r .size-is)
+    acknowledgement (inr n) = let z : _≡_ {A = ℕ} 0 1 = cc in absurd (omega arith)
+
+    message : (StartsAs s messageSize 1 (messageIn s) q) ⊎ (startsAs s acknowledgementSize 2 (acknowledgementIn s) (refused 12) ≡ given q)
+        → (acknowledgementSize ≤ q .used) × (q .used ≤ length s)
+    message (inl r) = rw (← r .same) (omega arith, r .size-is)
+    message (inr o) = acknowledgement (starts-as _ _ _ _ _ _ o)
+
 -- the kind and the ends, then the rest
-head-three : (s : List ℕ) → 3 ≤ length s → getD s 0 0 ∷ getD s 1 0 ∷ getD s 2 0 ∷ drop 3 s ≡ s
-head-three [] h = absurd (omega arith)
-head-three (a ∷ []) h = absurd (omega arith)
-head-three (a ∷ b ∷ []) h = absurd (omega arith)
-head-three (a ∷ b ∷ c ∷ s) h = refl
+head-three : (s : List ℕ) (n : ℕ) → 3 ≤ length s → getD s 0 0 ∷ getD s 1 0 ∷ getD s 2 0 ∷ take n (drop 3 s) ≡ take (suc (suc (suc n))) s
+head-three [] n h = absurd (omega arith)
+head-three (a ∷ []) n h = absurd (omega arith)
+head-three (a ∷ b ∷ []) n h = absurd (omega arith)
+head-three (a ∷ b ∷ c ∷ s) n h = refl
+
+-- what a reading says of the bytes
+pub record Stands (s : List ℕ) (q : Part) : Type 0 where
+  pub first : bytesOf (q .packet) ≡ take (q .used) s
+  pub among : q .used ≤ length s
+  pub ends : goodEnds (q .packet) ≡ true
+  pub fits : Fits (q .packet)
 
 module _ (s : List ℕ) (h : Bytes s) where
   part-length : (at count : ℕ) → at + count ≤ length s → length (take count (drop at s)) ≡ count
@@ -197,36 +239,71 @@ module _ (s : List ℕ) (h : Bytes s) where
       ap (λ (k : ℕ). lowFirst k (doorsOf (messageIn s))) (sym (part-length acknowledgementSize doorsSize l))
       ∙ low-first-value _ (part-bytes acknowledgementSize doorsSize)
 
-  acknowledgement-bytes : {q : Packet} → ReadAs s acknowledgementSize 2 (acknowledgementIn s) q → bytesOf (acknowledgementIn s) ≡ s
+  number-fits : acknowledgementSize ≤ length s → numberIn s < 256 ^ numberSize
+  number-fits l = high-value-lt numberSize (take numberSize (drop 3 s)) (part-bytes 3 numberSize) (omega (arith, part-length 3 numberSize l))
+
+  doors-fit : messageSize ≤ length s → doorsOf (messageIn s) < 256 ^ doorsSize
+  doors-fit l =
+      low-value-lt doorsSize (take doorsSize (drop acknowledgementSize s)) (part-bytes acknowledgementSize doorsSize)
+      (omega (arith, part-length acknowledgementSize doorsSize l))
+
+  acknowledgement-bytes : {q : Part} → StartsAs s acknowledgementSize 2 (acknowledgementIn s) q
+      → bytesOf (acknowledgementIn s) ≡ take acknowledgementSize s
   unfolding bytesOf
   acknowledgement-bytes r =
-      let l : length s ≡ acknowledgementSize = r .size-is in
-      let whole : take numberSize (drop 3 s) ≡ drop 3 s = take-all numberSize (drop 3 s) (simp length-drop (omega arith)) in
-      ap₂ (λ k t. k ∷ getD s 1 0 ∷ getD s 2 0 ∷ t) (sym (r .kind-is)) (number-bytes (omega arith) ∙ whole) ∙ head-three s (omega arith)
+      let l : acknowledgementSize ≤ length s = r .size-is in
+      ap₂ (λ k t. k ∷ getD s 1 0 ∷ getD s 2 0 ∷ t) (sym (r .kind-is)) (number-bytes l) ∙ head-three s numberSize (omega arith)
 
-  message-bytes : {q : Packet} → ReadAs s messageSize 1 (messageIn s) q → bytesOf (messageIn s) ≡ s
+  message-bytes : {q : Part} → StartsAs s messageSize 1 (messageIn s) q → bytesOf (messageIn s) ≡ take messageSize s
   unfolding bytesOf
   message-bytes r =
-      let l : length s ≡ messageSize = r .size-is in
-      let whole : take doorsSize (drop acknowledgementSize s) ≡ drop numberSize (drop 3 s) =
-      take-all doorsSize (drop acknowledgementSize s) (simp length-drop (omega arith)) ∙ sym (drop-drop numberSize 3 s) in
-      let rest = ap₂ _++_ (number-bytes (omega arith)) (doors-bytes (omega arith) ∙ whole) ∙ take-append-drop numberSize (drop 3 s) in
-      ap₂ (λ k t. k ∷ getD s 1 0 ∷ getD s 2 0 ∷ t) (sym (r .kind-is)) rest ∙ head-three s (omega arith)
+      let l : messageSize ≤ length s = r .size-is in
+      let rest = ap₂ _++_ (number-bytes (omega arith)) (doors-bytes l ∙ ap (take doorsSize) (sym (drop-drop numberSize 3 s)))
+      ∙ sym (take-add numberSize doorsSize (drop 3 s)) in
+      ap₂ (λ k t. k ∷ getD s 1 0 ∷ getD s 2 0 ∷ t) (sym (r .kind-is)) rest ∙ head-three s (numberSize + doorsSize) (omega arith)
 
-  pub write-read : (p : Packet) → read s ≡ given p → (bytesOf p ≡ s) × (goodEnds p ≡ true)
+  acknowledgement-stands : {q : Part} → StartsAs s acknowledgementSize 2 (acknowledgementIn s) q → Stands s (part (acknowledgementIn s) acknowledgementSize)
+  acknowledgement-stands r =
+      record {
+        first = acknowledgement-bytes r;
+        among = r .size-is;
+        ends = r .ends;
+        fits = record { number = number-fits (r .size-is); doors = omega arith };
+      }
+
+  message-stands : {q : Part} → StartsAs s messageSize 1 (messageIn s) q → Stands s (part (messageIn s) messageSize)
+  message-stands r =
+      record {
+        first = message-bytes r;
+        among = r .size-is;
+        ends = r .ends;
+        fits = record { number = number-fits (omega (arith, r .size-is)); doors = doors-fit (r .size-is) };
+      }
+
+  pub write-read : (q : Part) → read s ≡ given q → Stands s q
   unfolding read
-  write-read p e = message (read-as _ _ _ _ _ _ e)
+  write-read q e = message (starts-as _ _ _ _ _ _ e)
     where
-      acknowledgement : (ReadAs s acknowledgementSize 2 (acknowledgementIn s) p) ⊎ (refused 12 ≡ given p) → (bytesOf p ≡ s) × (goodEnds p ≡ true)
-      acknowledgement (inl r) = rw (← r .same) (acknowledgement-bytes r, r .ends)
+      acknowledgement : (StartsAs s acknowledgementSize 2 (acknowledgementIn s) q) ⊎ (refused 12 ≡ given q) → Stands s q
+      acknowledgement (inl r) = rw (← r .same) (acknowledgement-stands r)
       acknowledgement (inr n) = let z : _≡_ {A = ℕ} 0 1 = cc in absurd (omega arith)
 
-      message : (ReadAs s messageSize 1 (messageIn s) p) ⊎ (readAs s acknowledgementSize 2 (acknowledgementIn s) (refused 12) ≡ given p)
-          → (bytesOf p ≡ s) × (goodEnds p ≡ true)
-      message (inl r) = rw (← r .same) (message-bytes r, r .ends)
-      message (inr o) = acknowledgement (read-as _ _ _ _ _ _ o)
+      message : (StartsAs s messageSize 1 (messageIn s) q) ⊎ (startsAs s acknowledgementSize 2 (acknowledgementIn s) (refused 12) ≡ given q)
+          → Stands s q
+      message (inl r) = rw (← r .same) (message-stands r)
+      message (inr o) = acknowledgement (starts-as _ _ _ _ _ _ o)
 
-  pub read-writes : (p : Packet) → read s ≡ given p → write p ≡ record { size = given (length s); bytes = padded s }
-  read-writes p e =
-      let r = write-read p e in
-      write-good p (r .1) ∙ rw (r .0)
+  -- the bytes are those of the packet, followed by the rest
+  pub read-rest : (q : Part) → read s ≡ given q → bytesOf (q .packet) ++ drop (q .used) s ≡ s
+  read-rest q e = ap (λ l. l ++ drop (q .used) s) (write-read q e .first) ∙ take-append-drop (q .used) s
+
+  pub read-used : (q : Part) → read s ≡ given q → length (bytesOf (q .packet)) ≡ q .used
+  read-used q e =
+      let r = write-read q e in
+      ap length (r .first) ∙ length-take-le (q .used) s (r .among)
+
+  pub read-writes : (q : Part) → read s ≡ given q → write (q .packet) ≡ record { size = given (q .used); bytes = padded (take (q .used) s) }
+  read-writes q e =
+      let r = write-read q e in
+      write-good (q .packet) (r .ends)
+      ∙ ap₂ (λ n b. record { size = given n; bytes = padded b }) (read-used q e) (r .first)

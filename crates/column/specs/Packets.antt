@@ -1,8 +1,8 @@
--- Packets and their bytes, after document 01, "Packets" and "What a column holds".
+-- Packets and their bytes, after document 01, "Packets" and "What a column holds"; their reader after document 02, Point 5.
 use Prim.Native.Nat.{ℕ, zero, suc, _+_, _-_, _*_, _/_, _%_}
 use mathlib.Core.Bool.{Bool, true, false, not, _&&_, cond}
 use mathlib.Core.List.{List, [], _∷_, _++_, reverse}
-use lib.Dec.{eqb, ltb}
+use lib.Dec.{eqb, ltb, leb}
 use lib.ListN.{length, take, drop, getD, replicate}
 use Rattle.column.specs.Refusals.{Given, given, refused}
 use Rattle.column.specs.Sets.{has}
@@ -99,11 +99,20 @@ write p =
     (record { size = given (length (bytesOf p)); bytes = padded (bytesOf p) })
     (record { size = refused 12; bytes = replicate messageSize 0 })
 
--- ---- the reader: "12: packet bytes not exactly one packet"
+-- ---- the reader: "now accepts bytes after a packet and also answers how many bytes it used, 13 or 5", "refusal 12 now means that none stands at
+-- the start"
+
+-- a packet and how many bytes it takes
+pub record Part : Type 0 where
+  pub packet : Packet
+  pub used : ℕ
+
+abbrev pub part : Packet → ℕ → Part
+part p n = record { packet = p; used = n }
 
 -- the values of each case of `Reading`
-abbrev pub readMeant : Reading → Given Packet
-readMeant (reading.Is p) = given p
+abbrev pub readMeant : Reading → Given Part
+readMeant (reading.Is p n) = given (part p n)
 readMeant (reading.Refused n) = refused n
 
 abbrev pub numberIn : List ℕ → ℕ
@@ -115,12 +124,12 @@ messageIn s = Message (getD s 1 0) (getD s 2 0) (numberIn s) (lowValue (take doo
 abbrev pub acknowledgementIn : List ℕ → Packet
 acknowledgementIn s = Acknowledgement (getD s 1 0) (getD s 2 0) (numberIn s)
 
--- a packet of a size and kind, with good ends
-abbrev pub readAs : List ℕ → ℕ → ℕ → Packet → Given Packet → Given Packet
-readAs s count kind p other = cond (eqb (length s) count && eqb (getD s 0 0) kind) (cond (goodEnds p) (given p) (refused 12)) other
+-- bytes that begin with a kind begin with its packet, if they are enough and its ends good
+abbrev pub startsAs : List ℕ → ℕ → ℕ → Packet → Given Part → Given Part
+startsAs s count kind p other = cond (eqb (getD s 0 0) kind) (cond (leb count (length s) && goodEnds p) (given (part p count)) (refused 12)) other
 
-unfoldable pub read : List ℕ → Given Packet
+unfoldable pub read : List ℕ → Given Part
 read s =
-    readAs s messageSize 1 (messageIn s)
-    (readAs s acknowledgementSize 2 (acknowledgementIn s)
+    startsAs s messageSize 1 (messageIn s)
+    (startsAs s acknowledgementSize 2 (acknowledgementIn s)
     (refused 12))

@@ -12,7 +12,7 @@ ghost use mathlib.Core.List.{_∷_, _++_};
 ghost use mathlib.Core.Path.{_≡_};
 ghost use lib.ListN.{replicate};
 ghost use Rattle.column.specs.Refusals.{given, refused};
-ghost use Rattle.column.specs.Packets.{numberSize, doorsSize, highFirst, goodEnds, readMeant, read, writeMeant, write};
+ghost use Rattle.column.specs.Packets.{numberSize, doorsSize, highFirst, goodEnds, part, readMeant, read, writeMeant, write};
 
 // "A message is 13 bytes: kind 1, from, to, number (two bytes, high first), doors. An acknowledgement is 5 bytes: kind 2, from, to, number."
 const MESSAGE: u8 = 1;
@@ -30,7 +30,7 @@ const ACKNOWLEDGEMENT_SIZE: usize = HEAD_SIZE + NUMBER_SIZE;
 const MESSAGE_SIZE: usize = ACKNOWLEDGEMENT_SIZE + DOORS_SIZE;
 
 pub enum Reading {
-    Is(Packet),
+    Is { packet: Packet, used: usize },
     Refused(u8),
 }
 
@@ -58,17 +58,17 @@ fn good_ends(p: Packet) -> bool
     from != to
 }
 
-fn checked(p: Packet) -> Reading
-    ensures { λ r. ⌜ readMeant r ≡ cond (goodEnds p) (given p) (refused 12) ⌝ }
+fn checked(p: Packet, used: usize) -> Reading
+    ensures { λ r. ⌜ readMeant r ≡ cond (goodEnds p) (given (part p used)) (refused 12) ⌝ }
 {
     if good_ends(p) {
-        Reading::Is(p)
+        Reading::Is { packet: p, used }
     } else {
         Reading::Refused(12)
     }
 }
 
-// The packet that these bytes are, no more and no fewer; or 12.
+// The packet that stands at the start of these bytes and how many of them it takes, 13 or 5; or 12 where none does.
 pub fn read(s: &[u8]) -> Reading
     ensures { λ r. ⌜ readMeant r ≡ read (now (s .entry)) ⌝ }
 {
@@ -80,25 +80,28 @@ pub fn read(s: &[u8]) -> Reading
     let from = s[1];
     let to = s[2];
     let number = high_value(&s[HEAD_SIZE..ACKNOWLEDGEMENT_SIZE]) as Number;
-    if size == ACKNOWLEDGEMENT_SIZE {
-        if kind != ACKNOWLEDGEMENT {
-            return Reading::Refused(12);
-        }
-        return checked(Packet::Acknowledgement { from, to, number });
-    }
-    if size != MESSAGE_SIZE {
-        return Reading::Refused(12);
+    if kind == ACKNOWLEDGEMENT {
+        return checked(
+            Packet::Acknowledgement { from, to, number },
+            ACKNOWLEDGEMENT_SIZE,
+        );
     }
     if kind != MESSAGE {
         return Reading::Refused(12);
     }
+    if size < MESSAGE_SIZE {
+        return Reading::Refused(12);
+    }
     let doors = low_value(&s[ACKNOWLEDGEMENT_SIZE..MESSAGE_SIZE]);
-    checked(Packet::Message {
-        from,
-        to,
-        number,
-        doors,
-    })
+    checked(
+        Packet::Message {
+            from,
+            to,
+            number,
+            doors,
+        },
+        MESSAGE_SIZE,
+    )
 }
 
 // What the two kinds have in common, the rest 0.

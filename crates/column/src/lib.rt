@@ -1,7 +1,8 @@
 // The core of one column of a locker bank, which can be had alone. By value, with no heap and no global state.
-// Functions of public modules ask nothing of their arguments: what document 01 refuses is answered by its number, and nothing changes.
+// Functions of public modules ask nothing of their arguments: what the papers refuse is answered by its number, and nothing changes.
 pub mod codec;
 mod effect;
+pub mod frame;
 pub mod members;
 mod number_bytes;
 pub mod packet;

@@ -1,32 +1,32 @@
-// Two lone cores, a root and its child, pass one order over bytes: the message down, the acknowledgement up.
-// Each packet is printed as the bytes that go over the line, and each column's record as it is in the end.
-// Then what the core answers of a larger tree.
+// The two ends of a line: at one the core of a root, at the other those of its two children. One order goes down in a frame of two messages, and
+// the two acknowledgements come up in one. Each frame is printed as the bytes that go over the line, and each column's record as it is in the end,
+// with whom it still awaits. Then what the core answers of a larger tree.
+mod line;
 mod print;
 mod tree;
 
-use crate::print::print_bytes;
+use crate::line::over_the_line;
+use crate::line::received;
+use crate::print::print;
 use crate::print::print_doors;
 use crate::print::print_line;
-use crate::print::wide;
-use column::codec::Reading;
-use column::codec::Size;
-use column::codec::read;
-use column::codec::write;
-use column::packet::Packet;
+use crate::print::print_set;
 use column::state::Column;
 use column::state::FreshColumn;
 use column::state::fresh;
-use column::step::Answer;
-use column::step::Outcome;
 use column::step::ack;
 use column::step::order;
 use column::step::send;
-use column::step::take;
 use column::tree::Tree;
 
 const ROOT: usize = 0;
 
-const CHILD: usize = 1;
+const FIRST: usize = 1;
+
+const SECOND: usize = 2;
+
+// Two messages.
+const FRAME_SIZE: usize = 26;
 
 // Doors 1 and 10: bit 0 of byte 0 and bit 1 of byte 1.
 const DOORS: u64 = 1 + 2 * 256;
@@ -36,68 +36,41 @@ fn print_column(i: usize, c: Column) {
     print_line(b"column=", i as u64);
     print_line(b"number=", number as u64);
     print_doors(c.doors);
-}
-
-fn refused(c: Column, n: u8) -> Outcome {
-    print_line(b"refused=", wide(n));
-    Outcome {
-        column: c,
-        answer: Answer::Refused(n),
-    }
-}
-
-// The packet goes over the line as bytes, and column i takes what it reads from them.
-fn over_the_line(t: Tree, i: usize, c: Column, p: Packet) -> Outcome {
-    let written = write(p);
-    let size = written.size;
-    let bytes = written.bytes;
-    match size {
-        Size::Refused(n) => refused(c, n),
-        Size::Is(n) => {
-            let packet = &bytes[..n];
-            print_bytes(b"packet=", packet);
-            match read(packet) {
-                Reading::Refused(m) => refused(c, m),
-                Reading::Is(q) => take(t, i, c, q),
-            }
-        }
-    }
-}
-
-// What a step puts is taken by column i; a step that puts nothing leaves it as it is.
-fn delivered(t: Tree, i: usize, c: Column, answer: Answer) -> Outcome {
-    match answer {
-        Answer::Put(p) => over_the_line(t, i, c, p),
-        Answer::Left(p) => over_the_line(t, i, c, p),
-        Answer::Refused(n) => refused(c, n),
-        Answer::Done => Outcome {
-            column: c,
-            answer: Answer::Done,
-        },
-    }
+    print_set(b"awaited=", c.awaited);
+    print(b"\n");
 }
 
 fn exchange() {
     let t = Tree {
-        columns: 2,
+        columns: 3,
         root: ROOT,
         up: [ROOT; 16],
     };
     let FreshColumn::Is(root) = fresh(t, ROOT) else {
         return;
     };
-    let FreshColumn::Is(child) = fresh(t, CHILD) else {
+    let FreshColumn::Is(first) = fresh(t, FIRST) else {
+        return;
+    };
+    let FreshColumn::Is(second) = fresh(t, SECOND) else {
         return;
     };
     let ordered = order(t, ROOT, root, DOORS);
     let sent = send(t, ROOT, ordered.column);
+    let sent_on = send(t, ROOT, sent.column);
     let message = sent.answer;
-    let taken = delivered(t, CHILD, child, message);
-    let acknowledged = ack(t, CHILD, taken.column);
+    let message_on = sent_on.answer;
+    let mut down = [0u8; FRAME_SIZE];
+    let down_size = over_the_line(&mut down, message, message_on);
+    let acknowledged = ack(t, FIRST, received(t, FIRST, first, &down[..down_size]));
+    let acknowledged_on = ack(t, SECOND, received(t, SECOND, second, &down[..down_size]));
     let acknowledgement = acknowledged.answer;
-    let ended = delivered(t, ROOT, sent.column, acknowledgement);
-    print_column(ROOT, ended.column);
-    print_column(CHILD, acknowledged.column);
+    let acknowledgement_on = acknowledged_on.answer;
+    let mut up = [0u8; FRAME_SIZE];
+    let up_size = over_the_line(&mut up, acknowledgement, acknowledgement_on);
+    print_column(ROOT, received(t, ROOT, sent_on.column, &up[..up_size]));
+    print_column(FIRST, acknowledged.column);
+    print_column(SECOND, acknowledged_on.column);
 }
 
 fn main() {

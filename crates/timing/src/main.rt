@@ -1,10 +1,11 @@
-// Many laps of one step, for the benchmark beside plain C. Standard input is the letter of a lone column's step and the number of laps,
-// as `s 1000`; or a bank's letter, N, H, S or T, its columns in two digits, the packets under way in three and the number of laps, as
-// `T 16 100 1000`; or D, F or G, a bank dispatched to rest, and the number of laps. What is printed folds what each lap left into one number,
-// so that no step can be left out.
+// Many laps of one step, for the benchmark beside plain C. Standard input is the letter of a lone column's step, or f for a frame read, or D, F
+// or G for a bank dispatched to rest, and the number of laps, as `s 1000`; or a bank's letter, N, H, S or T, its columns in two digits, the
+// packets under way in three and the number of laps, as `T 16 100 1000`. What is printed folds what each lap left into one number, so that no
+// step can be left out.
 mod bank_laps;
 mod column_laps;
 mod dispatch_laps;
+mod frame_laps;
 mod laps;
 
 use laps::number;
@@ -23,6 +24,7 @@ fn main() {
             number(&input[9..]),
         ),
         b'D' | b'F' | b'G' => dispatch_laps::run(letter, number(&input[2..])),
+        b'f' => frame_laps::run(number(&input[2..])),
         _ => column_laps::run(letter, number(&input[2..])),
     };
     io::print_decimal(STDOUT_FILENO, sum);

@@ -1,19 +1,17 @@
 -- `codec::read` meets its contract: each way out has the tests of the definition, and the calls give the packet's fields.
 -- Assumes nothing.
+use mathlib.Core.Path.{sym}
 use native.Mathlib.Omega.{arith}
-use lib.ListN.{length, take, drop, length-take}
-use borrow.Author.Tests.{eq-eqb, ne-eqb}
+use lib.ListN.{length, getD, take, drop, length-take}
+use borrow.Author.Tests.{eq-eqb, ne-eqb, le-leb, lt-leb}
 use Rattle.column.specs.Packets.{numberSize, acknowledgementSize, messageSize, read}
-use Rattle.column.specs.PacketLaws.{high-value-lt, part-bytes}
+use Rattle.column.specs.PacketLaws.{high-value-lt, part-bytes, read-short}
 use borrow.Author.Needs.{needs}
 use Rattle.column.proofs.codec.read.Statement.{statement}
 use Rattle.column.proofs.codec.read.Tie as tie
 
 returns : tie.Need-returns
-unfolding read
-returns c =
-    let s = c .before .before .args .s .now in
-    rw (ne-eqb (length s) messageSize (λ e. omega arith), ne-eqb (length s) acknowledgementSize (λ e. omega arith))
+returns c = sym (read-short (c .before .before .args .s .now) (omega arith))
 
 shared-slice-read-kind : tie.Need-shared-slice-read-kind
 shared-slice-read-kind c = search needs
@@ -43,26 +41,28 @@ cast-number c =
     let bytes = part-bytes s (λ i. k .shared-slice-known4 .given i .fits) 3 numberSize in
     omega (arith, high-value-lt numberSize (take numberSize (drop 3 s)) bytes (simp length-take (omega arith)))
 
-returns-2 : tie.Need-returns-2
-unfolding read
-returns-2 c = rw (c .before .if2 .taken, ne-eqb _ 2 (c .if3 .taken))
-
 checked-requires : tie.Need-checked-requires
 checked-requires c κs = search needs
+
+returns-2 : tie.Need-returns-2
+unfolding read
+returns-2 c =
+    let k = c .before .before in
+    let s = k .before .before .before .before .before .before .before .args .s .now in
+    rw (ne-eqb (getD s 0 0) 1 (λ e. omega arith), eq-eqb (getD s 0 0) 2 (c .before .if2 .taken), le-leb acknowledgementSize (length s) (omega arith))
+    (rw (k .high-value .ensures) at (c .checked .ensures))
 
 returns-3 : tie.Need-returns-3
 unfolding read
 returns-3 c =
-    let k = c .before .before in
-    rw (k .if2 .taken, eq-eqb _ 2 (c .before .if3 .left)) (rw (k .before .high-value .ensures) at (c .checked .ensures))
+    let s = c .before .before .before .before .before .before .before .before .before .args .s .now in
+    rw (ne-eqb (getD s 0 0) 1 (c .if3 .taken), ne-eqb (getD s 0 0) 2 (c .before .if2 .left))
 
 returns-4 : tie.Need-returns-4
 unfolding read
-returns-4 c = rw (ne-eqb _ messageSize (c .if4 .taken), ne-eqb _ acknowledgementSize (c .before .if2 .left))
-
-returns-5 : tie.Need-returns-5
-unfolding read
-returns-5 c = rw (c .before .if4 .left, ne-eqb _ 1 (c .if5 .taken))
+returns-4 c =
+    let s = c .before .before .before .before .before .before .before .before .before .before .args .s .now in
+    rw (eq-eqb (getD s 0 0) 1 (c .before .if3 .left), lt-leb messageSize (length s) (omega arith))
 
 sub-low-value : tie.Need-sub-low-value
 sub-low-value c = search needs
@@ -79,12 +79,14 @@ low-value-requires c κs = search needs
 checked-requires-2 : tie.Need-checked-requires-2
 checked-requires-2 c κs = search needs
 
-returns-6 : tie.Need-returns-6
+returns-5 : tie.Need-returns-5
 unfolding read
-returns-6 c =
+returns-5 c =
     let k = c .before .before .before in
     let h = k .before .before .before in
-    rw (k .before .if4 .left, eq-eqb _ 1 (k .if5 .left)) (rw (h .high-value .ensures, c .before .low-value .ensures) at (c .checked2 .ensures))
+    let s = h .before .before .before .before .before .before .before .args .s .now in
+    rw (eq-eqb (getD s 0 0) 1 (k .before .if3 .left), le-leb messageSize (length s) (k .if4 .left))
+    (rw (h .high-value .ensures, c .before .low-value .ensures) at (c .checked2 .ensures))
 
 pub read-spec : {M : Type 1} → statement M
 read-spec =
@@ -99,14 +101,13 @@ read-spec =
     part-high-value-end
     high-value-requires
     cast-number
-    returns-2
     checked-requires
+    returns-2
     returns-3
     returns-4
-    returns-5
     sub-low-value
     part-low-value-start
     part-low-value-end
     low-value-requires
     checked-requires-2
-    returns-6)
+    returns-5)

@@ -1,0 +1,98 @@
+use Prim.Native.Nat.{_-_, _≤_}
+use lib.ListN.{length}
+use borrow.Author.Needs.{needs}
+use Rattle.frames.proofs.input.show_frames.Statement.{statement}
+use Rattle.frames.proofs.input.show_frames.Tie as tie
+
+abbrev Inv-loop : tie.InvT-loop
+Inv-loop input at₀ t5 at = at ≤ length input
+
+abbrev μ-loop : tie.MeasureT-loop
+μ-loop input at₀ t5 at = length input - at
+
+loop-holds : tie.Need-loop-holds Inv-loop μ-loop
+loop-holds c = search needs
+
+sub-loop : tie.Need-sub-loop Inv-loop μ-loop
+sub-loop c = search needs
+
+shared-slice-read-number : tie.Need-shared-slice-read-number Inv-loop μ-loop
+shared-slice-read-number c = search needs
+
+add-number : tie.Need-add-number Inv-loop μ-loop
+add-number c = search needs
+
+shared-slice-read-number-2 : tie.Need-shared-slice-read-number-2 Inv-loop μ-loop
+shared-slice-read-number-2 c = search needs
+
+number-requires : tie.Need-number-requires Inv-loop μ-loop
+number-requires c κs = search needs
+
+add-start : tie.Need-add-start Inv-loop μ-loop
+add-start c = search needs
+
+sub-if1 : tie.Need-sub-if1 Inv-loop μ-loop
+sub-if1 c = search needs
+
+returns : tie.Need-returns Inv-loop μ-loop
+returns c = search needs
+
+add-show-frame : tie.Need-add-show-frame Inv-loop μ-loop
+add-show-frame c = search needs
+
+sub-show-frame : tie.Need-sub-show-frame Inv-loop μ-loop
+sub-show-frame c = search needs
+
+part-show-frame-start : tie.Need-part-show-frame-start Inv-loop μ-loop
+part-show-frame-start c = search needs
+
+part-show-frame-end : tie.Need-part-show-frame-end Inv-loop μ-loop
+part-show-frame-end c = search needs
+
+show-frame-requires : tie.Need-show-frame-requires Inv-loop μ-loop
+show-frame-requires c κs = search needs
+
+slice-aggregate-print : tie.Need-slice-aggregate-print Inv-loop μ-loop
+slice-aggregate-print c = search needs
+
+print-requires : tie.Need-print-requires Inv-loop μ-loop
+print-requires c κs = search needs
+
+add-at : tie.Need-add-at Inv-loop μ-loop
+add-at c = search needs
+
+loop-less : tie.Need-loop-less Inv-loop μ-loop
+loop-less c = search needs
+
+loop-again : tie.Need-loop-again Inv-loop μ-loop
+loop-again c = search needs
+
+returns-2 : tie.Need-returns-2 Inv-loop μ-loop
+returns-2 c = search needs
+
+pub show-frames-spec : {M : Type 1} → statement M
+show-frames-spec =
+    tie.close
+    (tie.spec
+    Inv-loop
+    μ-loop
+    loop-holds
+    sub-loop
+    shared-slice-read-number
+    add-number
+    shared-slice-read-number-2
+    number-requires
+    add-start
+    sub-if1
+    returns
+    add-show-frame
+    sub-show-frame
+    part-show-frame-start
+    part-show-frame-end
+    show-frame-requires
+    slice-aggregate-print
+    print-requires
+    add-at
+    loop-less
+    loop-again
+    returns-2)

@@ -1,0 +1,50 @@
+// The frames of standard input, each after its size in two bytes, high first; with all their packets.
+use crate::print::print;
+use crate::print::print_answer;
+use crate::print::print_packet;
+use column::frame::Count;
+use column::frame::read_frame;
+use libc::STDIN_FILENO;
+
+const LIMIT: usize = 65536;
+
+fn show_frame(bytes: &[u8]) {
+    let frame = read_frame(bytes);
+    print_answer(frame);
+    let count = frame.count;
+    let Count::Is(n) = count else {
+        return;
+    };
+    let packets = frame.packets;
+    let mut k = 0;
+    while k < n {
+        let slot = packets[k];
+        let packet = slot.packet;
+        print_packet(b" ", packet);
+        k += 1;
+    }
+}
+
+fn number(high: u8, low: u8) -> usize {
+    high as usize * 256 + low as usize
+}
+
+fn show_frames(input: &[u8]) {
+    let mut at = 0;
+    while 2 <= input.len() - at {
+        let size = number(input[at], input[at + 1]);
+        let start = at + 2;
+        if input.len() - start < size {
+            return;
+        }
+        show_frame(&input[start..start + size]);
+        print(b"\n");
+        at = start + size;
+    }
+}
+
+pub fn show() {
+    let mut input = [0u8; LIMIT];
+    let n = io::read_full(STDIN_FILENO, &mut input);
+    show_frames(&input[..n]);
+}

@@ -1,0 +1,10 @@
+// Frames as the core reads them, one to a line: first those of `edges.rt`, then those of standard input. Of each stands how many packets it has,
+// or its refusal, and how many of the 512 places hold a packet.
+mod edges;
+mod input;
+mod print;
+
+fn main() {
+    edges::show();
+    input::show();
+}
