@@ -7,15 +7,22 @@ uint8_t tree_refusal(const struct tree *t) {
         return 2;
     if (t->root >= n)
         return 3;
-    for (size_t c = 0; c < n; c++)
-        if (t->up[c] >= n)
+    uint32_t listed = 0;
+    for (size_t c = 0; c < n; c++) {
+        if (t->up[c] >= n || t->first[c] >= n)
             return 3;
+        listed |= 1u << t->first[c];
+    }
+    if (listed != (1u << n) - 1)
+        return 3;
     if (t->up[t->root] != t->root)
         return 3;
     for (size_t c = 0; c < n; c++) {
         size_t at = c, budget = n;
         while (budget > 0 && at != t->root) {
             at = t->up[at];
+            if (at < c)
+                break;
             budget--;
         }
         if (budget == 0)
@@ -62,7 +69,7 @@ struct answer order(const struct tree *t, size_t i, struct column *c, uint64_t d
 }
 
 struct packet send_effect(const struct tree *t, size_t i, struct column *c) {
-    size_t k = lowest(c->send);
+    size_t k = earliest(t, c->send);
     c->send &= ~(1u << k);
     if (k == i)
         return (struct packet){0};

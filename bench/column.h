@@ -9,7 +9,10 @@ struct tree {
     size_t columns;
     size_t root;
     size_t up[16];
+    size_t first[16];
 };
+
+#define ASCENDING {0, 1, 2, 3, 4, 5, 6, 7, 8, 9, 10, 11, 12, 13, 14, 15}
 
 struct column {
     uint64_t doors;
@@ -42,6 +45,14 @@ struct answer halt(const struct tree *t, size_t i, struct column *c);
 
 /* What the steps of a bank use: the checks, and the effects without them. */
 static inline bool has(uint16_t set, size_t i) { return i < 16 && (set >> i & 1); }
+
+/* The member of a set that stands earliest in the tree's sequence. */
+static inline size_t earliest(const struct tree *t, uint16_t set) {
+    const size_t *c = t->first;
+    while (!(set >> *c & 1))
+        c++;
+    return *c;
+}
 
 static inline bool within(uint16_t set, size_t n) { return n >= 16 || set >> n == 0; }
 

@@ -14,7 +14,7 @@ static bool fits(const struct bank *b, uint16_t halted, size_t j) { return b->co
 static bool can_send(const struct bank *b, uint16_t halted, size_t i, const struct column *c) {
     if (!c->send)
         return false;
-    size_t k = (size_t)__builtin_ctz(c->send);
+    size_t k = earliest(&b->tree, c->send);
     return k == i || has(c->noted, k) || fits(b, halted, k);
 }
 

@@ -16,7 +16,7 @@ static struct column column(uint64_t lap, bool whole) {
 }
 
 static struct column column_lap(char letter, uint64_t lap) {
-    struct tree t = {16, 0, {0, 0, 0, 1, 1, 2, 2, 3, 3, 4, 4, 5, 5, 6, 6, 6 + lap % 2}};
+    struct tree t = {16, 0, {0, 0, 0, 1, 1, 2, 2, 3, 3, 4, 4, 5, 5, 6, 6, 6 + lap % 2}, ASCENDING};
     struct column c = column(lap, letter == 'o' || letter == 's' || letter == 'e' || letter == 'n' || letter == 'r');
     switch (letter) {
     case 'o': order(&t, 0, &c, lap); break;
@@ -61,7 +61,7 @@ static uint64_t frame_laps(uint64_t laps) {
 
 /* ---- a bank */
 
-static struct bank bank = {.tree = {0, 0, {0, 0, 0, 1, 1, 2, 2, 3, 3, 4, 4, 5, 5, 6, 6, 7}}};
+static struct bank bank = {.tree = {0, 0, {0, 0, 0, 1, 1, 2, 2, 3, 3, 4, 4, 5, 5, 6, 6, 7}, ASCENDING}};
 
 static void start(size_t columns) {
     bank.tree.columns = columns;
@@ -138,7 +138,7 @@ static void taken_over(bool first) {
 static void prepare(char letter) {
     if (letter != 'D')
         memset(bank.tree.up, 0, sizeof bank.tree.up);
-    struct tree t = {16, 0, {0}};
+    struct tree t = {16, 0, {0}, ASCENDING};
     memcpy(t.up, bank.tree.up, sizeof t.up);
     bank_fresh(&bank, &t);
     bank_order(&bank, 513);

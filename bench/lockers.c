@@ -111,24 +111,34 @@ static bool doors_read(struct cursor *c, uint64_t *doors) {
     return true;
 }
 
+/* A line's numbers up to its end, and how many they are; past the sixteenth they are counted alone. */
+static bool numbers(struct cursor *c, size_t *list, size_t *count) {
+    size_t number;
+    *count = 0;
+    do {
+        if (!numeral(c, 2, &number))
+            return false;
+        if (*count < 16)
+            list[*count] = number;
+        (*count)++;
+    } while (literal(c, ","));
+    return literal(c, "\n");
+}
+
 /* The table's refusal, 0 where the bank is fresh and the cursor stands after it. */
 static uint8_t table(struct cursor *c) {
-    struct tree t = {0};
-    size_t count = 0, parent;
+    struct tree t = {.first = ASCENDING};
+    size_t parents, listed;
     if (!literal(c, "columns=") || !numeral(c, 2, &t.columns) || !literal(c, "\nroot=") || !numeral(c, 2, &t.root) || !literal(c, "\nup="))
         return 1;
-    do {
-        if (!numeral(c, 2, &parent))
-            return 1;
-        if (count < 16)
-            t.up[count] = parent;
-        count++;
-    } while (literal(c, ","));
-    if (!literal(c, "\n"))
+    if (!numbers(c, t.up, &parents))
+        return 1;
+    bool named = literal(c, "first=");
+    if (named && !numbers(c, t.first, &listed))
         return 1;
     if (t.columns == 0 || t.columns > 16)
         return 2;
-    uint8_t refusal = count == t.columns ? tree_refusal(&t) : 3;
+    uint8_t refusal = parents == t.columns && (!named || listed == t.columns) ? tree_refusal(&t) : 3;
     if (!refusal)
         bank_fresh(&bank, &t);
     return refusal;

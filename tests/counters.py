@@ -18,13 +18,16 @@ REFUSALS = {
     "halt": ["4: no such column", "4: no such later column", "5: halted", "5: a later one halted"],
     "list": ["4: no such column", "5: halted"],
     "line": ["13: no such form", "13: unended"],
-    "input": ["1: another form", "2: no column", "2: more than 16 columns", "3: root not below columns", "3: parent not below columns",
-              "3: another length", "3: root not its own parent", "3: a climb that misses the root", "13: past the limit"],
+    "input": ["1: another form", "1: another form of the sequence", "2: no column", "2: more than 16 columns", "3: root not below columns", "3: parent not below columns",
+              "3: another length", "3: root not its own parent", "3: a climb that misses the root", "3: a sequence of another length",
+              "3: a sequence that exceeds a column", "3: a sequence that repeats a column", "13: past the limit"],
 }
 # The model knows more words, and they fail the run where it tells them: an acknowledgement of a higher number (it has the number of a message that its
 # receiver sent, and numbers rise), 8 (65,535 orders do not fit into a script), 9 (no network fills, `never-nine` of
 # crates/agreement), and a run until a refused step, which only 9 could bring about.
 BRANCHES = [
+    "table with a sequence", "table without a sequence", "send to the earliest, not the lowest",
+    "ack, the lowest owed not the earliest", "left take, the lowest owed not the earliest",
     "the first order", "a further order after rest", "a further order before rest",
     "send to itself", "send to a noted column, whose children join", "send to a noted column without children", "send to a running column",
     "send to a halted column, not noted",

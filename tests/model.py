@@ -1,5 +1,5 @@
 #!/usr/bin/env python3
-"""The script program of document 01, with Points 1 and 2 of document 02, written from the papers: sets as sets, packets as tuples, text by patterns. Beside the bank stand the words of
+"""The script program of document 01, with Points 1, 2 and 6 of document 02, written from the papers: sets as sets, packets as tuples, text by patterns. Beside the bank stand the words of
 demand 3 (received, awaits), tracked from the steps and their answers. `tell` is told in words which condition or branch each line met.
 
     python3 tests/model.py < script
@@ -45,8 +45,8 @@ class Column:
 class Bank:
     """A bank with its network, and beside it the words of demand 3."""
 
-    def __init__(self, columns, root, up, tell):
-        self.root, self.up, self.tell = root, up, tell
+    def __init__(self, columns, root, up, first, tell):
+        self.root, self.up, self.first, self.tell = root, up, first, tell
         self.columns = [Column(i == root) for i in range(columns)]
         self.network = []
         self.orders = []
@@ -56,6 +56,9 @@ class Bank:
 
     def children(self, i):
         return {c for c, parent in enumerate(self.up) if parent == i and c != self.root}
+
+    def earliest(self, columns):
+        return min(columns, key=self.first.index)
 
     def acting(self, i):
         refuse(4, i >= len(self.columns) and "no such column")
@@ -120,7 +123,9 @@ class Bank:
     def send(self, i):
         column = self.acting(i)
         refuse(6, self.refused_send(i))
-        c = min(column.send)
+        c = self.earliest(column.send)
+        if c != min(column.send):
+            self.tell("send to the earliest, not the lowest")
         if c == i:
             self.tell("send to itself")
         elif c in column.noted:
@@ -142,6 +147,8 @@ class Bank:
             self.tell("left take, one owed" if len(column.owed) == 1 else "left take, several owed")
             if not self.columns[min(column.owed)].running:
                 self.tell("left take, the lowest owed halted")
+            if min(column.owed) != self.earliest(column.owed):
+                self.tell("left take, the lowest owed not the earliest")
             if self.columns[self.root].running:
                 self.tell("left take, the root running")
             self.acknowledge(to, min(column.owed))
@@ -187,6 +194,8 @@ class Bank:
         self.tell("ack with goal whole while busy" if busy else "ack with goal whole, idle" if column.whole else "ack with own goal, idle")
         if not self.columns[min(column.owed)].running:
             self.tell("ack, the lowest owed halted")
+        if min(column.owed) != self.earliest(column.owed):
+            self.tell("ack, the lowest owed not the earliest")
         self.acknowledge(i, min(column.owed))
 
     def all(self, i):
@@ -289,12 +298,22 @@ def numbers(text):
     return [int(numeral) for numeral in text.split(",")]
 
 
+def sequence(text):
+    """The numbers of the line that begins `first=`, where a text begins with it, and what follows it."""
+    if not text.startswith("first="):
+        return None, text
+    found = re.match(rf"first={NUMERALS}\n", text)
+    refuse(1, not found and "another form of the sequence")
+    return numbers(found.group(1)), text[found.end():]
+
+
 def table(text, tell):
     """The bank of a table at the start of a text, and what follows it."""
     found = re.match(rf"columns={NUMERAL}\nroot={NUMERAL}\nup={NUMERALS}\n", text)
     refuse(1, not found and "another form")
     columns, root = int(found.group(1)), int(found.group(2))
     up = numbers(found.group(3))
+    first, rest = sequence(text[found.end():])
     refuse(2, columns == 0 and "no column")
     refuse(2, columns > 16 and "more than 16 columns")
     refuse(3, root >= columns and "root not below columns")
@@ -305,7 +324,13 @@ def table(text, tell):
         for _ in range(columns):
             c = up[c]
         refuse(3, c != root and "a climb that misses the root")
-    return Bank(columns, root, up, tell), text[found.end():]
+    named = "without a sequence" if first is None else "with a sequence"
+    first = list(range(columns)) if first is None else first
+    refuse(3, len(first) != columns and "a sequence of another length")
+    refuse(3, any(c >= columns for c in first) and "a sequence that exceeds a column")
+    refuse(3, len({*first}) < columns and "a sequence that repeats a column")
+    tell(f"table {named}")
+    return Bank(columns, root, up, first, tell), rest
 
 
 def line(bank, text):

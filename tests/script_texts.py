@@ -44,18 +44,20 @@ FORMS = [
     ("sign", "{step}=+{column}", "{step}=-{column}"),
     ("no equals sign", "{step}{column}", "{step}:{column}"),
     ("unknown key", "jump={column}", "{step}s={column}"),
+    ("sequence past the table", "first={column}", "first={column},{column}", "first={parents}"),
     ("byte above 127", "{step}=\xb2", "{line}\xa0"),
     ("byte 0", "{step}=\0", "{line}\0"),
 ]
-WRONG = 7
+WRONG = 10
 # A template of one line stands in the place of the line with its key.
 TABLE_FORMS = [
-    ("table with a leading zero", "columns=0{digit}", "root=0{digit}", "up=0{digit},{parents}", "up={parents},0{digit}"),
-    ("table with three digits", "columns={three}", "root={three}", "up={parents},{three}"),
-    ("table with no numeral", "columns=", "root=", "up=", "up={parents},,0"),
-    ("table with a trailing comma", "columns={digit},", "root={digit},", "up={parents},"),
-    ("table with a space", "columns= {digit}", "columns={digit} ", "root={digit} ", "up={parents}, 0", "up={parents} ", " up={parents}"),
-    ("table with a carriage return", "columns={digit}\r", "root={digit}\r", "up={parents}\r"),
+    ("table with a leading zero", "columns=0{digit}", "root=0{digit}", "up=0{digit},{parents}", "up={parents},0{digit}",
+     "first=0{digit},{parents}", "first={parents},0{digit}"),
+    ("table with three digits", "columns={three}", "root={three}", "up={parents},{three}", "first={parents},{three}"),
+    ("table with no numeral", "columns=", "root=", "up=", "up={parents},,0", "first=", "first={parents},,0"),
+    ("table with a trailing comma", "columns={digit},", "root={digit},", "up={parents},", "first={parents},"),
+    ("table with a space", "columns= {digit}", "columns={digit} ", "root={digit} ", "up={parents}, 0", "up={parents} ", " up={parents}", "first={parents}, 0", "first={parents} "),
+    ("table with a carriage return", "columns={digit}\r", "root={digit}\r", "up={parents}\r", "first={parents}\r"),
     ("table with an uppercase key", "Columns={digit}", "ROOT={digit}", "Up={parents}"),
     ("table with an empty line", "\ncolumns={digit}", "\nroot={digit}", "\nup={parents}"),
     ("table in another order", "root={digit}\ncolumns={digit}\nup={parents}", "columns={digit}\nup={parents}\nroot={digit}"),
@@ -95,12 +97,20 @@ def parents(rng, columns):
     return order[0], up
 
 
-def table(columns, root, up):
-    return f"columns={columns}\nroot={root}\nup={','.join(map(str, up))}\n"
+def sequence(rng, columns):
+    """A sequence of any kind, or none."""
+    ascending = list(range(columns))
+    return rng.choice([None, None, rng.sample(ascending, columns), rng.sample(ascending, columns), ascending[::-1], ascending])
+
+
+def table(columns, root, up, first=None):
+    """A table, with the line of a sequence where there is one."""
+    listed = "" if first is None else f"first={','.join(map(str, first))}\n"
+    return f"columns={columns}\nroot={root}\nup={','.join(map(str, up))}\n{listed}"
 
 
 def tree(rng, columns):
-    return table(columns, *parents(rng, columns))
+    return table(columns, *parents(rng, columns), sequence(rng, columns))
 
 
 def malformed_table(rng, template):
@@ -109,16 +119,18 @@ def malformed_table(rng, template):
     text = near(rng, template)
     if text.count("=") > 1:
         return text + "\n"
-    keys = [key.split("=")[0] for key in lines]
-    lines[keys.index(re.search("[A-Za-z]+", text)[0].lower())] = text
-    return "\n".join(lines)
+    keys = [key.split("=")[0] for key in lines[:3]] + ["first"]
+    place = keys.index(re.search("[A-Za-z]+", text)[0].lower())
+    return "\n".join(lines[:place] + [text] + (lines[place + 1:] or [""]))
 
 
 def no_tree(rng, wrong):
-    """A table of the form with one of WRONG wrong numbers: the count, the root, a parent, the length, or a climb that goes round."""
+    """A table of the form with one of WRONG wrong numbers: the count, the root, a parent, the length, a climb that goes round, or in the sequence
+    its length, a column listed twice or a number that is no column's."""
     columns = rng.randint(2, 16)
     root, up = parents(rng, columns)
     other = rng.choice([i for i in range(columns) if i != root])
+    first = sequence(rng, columns) if wrong < 7 else rng.sample(range(columns), columns)
     if wrong == 0:
         columns = 0
     elif wrong == 1:
@@ -131,9 +143,15 @@ def no_tree(rng, wrong):
         up = up[:-1] if rng.random() < 0.5 else up + [rng.randrange(columns)] * rng.choice([1, 20])
     elif wrong == 5:
         up[root] = other
-    else:
+    elif wrong == 6:
         up[up[other] if up[other] != root else other] = other
-    return table(columns, root, up)
+    elif wrong == 7:
+        first = first[:-1] if rng.random() < 0.5 else first + [rng.randrange(columns)] * rng.choice([1, 20])
+    elif wrong == 8:
+        first[root] = first[other]
+    else:
+        first[other] = rng.choice([columns, rng.randint(columns, 99)])
+    return table(columns, root, up, first)
 
 
 # ---- bytes

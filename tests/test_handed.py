@@ -24,8 +24,8 @@ class Handed(unittest.TestCase):
         cls.lines = lines
 
     def test_the_count_of_cases(self):
-        self.assertEqual((len(self.steps), len(self.rest), len(self.comparisons), len(self.dispatches)), (221, 29, 17, 14))
-        self.assertEqual(len(self.lines), 221 + 29 + 17 + 14)
+        self.assertEqual((len(self.steps), len(self.rest), len(self.comparisons), len(self.dispatches)), (224, 29, 18, 14))
+        self.assertEqual(len(self.lines), 224 + 29 + 18 + 14)
         self.assertEqual(len({line.split(": ")[0] for line in self.lines}), len(self.lines))
 
     def test_the_comparison_sees_every_part(self):

@@ -5,7 +5,8 @@ use mathlib.Core.Path.{_≡_, refl, sym, ap, ap₂, _∙_}
 use mathlib.Core.Bool.{Bool, true, false, _&&_, cond}
 use lib.Dec.{eqb, ltb}
 use borrow.Author.Tests.{lt-ltb}
-use Rattle.column.specs.Sets.{has, choose}
+use Rattle.column.specs.Sets.{has}
+use Rattle.column.specs.Trees.{choose}
 use Rattle.column.specs.TreeLaws.{check-exact}
 use Rattle.column.specs.Columns.{standing}
 use Rattle.column.specs.Steps as core
@@ -47,7 +48,7 @@ module _ (s : State) (i : ℕ) where
   send-not-six : (t : Tree) (c : Column) → NotSix (core.sendEffect t i c)
   unfolding core.sendEffect NotSix
   send-not-six t c =
-      let x = choose (c .send) in
+      let x = choose t (c .send) in
       either (eqb x i) _ _ (fitting-six s _) (either (has (c .noted) x) _ _ (fitting-six s _) (fitting-six s _))
 
 module _ (w : World) (r : Reached w) where

@@ -12,10 +12,11 @@ use borrow.Author.Tests.{eqb-true, eqb-false, lt-ltb}
 use Rattle.column.specs.Cases.{and-right}
 use Rattle.column.specs.Refusals.{first}
 use Rattle.column.specs.RefusalLaws.{passed, earlier-none}
-use Rattle.column.specs.Sets.{has, join, insert, without, choose, lowest}
+use Rattle.column.specs.Sets.{has, join, insert, without, lowest}
 use Rattle.column.specs.SetLaws.{lowest-member}
-use Rattle.column.specs.Trees.{treeRefusal, children}
+use Rattle.column.specs.Trees.{treeRefusal, choose, children}
 use Rattle.column.specs.TreeLaws.{tree-sixteen}
+use Rattle.column.specs.ChoiceLaws.{choose-member}
 use Rattle.column.specs.StateLaws.{Sound, sound}
 use Rattle.column.specs.Columns.{withSets}
 use Rattle.column.specs.Steps as core
@@ -85,13 +86,13 @@ module _ (s : State) (formed : Formed s) (orders : List ℕ) where
       (λ s' z. move.order d (model-runs s st b below orders (k .0)) (k .1) z))
 
   -- a send to the column itself, to one that is noted, and to another
-  pub refines-send : (i : ℕ) → Refines s orders orders (move.sends i (choose (columnAt (s .bank) i .send))) (send s i)
+  pub refines-send : (i : ℕ) → Refines s orders orders (move.sends i (choose t (columnAt (s .bank) i .send))) (send s i)
   unfolding sendEffect
   refines-send i =
       refines-acting i (sendRefusal t i c) (sendEffect t i c) orders e (λ st below no.
       let k = send-in t i c no in
       let runs = model-runs s st i below orders (k .0) in
-      let m = lowest-in t (st .tree) (c .send) (widths t i c (st .columns i below) .send) (k .1) in
+      let m = member (choose-member t (st .tree) (c .send) (widths t i c (st .columns i below) .send) (omega (arith, k .1))) in
       let below-x = column-sound s st i below .send-below x (m .holds) in
       go st below runs m below-x (eqb x i) (has (c .noted) x) refl refl)
     where
@@ -99,7 +100,7 @@ module _ (s : State) (formed : Formed s) (orders : List ℕ) where
       c = columnAt (s .bank) i
 
       x : ℕ
-      x = choose (c .send)
+      x = choose t (c .send)
 
       e : move.Event
       e = move.sends i x

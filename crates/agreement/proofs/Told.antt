@@ -9,7 +9,8 @@ use lib.Dec.{eqb, ltb, leb}
 use borrow.Author.Tests.{eq-eqb, eqb-true, eqb-false, ltb-true, ltb-false, lt-ltb, le-ltb, leb-false}
 use Rattle.column.specs.Refusals.{first}
 use Rattle.column.specs.RefusalLaws.{passed, earlier-none}
-use Rattle.column.specs.Sets.{has, insert, choose}
+use Rattle.column.specs.Sets.{has, insert}
+use Rattle.column.specs.Trees.{choose}
 use Rattle.column.specs.Packets.{receiver}
 use Rattle.column.specs.Columns.{stateRefusal, withSets}
 use Rattle.column.specs.Steps as core
@@ -139,7 +140,7 @@ module _ (w : World) where
   awaits-told (Order d) o q = refl
   awaits-told (Send i) o q =
       let c = columnAt (s .bank) i in
-      let x = choose (c .send) in
+      let x = choose (s .bank .tree) (c .send) in
       let b = eqb i (rootOf s) && not (has (c .noted) x) in
       changed-at b (changed (w .awaits) x true) (w .awaits) q
       ∙ ap (λ (v : Bool). cond b v (w .awaits q)) (changed-true (w .awaits q) (eqb q x))

@@ -5,7 +5,7 @@ use mathlib.Core.Bool.{_&&_}
 use mathlib.Core.List.{List}
 use lib.Dec.{ltb}
 use lib.ListN.{length}
-use Rattle.column.specs.Sets.{choose}
+use Rattle.column.specs.Trees.{choose}
 use Rattle.column.specs.declared.tree.Tree.{Tree}
 use Rattle.column.specs.declared.state.Column.{Column}
 use Rattle.bank.specs.Words.{numbers}
@@ -37,7 +37,7 @@ OneMove (Halt m) = ⊥
 -- which move a step is
 abbrev pub event : State → (x : Step) → OneMove x → move.Event
 event s (Order doors) o = move.orders doors
-event s (Send i) o = move.sends i (choose (columnAt (s .bank) i .send))
+event s (Send i) o = move.sends i (choose (s .bank .tree) (columnAt (s .bank) i .send))
 event s (Take place) o = move.takes (packetAt s place)
 event s (Ack i) o = move.acknowledges i
 event s (All i) o = move.widens i

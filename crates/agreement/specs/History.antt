@@ -5,7 +5,8 @@ use mathlib.Core.Bool.{Bool, true, false, not, _&&_, cond}
 use mathlib.Core.List.{List, [], _∷_}
 use lib.Dec.{eqb, ltb}
 use lib.ListN.{length}
-use Rattle.column.specs.Sets.{has, choose}
+use Rattle.column.specs.Sets.{has}
+use Rattle.column.specs.Trees.{choose}
 use Rattle.column.specs.Packets.{receiver}
 use Rattle.column.specs.Steps as core
 use Rattle.column.specs.declared.packet.Packet.{Packet}
@@ -78,7 +79,7 @@ receivedAfter w (Halt i) = w .received
 
 -- the column that a send of i serves
 abbrev pub served : State → ℕ → ℕ
-served s i = choose (columnAt (s .bank) i .send)
+served s i = choose (s .bank .tree) (columnAt (s .bank) i .send)
 
 abbrev pub acknowledged : State → Packet → (ℕ → Bool) → ℕ → Bool
 acknowledged s (Message from to number doors) awaits = awaits

@@ -6,20 +6,23 @@ use mathlib.Core.Path.{_≡_, refl, sym, ap, subst, _∙_}
 use mathlib.Core.Logic.{_⊎_, inl, inr}
 use mathlib.Core.Bool.{Bool, true, false, not, _&&_, _||_, cond, true≢false}
 use mathlib.Core.List.{List, [], _∷_, _++_, map}
-use lib.Count.{trailing-le}
 use lib.Dec.{eqb, ltb}
 use lib.ListN.{length, replicate, length-replicate}
 use borrow.Author.Tests.{ltb-true, ltb-false, eqb-true, ne-eqb}
 use Rattle.column.specs.Cases.{truth, and-left, and-right, none-and}
-use Rattle.column.specs.Sets.{has, choose}
+use Rattle.column.specs.Sets.{has}
+use Rattle.column.specs.Trees.{treeRefusal, choose}
 use Rattle.column.specs.SetLaws.{has-none, selected-has}
+use Rattle.column.specs.ChoiceLaws.{choose-le}
 use Rattle.column.specs.TreeLaws.{every-at}
 use Rattle.column.specs.declared.tree.Tree.{Tree}
 use Rattle.column.specs.declared.packet.Packet.{Packet}
 use Rattle.column.specs.declared.packet.Packet.the-variants.{Message, Acknowledgement}
 use Rattle.bank.specs.Banks.{State, columnAt, runs, packetAt, capacity}
 use Rattle.bank.specs.StandingLaws.{Stands, stands}
+use Rattle.bank.specs.Steps as steps
 use Rattle.bank.specs.Steps.{Outcome, accepted, refused, perform}
+use Rattle.bank.specs.Places.{tree-kept}
 use Rattle.bank.specs.Rest.{Running, AtRest}
 use Rattle.bank.specs.RestLaws.{rest-exact}
 use Rattle.bank.specs.Unchanged.{unchanged}
@@ -51,28 +54,40 @@ module _ (q : ℕ) (far : 16 < q) where
   acknowledged-none s (Acknowledgement from to number) f e =
       changed-none (eqb to (rootOf s) && eqb number (columnAt (s .bank) (rootOf s) .number)) f from false (ended from) e
 
-  awaits-none : (w : World) (x : Step) → w .awaits q ≡ false → awaitsAfter w x q ≡ false
-  awaits-none w (Order doors) e = e
-  awaits-none w (Send i) e =
+  abbrev Good : World → Type 0
+  Good w = treeRefusal (w .state .bank .tree) ≡ 0
+
+  awaits-none : (w : World) → Good w → (x : Step) → w .awaits q ≡ false → awaitsAfter w x q ≡ false
+  awaits-none w ok (Order doors) e = e
+  awaits-none w ok (Send i) e =
+      let t = w .state .bank .tree in
       let c = columnAt (w .state .bank) i in
-      let k = choose (c .send) in
+      let k = choose t (c .send) in
       changed-none (eqb i (rootOf (w .state)) && not (has (c .noted) k)) (w .awaits) k true
-      (ap (λ (b : Bool). b && true) (ne-eqb q k (λ z. omega (arith, far, trailing-le 16 (c .send), z)))) e
-  awaits-none w (Take place) e = acknowledged-none (w .state) (packetAt (w .state) place) (w .awaits) e
-  awaits-none w (Ack i) e = e
-  awaits-none w (All i) e = e
-  awaits-none w (Note i j) e = changed-none (eqb i (rootOf (w .state))) (w .awaits) j false (ended j) e
-  awaits-none w (Halt i) e = e
+      (ap (λ (b : Bool). b && true) (ne-eqb q k (λ z. omega (arith, far, choose-le t ok (c .send), z)))) e
+  awaits-none w ok (Take place) e = acknowledged-none (w .state) (packetAt (w .state) place) (w .awaits) e
+  awaits-none w ok (Ack i) e = e
+  awaits-none w ok (All i) e = e
+  awaits-none w ok (Note i j) e = changed-none (eqb i (rootOf (w .state))) (w .awaits) j false (ended j) e
+  awaits-none w ok (Halt i) e = e
 
-  told-none : (w : World) (x : Step) (o : Outcome State) → w .awaits q ≡ false → told w x o .awaits q ≡ false
+  told-none : (w : World) → Good w → (x : Step) (o : Outcome State) → w .awaits q ≡ false → told w x o .awaits q ≡ false
   unfolding told
-  told-none w x (accepted s) e = awaits-none w x e
-  told-none w x (refused n s) e = e
+  told-none w ok x (accepted s) e = awaits-none w ok x e
+  told-none w ok x (refused n s) e = e
 
-  run-none : (w : World) (xs : List Step) → w .awaits q ≡ false → run w xs .awaits q ≡ false
+  told-after : (w : World) (x : Step) (o : Outcome State) → told w x o .state ≡ steps.after o
+  unfolding told
+  told-after w x (accepted s) = refl
+  told-after w x (refused n s) = refl
+
+  run-none : (w : World) → Good w → (xs : List Step) → w .awaits q ≡ false → run w xs .awaits q ≡ false
   unfolding run
-  run-none w [] e = e
-  run-none w (x ∷ xs) e = run-none (told w x (perform (w .state) x)) xs (told-none w x (perform (w .state) x) e)
+  run-none w ok [] e = e
+  run-none w ok (x ∷ xs) e =
+      let o = perform (w .state) x in
+      run-none (told w x o) (ap (λ (s : State). treeRefusal (s .bank .tree)) (told-after w x o) ∙ ap treeRefusal (tree-kept (w .state) x) ∙ ok) xs
+      (told-none w ok x o e)
 
 -- ---- what the refusals of one step say of it
 
@@ -156,7 +171,7 @@ module _ (c : Case) where
       go (inl l) =
           sym (selected-has (w .awaits) 17 q (ltb-true q 17 l)) ∙ ap (λ (r : Row). has (r .root .awaits) q) row-is
           ∙ ap (λ (m : ℕ). has m q) e ∙ has-none q
-      go (inr l) = run-none q (ltb-false q 17 l) (fromFresh (row c .tree)) (row c .steps) refl
+      go (inr l) = run-none q (ltb-false q 17 l) (fromFresh (row c .tree)) (ap (λ x. x .1) (runs-pass c)) (row c .steps) refl
 
   order-accepted : row c .root .order ≡ [] → (next : State) × (perform s (Order 0) ≡ accepted next)
   unfolding refusals

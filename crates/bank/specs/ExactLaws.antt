@@ -10,7 +10,8 @@ use lib.ListN.{getD, set}
 use borrow.Author.Tests.{eq-eqb, eqb-true, eqb-false}
 use Rattle.column.specs.Refusals.{first, earlier}
 use Rattle.column.specs.RefusalLaws.{earlier-none, earlier-assoc}
-use Rattle.column.specs.Sets.{has, choose}
+use Rattle.column.specs.Sets.{has}
+use Rattle.column.specs.Trees.{choose}
 use Rattle.column.specs.Trees.{treeRefusal}
 use Rattle.column.specs.Columns.{stateRefusal, standing}
 use Rattle.column.specs.Packets.{receiver}
@@ -42,7 +43,7 @@ calm-cond false c r q h k = k
 calm-send : (t : Tree) (i : ℕ) (c : Column) → Calm c (core.sendEffect t i c)
 unfolding core.sendEffect
 calm-send t i c =
-    calm-cond (eqb (choose (c .send)) i) c _ _ tt (calm-cond (has (c .noted) (choose (c .send))) c _ _ tt refl)
+    calm-cond (eqb (choose t (c .send)) i) c _ _ tt (calm-cond (has (c .noted) (choose t (c .send))) c _ _ tt refl)
 
 calm-take : (t : Tree) (i : ℕ) (c : Column) (p : Packet) → Calm c (core.takeEffect t i c p)
 unfolding core.messageEffect core.receiveEffect core.acknowledgementEffect

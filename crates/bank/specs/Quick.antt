@@ -3,8 +3,10 @@ use Prim.Native.Nat.{ℕ, zero, suc}
 use mathlib.Core.Bool.{Bool, not, _&&_, _||_, cond}
 use lib.Bits.{bitXor}
 use lib.Dec.{eqb, ltb}
-use Rattle.column.specs.Sets.{has, join, lowest, choose, selected}
+use Rattle.column.specs.Sets.{has, join, lowest, selected}
+use Rattle.column.specs.Trees.{choose}
 use Rattle.column.specs.Columns.{idle}
+use Rattle.column.specs.declared.tree.Tree.{Tree}
 use Rattle.column.specs.declared.state.Column.{Column}
 use Rattle.bank.specs.Words.{receiverIn}
 use Rattle.bank.specs.Banks.{columnAt, runs, capacity}
@@ -20,9 +22,9 @@ minus a b = bitXor (join a b) b
 abbrev pub fits : Bool → ℕ → ℕ → Bool
 fits full halted j = not full || has halted j
 
-abbrev pub canSend : Bool → ℕ → ℕ → Column → Bool
-canSend full halted i c =
-    let k = choose (c .send) in
+abbrev pub canSend : Tree → Bool → ℕ → ℕ → Column → Bool
+canSend t full halted i c =
+    let k = choose t (c .send) in
     not (eqb (c .send) 0) && (eqb k i || (has (c .noted) k || fits full halted k))
 
 abbrev pub canAck : Bool → ℕ → Column → Bool
@@ -32,19 +34,19 @@ abbrev pub canTakeOver : ℕ → ℕ → Column → Bool
 canTakeOver root i c = not (eqb i root) && (has (c .noted) root && (not (c .whole) && idle c))
 
 -- what column i, which is c, can do, and the other step where it can do nothing
-unfoldable pub stepOf : Bool → ℕ → ℕ → ℕ → Column → Step → Step
-stepOf full halted root i c other =
+unfoldable pub stepOf : Tree → Bool → ℕ → ℕ → Column → Step → Step
+stepOf t full halted i c other =
     let new = minus halted (c .noted) in
     cond (c .running)
     (cond (eqb new 0)
-    (cond (canSend full halted i c) (Send i) (cond (canAck full halted c) (Ack i) (cond (canTakeOver root i c) (All i) other)))
+    (cond (canSend t full halted i c) (Send i) (cond (canAck full halted c) (Ack i) (cond (canTakeOver (t .root) i c) (All i) other)))
     (Note i (lowest new)))
     other
 
 -- the same for k columns from i on
 unfoldable pub stepFrom : Bank → Bool → ℕ → ℕ → ℕ → Step
 stepFrom b full halted i zero = Take 0
-stepFrom b full halted i (suc k) = stepOf full halted (b .tree .root) i (columnAt b i) (stepFrom b full halted (suc i) k)
+stepFrom b full halted i (suc k) = stepOf (b .tree) full halted i (columnAt b i) (stepFrom b full halted (suc i) k)
 
 abbrev pub isFull : Bank → Bool
 isFull b = not (ltb (b .count) capacity)

@@ -12,10 +12,12 @@ use lib.Pow.{pow-mono}
 use borrow.Author.Tests.{eq-eqb, ne-eqb, eqb-false, ltb-true, ltb-false, lt-leb, not-false}
 use Rattle.column.specs.Cases.{truth}
 use Rattle.column.specs.Refusals.{first, earlier}
-use Rattle.column.specs.Sets.{within, digit, has, join, lowest, choose}
+use Rattle.column.specs.Sets.{within, digit, has, join, lowest}
+use Rattle.column.specs.Trees.{choose}
 use Rattle.column.specs.Digits.{digit-cases, digit-or, digit-xor, has-true, has-false}
 use Rattle.column.specs.SetLaws.{selected-has, lowest-member, within-lt}
 use Rattle.column.specs.TreeLaws.{tree-sixteen}
+use Rattle.column.specs.ChoiceLaws.{choose-lt}
 use Rattle.column.specs.Columns.{idle, standing, stateConditions, stateRefusal}
 use Rattle.column.specs.RefusalLaws.{passed}
 use Rattle.column.specs.StateLaws.{Sound, sound}
@@ -99,13 +101,13 @@ module _ (s : State) (st : Stands s) (i : ℕ) (h : i < s .bank .tree .columns) 
   -- ---- send
 
   abbrev k : ℕ
-  k = choose (c .send)
+  k = choose t (c .send)
 
   send-below : eqb (c .send) 0 ≡ false → k < t .columns
   unfolding stateRefusal
   send-below e =
       let p = passed (stateConditions t i c) tt (st .columns i h) in
-      members .send-below k (lowest-in (c .send) (not-false _ (p .1 .0)) e)
+      choose-lt t (st .tree) (c .send) (within-lt (c .send) (t .columns) (not-false _ (p .1 .0))) (omega (arith, eqb-false (c .send) 0 e))
 
   send-own : (empty : Bool) → eqb (c .send) 0 ≡ empty → core.sendRefusal t i c ≡ cond empty 6 0
   unfolding core.sendRefusal
@@ -123,7 +125,7 @@ module _ (s : State) (st : Stands s) (i : ℕ) (h : i < s .bank .tree .columns) 
       go false true x y z = refl
       go false false x y z = refl
 
-  pub send-exact : isRefused (send s i) ≡ not (canSend full halted i c)
+  pub send-exact : isRefused (send s i) ≡ not (canSend t full halted i c)
   unfolding perform
   send-exact =
       exactly (Send i) ∙ ap (λ (x : Bool). (x && full) || refuses (core.sendRefusal t i c)) send-raises ∙ go (eqb (c .send) 0) refl

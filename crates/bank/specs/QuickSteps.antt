@@ -44,25 +44,25 @@ module _ (s : State) where
   either true x y h k = h
   either false x y h k = k
 
-  column-acts : (full : Bool) (halted root i : ℕ) (c : Column) (other : Step) → Acts s other → Acts s (stepOf full halted root i c other)
+  column-acts : (t : Tree) (full : Bool) (halted i : ℕ) (c : Column) (other : Step) → Acts s other → Acts s (stepOf t full halted i c other)
   unfolding stepOf
-  column-acts full halted root i c other h =
+  column-acts t full halted i c other h =
       let own : eqb i i ≡ true = eq-eqb i i refl in
       let new = minus halted (c .noted) in
-      let third : Step = cond (canTakeOver root i c) (All i) other in
+      let third : Step = cond (canTakeOver (t .root) i c) (All i) other in
       let second : Step = cond (canAck full halted c) (Ack i) third in
-      let first : Step = cond (canSend full halted i c) (Send i) second in
-      let last : Acts s third = either (canTakeOver root i c) (All i) other (refl, own) h in
+      let first : Step = cond (canSend t full halted i c) (Send i) second in
+      let last : Acts s third = either (canTakeOver (t .root) i c) (All i) other (refl, own) h in
       let later : Acts s second = either (canAck full halted c) (Ack i) third (refl, own) last in
       either (c .running) (cond (eqb new 0) first (Note i (lowest new))) other
-      (either (eqb new 0) first (Note i (lowest new)) (either (canSend full halted i c) (Send i) second (refl, own) later) (refl, own))
+      (either (eqb new 0) first (Note i (lowest new)) (either (canSend t full halted i c) (Send i) second (refl, own) later) (refl, own))
       h
 
   turn-acts-from : (b : Bank) (full : Bool) (halted i k : ℕ) → Acts s (stepFrom b full halted i k)
   unfolding stepFrom
   turn-acts-from b full halted i zero = (refl, eq-eqb _ _ (sym (receiver-of (getD (s .heads) 0 0) (getD (s .doors) 0 0))))
   turn-acts-from b full halted i (suc k) =
-      column-acts full halted (b .tree .root) i (columnAt b i) (stepFrom b full halted (suc i) k) (turn-acts-from b full halted (suc i) k)
+      column-acts (b .tree) full halted i (columnAt b i) (stepFrom b full halted (suc i) k) (turn-acts-from b full halted (suc i) k)
 
   turn-acts : Acts s (quickTurn (s .bank))
   turn-acts = turn-acts-from (s .bank) _ _ 0 _

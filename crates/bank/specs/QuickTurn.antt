@@ -105,7 +105,7 @@ module _ (s : State) (st : Stands s) (i : ℕ) (h : i < s .bank .tree .columns) 
           halted-below j e = member-lt (t .columns) (haltedOf b) j (selected-lt (λ k. not (runs b k)) (t .columns) (t .columns) (omega arith))
               (and-left (has (haltedOf b) j) _ (sym (has-minus (haltedOf b) (c .noted) j) ∙ e))
 
-  first-column : (other : Step) → firstAccepted s (offers (t .columns) i) other ≡ stepOf full halted (t .root) i c other
+  first-column : (other : Step) → firstAccepted s (offers (t .columns) i) other ≡ stepOf t full halted i c other
   unfolding firstAccepted stepOf perform
   first-column other =
       first-append s (places (λ j. Note i j) (t .columns)) (Send i ∷ Ack i ∷ All i ∷ []) other
@@ -114,8 +114,8 @@ module _ (s : State) (st : Stands s) (i : ℕ) (h : i < s .bank .tree .columns) 
       (ap (λ (y : Step). cond (isRefused (send s i)) y (Send i))
       (ap (λ (y : Step). cond (isRefused (ack s i)) y (Ack i)) (pick (canTakeOver (t .root) i c) (isRefused (all s i)) (All i) other (all-exact s st i h r))
       ∙ pick (canAck full halted c) (isRefused (ack s i)) (Ack i) third (ack-exact s st i h r))
-      ∙ pick (canSend full halted i c) (isRefused (send s i)) (Send i) second (send-exact s st i h r))
-      ∙ sym (ap (λ (x : Bool). cond x (cond (eqb new 0) (cond (canSend full halted i c) (Send i) second) (Note i (lowest new))) other) r)
+      ∙ pick (canSend t full halted i c) (isRefused (send s i)) (Send i) second (send-exact s st i h r))
+      ∙ sym (ap (λ (x : Bool). cond x (cond (eqb new 0) (cond (canSend t full halted i c) (Send i) second) (Note i (lowest new))) other) r)
     where
       third : Step
       third = cond (canTakeOver (t .root) i c) (All i) other
@@ -150,11 +150,11 @@ module _ (s : State) (st : Stands s) where
       let e : suc i + k ≡ i + suc k = omega arith in
       sym (append-assoc (offered s i) (part i) (offeredFrom (suc i) k)) ∙ offered-from k (suc i) ∙ ap (offered s) e
 
-  first-part : (i : ℕ) → i < s .bank .tree .columns → (other : Step) → firstAccepted s (part i) other ≡ stepOf (isFull (s .bank)) (haltedOf (s .bank)) (s .bank .tree .root) i (columnAt (s .bank) i) other
+  first-part : (i : ℕ) → i < s .bank .tree .columns → (other : Step) → firstAccepted s (part i) other ≡ stepOf (s .bank .tree) (isFull (s .bank)) (haltedOf (s .bank)) i (columnAt (s .bank) i) other
   unfolding stepOf firstAccepted
   first-part i h other = go (runs (s .bank) i) refl
     where
-      go : (x : Bool) → runs (s .bank) i ≡ x → firstAccepted s (cond x (offers (s .bank .tree .columns) i) []) other ≡ stepOf (isFull (s .bank)) (haltedOf (s .bank)) (s .bank .tree .root) i (columnAt (s .bank) i) other
+      go : (x : Bool) → runs (s .bank) i ≡ x → firstAccepted s (cond x (offers (s .bank .tree .columns) i) []) other ≡ stepOf (s .bank .tree) (isFull (s .bank)) (haltedOf (s .bank)) i (columnAt (s .bank) i) other
       go true r = first-column s st i h r other
       go false r = sym (rw r refl)
 
@@ -164,7 +164,7 @@ module _ (s : State) (st : Stands s) where
   first-from (suc k) i h =
       first-append s (part i) (offeredFrom (suc i) k) (Take 0)
       ∙ first-part i (omega (arith, h)) _
-      ∙ ap (stepOf (isFull (s .bank)) (haltedOf (s .bank)) (s .bank .tree .root) i (columnAt (s .bank) i)) (first-from k (suc i) (omega (arith, h)))
+      ∙ ap (stepOf (s .bank .tree) (isFull (s .bank)) (haltedOf (s .bank)) i (columnAt (s .bank) i)) (first-from k (suc i) (omega (arith, h)))
 
   pub quick-turn : turn s ≡ quickTurn (s .bank)
   unfolding turn offered

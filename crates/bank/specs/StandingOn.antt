@@ -11,10 +11,10 @@ use lib.ListN.{getD}
 use lib.Seq.{getD-set-other}
 use borrow.Author.Tests.{eq-eqb, ne-eqb, eqb-true, eqb-false, ltb-true, ltb-false, not-false}
 use Rattle.column.specs.Cases.{truth, equal-cases, and-left, and-right, same-truth}
-use Rattle.column.specs.Sets.{has, choose}
+use Rattle.column.specs.Sets.{has}
 use Rattle.column.specs.Packets.{receiver}
 use Rattle.column.specs.Columns.{stateRefusal}
-use Rattle.column.specs.Trees.{treeRefusal}
+use Rattle.column.specs.Trees.{treeRefusal, choose}
 use Rattle.column.specs.Steps as core
 use Rattle.column.specs.declared.tree.Tree.{Tree}
 use Rattle.column.specs.declared.state.Column.{Column}
@@ -50,7 +50,7 @@ steady-cond false c r q h k = k
 steady-send : (t : Tree) (i : ℕ) (c : Column) → Steady c (core.sendEffect t i c)
 unfolding core.sendEffect
 steady-send t i c =
-    steady-cond (eqb (choose (c .send)) i) c _ _ refl (steady-cond (has (c .noted) (choose (c .send))) c _ _ refl refl)
+    steady-cond (eqb (choose t (c .send)) i) c _ _ refl (steady-cond (has (c .noted) (choose t (c .send))) c _ _ refl refl)
 
 steady-take : (t : Tree) (i : ℕ) (c : Column) (p : Packet) → Steady c (core.takeEffect t i c p)
 unfolding core.messageEffect core.receiveEffect core.acknowledgementEffect

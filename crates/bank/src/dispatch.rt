@@ -7,6 +7,7 @@ use crate::standing::still_stands;
 use crate::step::Step;
 use crate::step::perform_tested;
 use crate::words::receiver_in;
+use column::choice::choose;
 use column::members::has;
 use column::members::lowest;
 use column::state::Column;
@@ -57,14 +58,14 @@ fn fits(full: bool, halted: u16, j: usize) -> bool
     !full | has(halted, j)
 }
 
-fn can_send(full: bool, halted: u16, i: usize, c: Column) -> bool
-    ensures { λ r. ⌜ r ≡ canSend full halted i c ⌝ }
+fn can_send(t: Tree, full: bool, halted: u16, i: usize, c: Column) -> bool
+    ensures { λ r. ⌜ r ≡ canSend t full halted i c ⌝ }
 {
     let set = c.send;
     if set == 0 {
         return false;
     }
-    let k = lowest(set);
+    let k = choose(t, set);
     if k == i {
         return true;
     }
@@ -88,8 +89,8 @@ fn can_take_over(root: usize, i: usize, c: Column) -> bool
 }
 
 // What column i, which is c, can do: note the lowest column that is halted and not noted, send, acknowledge, take over the bank.
-fn offer_of(full: bool, halted: u16, root: usize, i: usize, c: Column) -> Offer
-    ensures { λ r. ⌜ Offers r full halted root i c ⌝ }
+fn offer_of(t: Tree, full: bool, halted: u16, i: usize, c: Column) -> Offer
+    ensures { λ r. ⌜ Offers r t full halted i c ⌝ }
 {
     if !c.running {
         return Offer::Nothing;
@@ -99,13 +100,13 @@ fn offer_of(full: bool, halted: u16, root: usize, i: usize, c: Column) -> Offer
     if new != 0 {
         return Offer::Is(Step::Note(i, lowest(new)));
     }
-    if can_send(full, halted, i, c) {
+    if can_send(t, full, halted, i, c) {
         return Offer::Is(Step::Send(i));
     }
     if can_ack(full, halted, c) {
         return Offer::Is(Step::Ack(i));
     }
-    if can_take_over(root, i, c) {
+    if can_take_over(t.root, i, c) {
         return Offer::Is(Step::All(i));
     }
     Offer::Nothing
@@ -123,7 +124,7 @@ fn next_step(b: Bank) -> Step
     let mut i: usize = 0;
     while i < n {
         let c = b.columns[i];
-        let o = offer_of(full, set, t.root, i, c);
+        let o = offer_of(t, full, set, i, c);
         match o {
             Offer::Is(x) => {
                 return x;

@@ -7,7 +7,8 @@ pub mod ClosingLaws
 pub mod Tables
 pub mod Readings
 pub mod Cutting
-pub mod Parents
+pub mod NumberLists
+pub mod TableLaws
 pub mod TableExamples
 pub mod Lines
 pub mod Hexadecimals

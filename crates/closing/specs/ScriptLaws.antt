@@ -3,9 +3,9 @@
 use Prim.Native.Nat.{ℕ, _+_, _-_, _^_, _≤_, _<_}
 use native.Mathlib.Omega.{arith}
 use mathlib.Core.Path.{_≡_, refl, sym, ap, ap₂, _∙_}
-use mathlib.Core.Bool.{Bool, true, false, not, cond}
-use mathlib.Core.List.{List, [], _∷_}
-use lib.Dec.{eqb, ltb}
+use mathlib.Core.Bool.{Bool, true, false, cond}
+use mathlib.Core.List.{List}
+use lib.Dec.{eqb}
 use lib.ListN.{length, take, drop, length-append}
 use borrow.Author.Tests.{lt-ltb, le-ltb, eq-eqb, eqb-true}
 use Rattle.column.specs.Refusals.{first}
@@ -24,7 +24,7 @@ use Rattle.bank.specs.declared.bank.Answer.the-variants.{Done, Refused}
 use Rattle.closing.specs.Text.{newline, Reading, read, unread}
 use Rattle.closing.specs.DecimalLaws.{decimal-length}
 use Rattle.closing.specs.Writing.{Writes, written-taken, writes-within}
-use Rattle.closing.specs.Tables.{cut, Table, tableOf, treeIn, tableRefusal, Placed, placedAt, noTree, judged, readTable}
+use Rattle.closing.specs.Tables.{cut, Table, tableOf, treeIn, countListed, countedConditions, tableRefusal, Placed, placedAt, noTree, judged, readTable}
 use Rattle.closing.specs.Cutting.{Found, line-ended, line-unended, line-length}
 use Rattle.closing.specs.Lines.{commandOf}
 use Rattle.closing.specs.Scripts.{limit, Printed, printed, answered, refusedText, stepText, stepsText, dispatchText, dispatchPrinted, listedText}
@@ -146,7 +146,7 @@ module _ (input : List ℕ) (p : Progress) where
 good-tree : (t : Table) → tableRefusal t ≡ 0 → treeRefusal (treeIn t) ≡ 0
 unfolding tableRefusal
 good-tree t e =
-    let form = first ((2, eqb (t .columns) 0) ∷ (2, ltb 16 (t .columns)) ∷ (3, not (eqb (length (t .up)) (t .columns))) ∷ []) in
+    let form = first (countedConditions (treeIn t) (length (t .up)) (countListed (t .sequence) (t .columns))) in
     earlier-none form (treeRefusal (treeIn t)) e .1
 
 -- a table that is accepted has a good tree

@@ -1,10 +1,10 @@
--- Worked examples of tables, after document 01, "The bank and its table".
+-- Worked examples of tables, after document 01, "The bank and its table", and document 02, Point 6.
 use Prim.Native.Nat.{ℕ}
 use Prim.Native.String.{String}
 use mathlib.Core.Path.{_≡_, refl}
 use mathlib.Core.List.{List, [], _∷_, map}
 use lib.ListN.{replicate}
-use Rattle.column.specs.Trees.{every, climbsIn, treeOf, treeRefusal}
+use Rattle.column.specs.Trees.{every, climbsIn, treeInSequence, treeOf, treeRefusal}
 use Rattle.bank.specs.Steps.{Outcome, accepted, refused}
 use Rattle.closing.specs.Text.{bytes, allDigits, valueFrom, leadingZero, numeral, startsWith, afterKey}
 use Rattle.closing.specs.Tables.{
@@ -15,7 +15,10 @@ use Rattle.closing.specs.Tables.{
   withNumber,
   numerals,
   numeralIn,
-  parentsIn,
+  numbersIn,
+  listedLine,
+  sequenceIn,
+  sequenceLine,
   joined,
   thirdLine,
   secondLine,
@@ -65,6 +68,23 @@ rows =
     ∷ row "columns=3\nroot=0\nup=0,\n" (no 1)
     -- "in the order 1, 2, 3": the third line's form comes before 17 columns
     ∷ row "columns=17\nroot=99\nup=0,x\n" (no 1)
+    -- document 02, Point 6: "If the line after the third begins `first=`, it is the table's"
+    ∷ row "columns=3\nroot=0\nup=0,0,1\nfirst=2,0,1\nsend=0\n"
+    (accepted (placedAt (treeInSequence 3 0 (0 ∷ 0 ∷ 1 ∷ replicate 13 0) (2 ∷ 0 ∷ 1 ∷ replicate 13 0)) 38))
+    -- another line after the third is none of the table's, nor is one further down
+    ∷ row "columns=1\nroot=0\nup=0\nFirst=0\n" (accepted (placedAt (treeOf 1 0 (replicate 16 0)) 22))
+    ∷ row "columns=1\nroot=0\nup=0\nsend=0\nfirst=0\n" (accepted (placedAt (treeOf 1 0 (replicate 16 0)) 22))
+    -- "A list that misses, repeats or exceeds a column is refused with 3."
+    ∷ row "columns=3\nroot=0\nup=0,0,1\nfirst=2,0\n" (no 3)
+    ∷ row "columns=3\nroot=0\nup=0,0,1\nfirst=2,0,2\n" (no 3)
+    ∷ row "columns=3\nroot=0\nup=0,0,1\nfirst=2,0,1,1\n" (no 3)
+    ∷ row "columns=3\nroot=0\nup=0,0,1\nfirst=2,0,3\n" (no 3)
+    -- "in the form of `up`": 1, and so where it is not ended; 2 comes before 3
+    ∷ row "columns=3\nroot=0\nup=0,0,1\nfirst=2,0,01\n" (no 1)
+    ∷ row "columns=3\nroot=0\nup=0,0,1\nfirst=\n" (no 1)
+    ∷ row "columns=3\nroot=0\nup=0,0,1\nfirst=2,0,1" (no 1)
+    ∷ row "columns=17\nroot=0\nup=0\nfirst=x\n" (no 1)
+    ∷ row "columns=17\nroot=0\nup=0\nfirst=0\n" (no 2)
     -- "three lines, each ended by byte 10, in this order"
     ∷ row "root=0\ncolumns=3\nup=0,0,1\n" (no 1)
     ∷ row "columns=3\nroot=0\nup=0,0,1" (no 1)
@@ -72,6 +92,6 @@ rows =
     ∷ []
 
 pub table-answers : map (λ r. readTable (bytes (r .text))) rows ≡ map (λ r. r .answer) rows
-unfolding withFirst cut longer pieces withNumber numerals numeralIn parentsIn joined thirdLine secondLine firstLine
+unfolding withFirst cut longer pieces withNumber numerals numeralIn numbersIn listedLine sequenceIn sequenceLine joined thirdLine secondLine firstLine
     tableRefusal judged allDigits valueFrom leadingZero numeral startsWith afterKey every climbsIn treeRefusal
 table-answers = refl

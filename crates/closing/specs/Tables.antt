@@ -1,14 +1,14 @@
--- The bank's table as text, after document 01, "The bank and its table".
+-- The bank's table as text, after document 01, "The bank and its table", and document 02, Point 6.
 use Prim.Native.Nat.{ℕ, _+_}
 use mathlib.Core.Bool.{Bool, not, cond}
 use mathlib.Core.List.{List, [], _∷_, _++_}
 use lib.Dec.{eqb, ltb}
 use lib.ListN.{length, take, replicate}
 use Rattle.column.specs.Refusals.{first, earlier}
-use Rattle.column.specs.Trees.{treeOf, treeRefusal}
+use Rattle.column.specs.Trees.{ascending, treeInSequence, treeOf, treeRefusal}
 use Rattle.column.specs.declared.tree.Tree.{Tree}
 use Rattle.bank.specs.Steps.{Outcome, accepted, refused}
-use Rattle.closing.specs.Text.{columnsKey, rootKey, upKey, newline, comma, Reading, read, unread, numeral, afterKey}
+use Rattle.closing.specs.Text.{columnsKey, rootKey, upKey, firstKey, newline, comma, Reading, read, unread, numeral, startsWith, afterKey}
 
 -- ---- lines and pieces
 
@@ -44,7 +44,7 @@ unfoldable pub numerals : List (List ℕ) → Reading (List ℕ)
 numerals [] = read []
 numerals (p ∷ ps) = withNumber (numeral 2 p) (numerals ps)
 
--- ---- the three lines
+-- ---- the lines
 
 -- "`columns=3`", "`root=0`": a key and a numeral
 unfoldable pub numeralIn : ℕ → Reading (List ℕ) → Reading ℕ
@@ -54,31 +54,58 @@ numeralIn width unread = unread
 abbrev pub keyed : List ℕ → ℕ → List ℕ → Reading ℕ
 keyed key width line = numeralIn width (afterKey key line)
 
--- "`up` has at least one"; there may be any number
-unfoldable pub parentsIn : Reading (List ℕ) → Reading (List ℕ)
-parentsIn (read l) = numerals (pieces l)
-parentsIn unread = unread
+-- "`up=0,0,1`": a key and numerals divided by commas. "`up` has at least one"; there may be any number
+unfoldable pub numbersIn : Reading (List ℕ) → Reading (List ℕ)
+numbersIn (read l) = numerals (pieces l)
+numbersIn unread = unread
 
-abbrev pub parents : List ℕ → Reading (List ℕ)
-parents line = parentsIn (afterKey upKey line)
+abbrev pub numbers : List ℕ → List ℕ → Reading (List ℕ)
+numbers key line = numbersIn (afterKey key line)
+
+-- the numbers of the sequence's line, where the table has one
+pub data Sequence : Type 0 where
+  unlisted : Sequence
+  listed : List ℕ → Sequence
+
+-- a sequence, and how many bytes its line takes
+pub record SequenceLine : Type 0 where
+  pub sequence : Sequence
+  pub size : ℕ
+
+unfoldable pub listedLine : Reading (List ℕ) → ℕ → Reading SequenceLine
+listedLine (read l) size = read (record { sequence = listed l; size = size })
+listedLine unread size = unread
+
+unfoldable pub sequenceIn : Cut → Reading SequenceLine
+sequenceIn (ended line rest) = listedLine (numbers firstKey line) (length line + 1)
+sequenceIn unended = unread
+
+-- "If the line after the third begins `first=`, it is the table's": of what follows the third line
+unfoldable pub sequenceLine : List ℕ → Reading SequenceLine
+sequenceLine s = cond (startsWith firstKey s) (sequenceIn (cut s)) (read (record { sequence = unlisted; size = 0 }))
 
 -- the numbers of a table, and how many bytes it takes
 pub record Table : Type 0 where
   pub columns : ℕ
   pub root : ℕ
   pub up : List ℕ
+  pub sequence : Sequence
   pub end : ℕ
 
-unfoldable pub joined : Reading ℕ → Reading ℕ → Reading (List ℕ) → ℕ → Reading Table
-joined (read columns) (read root) (read up) end = read (record { columns = columns; root = root; up = up; end = end })
-joined (read columns) (read root) unread end = unread
-joined (read columns) unread up end = unread
-joined unread root up end = unread
+-- three lines that take `size` bytes, and the sequence's
+unfoldable pub joined : Reading ℕ → Reading ℕ → Reading (List ℕ) → Reading SequenceLine → ℕ → Reading Table
+joined (read columns) (read root) (read up) (read s) size =
+    read (record { columns = columns; root = root; up = up; sequence = s .sequence; end = size + s .size })
+joined (read columns) (read root) (read up) unread size = unread
+joined (read columns) (read root) unread s size = unread
+joined (read columns) unread up s size = unread
+joined unread root up s size = unread
 
 -- "three lines, each ended by byte 10, in this order"
 unfoldable pub thirdLine : List ℕ → List ℕ → Cut → Reading Table
 thirdLine one two (ended three rest) =
-    joined (keyed columnsKey 2 one) (keyed rootKey 2 two) (parents three) (length one + 1 + (length two + 1) + (length three + 1))
+    joined (keyed columnsKey 2 one) (keyed rootKey 2 two) (numbers upKey three) (sequenceLine rest)
+    (length one + 1 + (length two + 1) + (length three + 1))
 thirdLine one two unended = unread
 
 unfoldable pub secondLine : List ℕ → Cut → Reading Table
@@ -94,22 +121,37 @@ tableOf s = firstLine (cut s)
 
 -- ---- the tree, or the refusal: "Tables are checked in the order 1, 2, 3"
 
--- the first sixteen parents; places past them hold 0
+-- the first sixteen numbers of a line; places past them hold 0
 abbrev pub sixteen : List ℕ → List ℕ
-sixteen up = take 16 (up ++ replicate 16 0)
+sixteen l = take 16 (l ++ replicate 16 0)
+
+-- "Without it, ascending numbers."
+abbrev pub sequenceOf : Sequence → List ℕ
+sequenceOf unlisted = ascending
+sequenceOf (listed l) = sixteen l
 
 abbrev pub treeIn : Table → Tree
-treeIn t = treeOf (t .columns) (t .root) (sixteen (t .up))
+treeIn t = treeInSequence (t .columns) (t .root) (sixteen (t .up)) (sequenceOf (t .sequence))
 
--- "Tables are checked in the order 1, 2, 3"; "3: .. `up` of another length": a tree whose `up` line has `count` parents
-abbrev pub countedConditions : Tree → ℕ → List (ℕ × Bool)
-countedConditions t count = (2, eqb (t .columns) 0) ∷ (2, ltb 16 (t .columns)) ∷ (3, not (eqb count (t .columns))) ∷ []
+-- how many columns a sequence lists, of so many
+abbrev pub countListed : Sequence → ℕ → ℕ
+countListed unlisted columns = columns
+countListed (listed l) columns = length l
 
-abbrev pub countedRefusal : Tree → ℕ → ℕ
-countedRefusal t count = earlier (first (countedConditions t count)) (treeRefusal t)
+-- "Tables are checked in the order 1, 2, 3"; "3: .. `up` of another length", and so of the sequence: a tree with the counts of both
+abbrev pub countedConditions : Tree → ℕ → ℕ → List (ℕ × Bool)
+countedConditions t parents sequence =
+    (2, eqb (t .columns) 0)
+    ∷ (2, ltb 16 (t .columns))
+    ∷ (3, not (eqb parents (t .columns)))
+    ∷ (3, not (eqb sequence (t .columns)))
+    ∷ []
+
+abbrev pub countedRefusal : Tree → ℕ → ℕ → ℕ
+countedRefusal t parents sequence = earlier (first (countedConditions t parents sequence)) (treeRefusal t)
 
 unfoldable pub tableRefusal : Table → ℕ
-tableRefusal t = countedRefusal (treeIn t) (length (t .up))
+tableRefusal t = countedRefusal (treeIn t) (length (t .up)) (countListed (t .sequence) (t .columns))
 
 -- a tree, and the place after its table
 pub record Placed : Type 0 where

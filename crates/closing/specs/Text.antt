@@ -24,6 +24,9 @@ rootKey = bytes "root="
 abbrev pub upKey : List ℕ
 upKey = bytes "up="
 
+abbrev pub firstKey : List ℕ
+firstKey = bytes "first="
+
 abbrev pub columnKey : List ℕ
 columnKey = bytes "column="
 

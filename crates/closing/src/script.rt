@@ -16,6 +16,7 @@ use bank::rest::at_rest;
 use bank::step::Step;
 use bank::step::perform;
 use bytes::scan::find;
+use column::tree::ASCENDING;
 use column::tree::Tree;
 ghost use Prim.Native.Nat.{_≤_, _<_};
 ghost use mathlib.Core.Path.{_≡_};
@@ -243,6 +244,7 @@ pub fn start() -> Run
                 columns: 0,
                 root: 0,
                 up: [0; 16],
+                first: ASCENDING,
             },
             columns: [NO_COLUMN; 16],
             count: 0,

@@ -1,4 +1,4 @@
-// A bank's table as text: three lines that give a tree.
+// A bank's table as text: three lines that give a tree, and where there is a fourth of its own, the tree's sequence.
 use crate::reading::Number;
 use crate::reading::keyed;
 use crate::reading::numeral;
@@ -7,25 +7,44 @@ use bank::bank::Answer;
 use bytes::scan::find;
 use column::precedence::earlier;
 use column::precedence::refuse_if;
+use column::tree::ASCENDING;
 use column::tree::Tree;
 use column::tree::tree_refusal;
-ghost use Prim.Native.Nat.{_^_, _<_};
+ghost use Prim.Native.Nat.{_^_, _<_, _≤_};
+ghost use mathlib.Core.Bool.{false, cond};
+ghost use lib.ListN.{drop};
 ghost use mathlib.Core.Path.{_≡_};
 ghost use Rattle.bank.specs.Steps.{answered, refused};
-ghost use Rattle.closing.specs.Tables.{parents, pieces, numerals, countedRefusal, placedAt, noTree, readTable};
-ghost use Rattle.closing.specs.Parents.{withParent, upMeant, held, treeJudged, linesJudged};
+ghost use Rattle.closing.specs.Text.{read, unread};
+ghost use Rattle.closing.specs.Tables.{numbers, pieces, numerals, sequenceLine, countedRefusal, placedAt, noTree, readTable};
+ghost use Rattle.closing.specs.NumberLists.{withOne, lineMeant, held};
+ghost use Rattle.closing.specs.TableLaws.{heldSequence, sequenceMeant, noList, heldFrom, treeJudged, heldJudged, linesJudged};
 
-// The parents of an `up` line: how many, and the first sixteen.
-struct Parents {
+// The numbers of a line: how many, and the first sixteen.
+struct NumberList {
     count: usize,
-    up: [usize; 16],
+    numbers: [usize; 16],
 }
 
-// The parents count where the line is of its form.
-struct UpLine {
+// The list counts where the line is of its form.
+struct ListLine {
     good: bool,
-    parents: Parents,
+    list: NumberList,
 }
+
+// The line of the sequence, where the table has it: whether it is of its form, whether it is there, its numbers, and the place after it.
+struct SequenceRead {
+    good: bool,
+    named: bool,
+    list: NumberList,
+    end: usize,
+}
+
+// What stands in the place of a list that is not read.
+const NO_LIST: NumberList = NumberList {
+    count: 0,
+    numbers: ASCENDING,
+};
 
 // A tree and the place after its table, where it is not refused.
 pub struct Table {
@@ -34,59 +53,84 @@ pub struct Table {
     pub end: usize,
 }
 
-fn with_parent(p: Parents, parent: usize) -> Parents
-    requires { ⌜ p .count < 2 ^ 63 ⌝ }
-    ensures { λ r. ⌜ r ≡ withParent p parent ⌝ }
+fn with_number(l: NumberList, number: usize) -> NumberList
+    requires { ⌜ l .count < 2 ^ 63 ⌝ }
+    ensures { λ r. ⌜ r ≡ withOne l number ⌝ }
 {
-    let mut d = p;
+    let mut d = l;
     let n = d.count;
     d.count = n + 1;
     if n < 16 {
-        d.up[n] = parent;
+        d.numbers[n] = number;
         return d;
     }
     d
 }
 
 // The numerals of a text divided by commas; past the sixteenth they are counted alone.
-fn parents_in(text: &[u8]) -> UpLine
-    ensures { λ r. ⌜ upMeant r ≡ held (numerals (pieces (now (text .entry)))) ⌝ }
+fn numbers_in(text: &[u8]) -> ListLine
+    ensures { λ r. ⌜ lineMeant r ≡ held (numerals (pieces (now (text .entry)))) ⌝ }
 {
-    let mut parents = Parents {
+    let mut list = NumberList {
         count: 0,
-        up: [0; 16],
+        numbers: [0; 16],
     };
     let mut from: usize = 0;
     while from <= text.len() {
         let to = find(text, from, text.len(), b',');
         match numeral(&text[from..to], 2) {
-            Number::Is(parent) => parents = with_parent(parents, parent),
-            Number::Unread => return UpLine {
-                good: false,
-                parents,
-            },
+            Number::Is(number) => list = with_number(list, number),
+            Number::Unread => return ListLine { good: false, list },
         }
         from = to + 1;
     }
-    UpLine {
-        good: true,
-        parents,
+    ListLine { good: true, list }
+}
+
+fn numbers_of(line: &[u8], key: &[u8]) -> ListLine
+    ensures { λ r. ⌜ lineMeant r ≡ held (numbers (now (key .entry)) (now (line .entry))) ⌝ }
+{
+    if !starts_with(line, key) {
+        return ListLine {
+            good: false,
+            list: NO_LIST,
+        };
+    }
+    numbers_in(&line[key.len()..])
+}
+
+fn unlisted(good: bool, end: usize) -> SequenceRead
+    ensures { λ r. ⌜ sequenceMeant r ≡ cond good (read (heldSequence false noList end)) unread ⌝ }
+{
+    SequenceRead {
+        good,
+        named: false,
+        list: NO_LIST,
+        end,
     }
 }
 
-fn parents_of(line: &[u8]) -> UpLine
-    ensures { λ r. ⌜ upMeant r ≡ held (parents (now (line .entry))) ⌝ }
+// The sequence of a table whose third line ends at a place of the input.
+fn read_sequence(input: &[u8], at: usize) -> SequenceRead
+    requires { do ⌜ at ≤ (← ⟦input.len()⟧) ⌝ }
+    ensures { λ r. ⌜ sequenceMeant r ≡ heldFrom at (sequenceLine (drop at (now (input .entry)))) ⌝ }
 {
-    if !starts_with(line, b"up=") {
-        return UpLine {
-            good: false,
-            parents: Parents {
-                count: 0,
-                up: [0; 16],
-            },
-        };
+    if !starts_with(&input[at..], b"first=") {
+        return unlisted(true, at);
     }
-    parents_in(&line[3..])
+    let to = find(input, at, input.len(), b'\n');
+    if to == input.len() {
+        return unlisted(false, at);
+    }
+    let line = numbers_of(&input[at..to], b"first=");
+    let list = line.list;
+    let end = to + 1;
+    SequenceRead {
+        good: line.good,
+        named: true,
+        list,
+        end,
+    }
 }
 
 fn refused(number: u8) -> Table
@@ -98,25 +142,27 @@ fn refused(number: u8) -> Table
             columns: 0,
             root: 0,
             up: [0; 16],
+            first: ASCENDING,
         },
         end: 0,
     }
 }
 
-// By which number a tree is refused whose `up` line has `count` parents.
-fn counted_refusal(tree: Tree, count: usize) -> u8
-    ensures { λ r. ⌜ r ≡ countedRefusal tree count ⌝ }
+// By which number a tree is refused whose table has so many parents and lists so many columns.
+fn counted_refusal(tree: Tree, parents: usize, listed: usize) -> u8
+    ensures { λ r. ⌜ r ≡ countedRefusal tree parents listed ⌝ }
 {
     let mut n = refuse_if(0, tree.columns == 0, 2);
     n = refuse_if(n, 16 < tree.columns, 2);
-    n = refuse_if(n, count != tree.columns, 3);
+    n = refuse_if(n, parents != tree.columns, 3);
+    n = refuse_if(n, listed != tree.columns, 3);
     earlier(n, tree_refusal(tree))
 }
 
-fn judge(tree: Tree, count: usize, end: usize) -> Table
-    ensures { λ r. ⌜ answered (r .answer) (placedAt (r .tree) (r .end)) ≡ treeJudged tree count end ⌝ }
+fn judge(tree: Tree, parents: usize, listed: usize, end: usize) -> Table
+    ensures { λ r. ⌜ answered (r .answer) (placedAt (r .tree) (r .end)) ≡ treeJudged tree parents listed end ⌝ }
 {
-    let n = counted_refusal(tree, count);
+    let n = counted_refusal(tree, parents, listed);
     if n != 0 {
         return refused(n);
     }
@@ -127,28 +173,50 @@ fn judge(tree: Tree, count: usize, end: usize) -> Table
     }
 }
 
-fn read_lines(one: &[u8], two: &[u8], three: &[u8], end: usize) -> Table
-    ensures { λ r. ⌜ answered (r .answer) (placedAt (r .tree) (r .end)) ≡ linesJudged (now (one .entry)) (now (two .entry)) (now (three .entry)) end ⌝ }
+// What parents and a sequence make of the columns and the root.
+fn join(columns: usize, root: usize, parents: NumberList, sequence: SequenceRead) -> Table
+    ensures { λ r. ⌜ answered (r .answer) (placedAt (r .tree) (r .end)) ≡ heldJudged columns root (read parents) (sequenceMeant sequence) ⌝ }
+{
+    if !sequence.good {
+        return refused(1);
+    }
+    let up = parents.numbers;
+    let list = sequence.list;
+    let first = list.numbers;
+    let tree = Tree {
+        columns,
+        root,
+        up,
+        first,
+    };
+    if sequence.named {
+        return judge(tree, parents.count, list.count, sequence.end);
+    }
+    judge(tree, parents.count, columns, sequence.end)
+}
+
+// The table of three lines, and of what stands at a place of the input after them.
+fn read_lines(one: &[u8], two: &[u8], three: &[u8], input: &[u8], at: usize) -> Table
+    requires { do ⌜ at ≤ (← ⟦input.len()⟧) ⌝ }
+    ensures { λ r. ⌜ answered (r .answer) (placedAt (r .tree) (r .end)) ≡ linesJudged (now (one .entry)) (now (two .entry)) (now (three .entry)) (drop at (now (input .entry))) at ⌝ }
 {
     match keyed(one, b"columns=", 2) {
         Number::Unread => refused(1),
         Number::Is(columns) => match keyed(two, b"root=", 2) {
             Number::Unread => refused(1),
             Number::Is(root) => {
-                let line = parents_of(three);
+                let line = numbers_of(three, b"up=");
                 if !line.good {
                     return refused(1);
                 }
-                let parents = line.parents;
-                let up = parents.up;
-                let tree = Tree { columns, root, up };
-                judge(tree, parents.count, end)
+                let parents = line.list;
+                join(columns, root, parents, read_sequence(input, at))
             }
         },
     }
 }
 
-// The tree of the three lines that the input begins with, and the place after them; or 1, 2 or 3.
+// The tree of the table that the input begins with, and the place after it; or 1, 2 or 3.
 pub fn read_table(input: &[u8]) -> Table
     ensures { λ r. ⌜ answered (r .answer) (placedAt (r .tree) (r .end)) ≡ readTable (now (input .entry)) ⌝ }
 {
@@ -168,6 +236,7 @@ pub fn read_table(input: &[u8]) -> Table
         &input[0..one],
         &input[one + 1..two],
         &input[two + 1..three],
+        input,
         three + 1,
     )
 }

@@ -6,7 +6,9 @@ pub mod Refusals
 pub mod RefusalLaws
 pub mod Trees
 pub mod Pigeonhole
+pub mod SequenceLaws
 pub mod TreeLaws
+pub mod ChoiceLaws
 pub mod Depths
 pub mod ChildLaws
 pub mod Descents

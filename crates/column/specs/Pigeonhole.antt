@@ -1,11 +1,11 @@
--- Any n + 1 numbers below n have two equal ones among them. Assumes nothing.
+-- Any n + 1 numbers below n have two equal ones among them; n numbers that have each one below n among them have none. Assumes nothing.
 use Prim.Native.Nat.{ℕ, zero, suc, _≤_, _<_}
 use mathlib.Core.Path.{_≡_, sym, ap, _∙_}
 use mathlib.Core.Bool.{cond}
 use mathlib.Core.Logic.{_⊎_, inl, inr}
 use native.Mathlib.Omega.{arith}
-use lib.Dec.{eqb}
-use borrow.Author.Tests.{eq-eqb, ne-eqb}
+use lib.Dec.{eqb, ltb}
+use borrow.Author.Tests.{eq-eqb, ne-eqb, lt-ltb, le-ltb}
 use Rattle.column.specs.Cases.{equal-cases}
 
 -- two equal values of f, at places up to n
@@ -78,3 +78,48 @@ pigeonhole (suc n) f h = go (search-below f (f (suc n)) (suc n)) (pigeonhole n (
           within = omega arith;
           equal = swapped-equal f n (f (suc n)) (w .one) (w .other) (none (w .one) (omega arith)) (none (w .other) (omega arith)) (w .equal);
         }
+
+-- each number below n is the value of f at its place
+module _ (n : ℕ) (f place : ℕ → ℕ) (below : (c : ℕ) → c < n → place c < n) (back : (c : ℕ) → c < n → f (place c) ≡ c) where
+  -- the places, and after them d
+  places-and : ℕ → ℕ → ℕ
+  places-and d i = cond (ltb i n) (place i) d
+
+  -- no d is left over: n + 1 places below n would differ
+  none-left : (d : ℕ) → d < n → ((c : ℕ) → c < n → place c ≡ d → ⊥) → ⊥
+  unfolding places-and
+  none-left d h left = go (pigeonhole n (places-and d) (λ i l. under i (equal-cases i n) l))
+    where
+      placed : (i : ℕ) → i < n → places-and d i ≡ place i
+      placed i l = rw (lt-ltb i n l)
+
+      last : places-and d n ≡ d
+      last = rw (le-ltb n n (omega arith))
+
+      under : (i : ℕ) → (i ≡ n) ⊎ (i ≡ n → ⊥) → i ≤ n → places-and d i < n
+      under i (inl e) l = rw e (rw last h)
+      under i (inr e) l = rw (placed i (omega arith)) (below i (omega arith))
+
+      go : Twice (places-and d) n → ⊥
+      go w = apart (equal-cases (w .other) n)
+        where
+          one-lt : w .one < n
+          one-lt = omega (arith, w .before, w .within)
+
+          apart : (w .other ≡ n) ⊎ (w .other ≡ n → ⊥) → ⊥
+          apart (inl e) = left (w .one) one-lt (sym (placed (w .one) one-lt) ∙ w .equal ∙ ap (places-and d) e ∙ last)
+          apart (inr e) =
+              let l : w .other < n = omega (arith, w .within) in
+              let same : place (w .one) ≡ place (w .other) = sym (placed (w .one) one-lt) ∙ w .equal ∙ placed (w .other) l in
+              let equal : w .one ≡ w .other = sym (back (w .one) one-lt) ∙ ap f same ∙ back (w .other) l in
+              omega (arith, w .before)
+
+  place-is : (d : ℕ) → d < n → f d < n → place (f d) ≡ d
+  place-is d h l = go (equal-cases (place (f d)) d)
+    where
+      go : (place (f d) ≡ d) ⊎ (place (f d) ≡ d → ⊥) → place (f d) ≡ d
+      go (inl e) = e
+      go (inr e) = absurd (none-left d h (λ c k z. e (ap place (ap f (sym z) ∙ back c k) ∙ z)))
+
+  pub onto-once : (k m : ℕ) → k < n → m < n → f k < n → f k ≡ f m → k ≡ m
+  onto-once k m h l b e = sym (place-is k h b) ∙ ap place e ∙ place-is m l (omega arith)

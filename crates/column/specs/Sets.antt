@@ -38,10 +38,6 @@ lowestIn width m = trailingZeros width m
 abbrev pub lowest : ℕ → ℕ
 lowest m = lowestIn 16 m
 
--- "Columns of a set are served lowest number first. The report lets the strategy choose."
-abbrev pub choose : ℕ → ℕ
-choose m = lowest m
-
 -- every member of m is below n
 abbrev pub within : ℕ → ℕ → Bool
 within m n = eqb (m / 2 ^ n) 0

@@ -10,8 +10,9 @@ use Rattle.column.specs.Cases.{and-none, none-and}
 use Rattle.column.specs.RefusalLaws.{passed, passes, earlier-none}
 use Rattle.column.specs.Sets.{has, within}
 use Rattle.column.specs.SetLaws.{within-lt, lt-within, member-lt, members-lt}
-use Rattle.column.specs.Trees.{treeRefusal}
+use Rattle.column.specs.Trees.{treeRefusal, choose}
 use Rattle.column.specs.TreeLaws.{tree-sixteen}
+use Rattle.column.specs.ChoiceLaws.{choose-lt}
 use Rattle.column.specs.Packets.{isMessage, sender, receiver}
 use Rattle.column.specs.Columns.{stateConditions, stateRefusal, standing}
 use Rattle.column.specs.Steps.{packetConditions, packetRefusal, orderRefusal, takeRefusal, noteRefusal}
@@ -157,3 +158,13 @@ module _ (t : Tree) (i : ℕ) (c : Column) (good : standing t i c ≡ 0) where
 
   pub standing-column : i < 16
   standing-column = omega (arith, standing-sixteen, standing-sound .below)
+
+  pub standing-send : c .send < 2 ^ t .columns
+  unfolding stateRefusal
+  standing-send =
+      let p = passed (stateConditions t i c) tt (earlier-none (treeRefusal t) (stateRefusal t i c) good .1) in
+      within-lt (c .send) (t .columns) (not-false (within (c .send) (t .columns)) (p .1 .0))
+
+  -- the one that a send serves
+  pub standing-choice : 0 < c .send → choose t (c .send) < 16
+  standing-choice some = omega (arith, standing-sixteen, choose-lt t standing-tree (c .send) standing-send some)

@@ -7,22 +7,26 @@ use mathlib.Core.List.{List, [], _∷_, map}
 use lib.Count.{trailingZeros}
 use lib.ListN.{replicate}
 use Rattle.column.specs.Sets.{selected}
-use Rattle.column.specs.Trees.{every, climbsIn, treeRefusal}
+use Rattle.column.specs.Trees.{treeInSequence, treeOf, every, climbsIn, treeRefusal}
 use Rattle.column.specs.Columns.{stateRefusal, standing}
-use Rattle.column.specs.Steps.{accepted, packetRefusal, orderRefusal, orderEffect, sendRefusal, sendEffect, send, takeRefusal, acknowledgementEffect, receiveEffect, messageEffect, ackRefusal, allRefusal, noteRefusal, noteEffect, haltRefusal, haltEffect}
+use Rattle.column.specs.Steps.{accepted, packetRefusal, orderRefusal, orderEffect, sendRefusal, sendEffect, send, takeRefusal, acknowledgementEffect, receiveEffect, messageEffect, ackRefusal, ackEffect, ack, allRefusal, noteRefusal, noteEffect, haltRefusal, haltEffect}
 use Rattle.column.specs.declared.tree.Tree.{Tree}
 use Rattle.column.specs.declared.state.Column.{Column}
 use Rattle.column.specs.declared.packet.Packet.the-variants.{Message, Acknowledgement}
 
 -- "columns=3, root=0, up=0,0,1"
 abbrev three : Tree
-three = record { columns = 3; root = 0; up = 0 ∷ 0 ∷ 1 ∷ replicate 13 0 }
+three = treeOf 3 0 (0 ∷ 0 ∷ 1 ∷ replicate 13 0)
+
+-- the same, the farthest served first
+abbrev farthest : Tree
+farthest = treeInSequence 3 0 (0 ∷ 0 ∷ 1 ∷ replicate 13 0) (2 ∷ 1 ∷ 0 ∷ replicate 13 0)
 
 abbrev many : Tree
-many = record { columns = 17; root = 0; up = replicate 16 0 }
+many = treeOf 17 0 (replicate 16 0)
 
 abbrev astray : Tree
-astray = record { columns = 3; root = 0; up = 0 ∷ 7 ∷ 1 ∷ replicate 13 0 }
+astray = treeOf 3 0 (0 ∷ 7 ∷ 1 ∷ replicate 13 0)
 
 -- a column by its sets to send to, awaited, owed and noted; order number 4, doors 9
 abbrev column : Bool → ℕ → ℕ → ℕ → ℕ → Bool → Column
@@ -121,18 +125,28 @@ order-owing = refl
 
 -- a column that is to send to itself has "no more" to do, though it has noted itself
 send-itself : sendEffect three 1 (column true 6 0 0 2 true) ≡ accepted (column true 4 0 0 2 true) [] false
-unfolding sendEffect trailingZeros
+unfolding sendEffect
 send-itself = refl
 
 -- "If i has noted c, c's children join the set"
 send-noted : sendEffect three 0 (column true 2 0 0 2 true) ≡ accepted (column true 4 0 0 2 true) [] false
-unfolding sendEffect selected trailingZeros
+unfolding sendEffect selected
 send-noted = refl
 
--- the lowest is served, with the record
+-- in ascending numbers the lowest is served, with the record
 send-lowest : sendEffect three 0 (column true 6 0 0 0 true) ≡ accepted (column true 4 2 0 0 true) (Message 0 1 4 9 ∷ []) false
-unfolding sendEffect trailingZeros
+unfolding sendEffect
 send-lowest = refl
+
+-- "Send then takes the member that stands earliest in that list, not the lowest."
+send-earliest : sendEffect farthest 0 (column true 6 0 0 0 true) ≡ accepted (column true 2 4 0 0 true) (Message 0 2 4 9 ∷ []) false
+unfolding sendEffect
+send-earliest = refl
+
+-- "Ack still serves the lowest owed."
+ack-lowest : ack farthest 0 (column true 0 0 6 0 true) ≡ accepted (column true 0 0 4 0 true) (Acknowledgement 0 1 4 ∷ []) false
+unfolding ackEffect ackRefusal stateRefusal treeRefusal every climbsIn trailingZeros
+ack-lowest = refl
 
 -- "another number changes nothing", a higher one too
 acknowledgement-higher : acknowledgementEffect (column true 0 6 0 0 true) 1 5 ≡ accepted (column true 0 6 0 0 true) [] false

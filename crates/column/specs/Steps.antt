@@ -5,8 +5,8 @@ use mathlib.Core.Bool.{Bool, true, false, not, _&&_, _||_, cond}
 use mathlib.Core.List.{List, [], _∷_}
 use lib.Dec.{eqb, leb, ltb}
 use Rattle.column.specs.Refusals.{first, earlier}
-use Rattle.column.specs.Sets.{has, single, join, insert, without, lowest, choose}
-use Rattle.column.specs.Trees.{children}
+use Rattle.column.specs.Sets.{has, single, join, insert, without, lowest}
+use Rattle.column.specs.Trees.{choose, children}
 use Rattle.column.specs.Packets.{isMessage, sender, receiver}
 use Rattle.column.specs.Columns.{highest, standing, idle, stopped, withSets}
 use Rattle.column.specs.declared.tree.Tree.{Tree}
@@ -84,11 +84,11 @@ sendConditions t i c =
 unfoldable pub sendRefusal : Tree → ℕ → Column → ℕ
 sendRefusal t i c = earlier (standing t i c) (first (sendConditions t i c))
 
--- "takes the lowest column c out of i's set .. If c is i, no more. If i has noted c, c's children join the set. Otherwise c is
+-- "takes the .. column c out of i's set", that which stands earliest in the tree's sequence. "If c is i, no more. If i has noted c, c's children join the set. Otherwise c is
 -- awaited and a message with i's record is put."
 unfoldable pub sendEffect : Tree → ℕ → Column → Result
 sendEffect t i c =
-    let k = choose (c .send) in
+    let k = choose t (c .send) in
     let rest = without (c .send) k in
     cond (eqb k i)
     (accepted (withSets c rest (c .awaited) (c .owed)) [] false)

@@ -1,8 +1,8 @@
 -- The check of rows 2 and 3 decides `IsTree`: a climb that ends at the root at all does so within as many parents as there are columns.
 -- Assumes nothing.
 use Prim.Native.Nat.{ℕ, zero, suc, _+_, _≤_, _<_}
-use mathlib.Core.Path.{_≡_, refl, sym, ap, _∙_}
-use mathlib.Core.Bool.{Bool, true, false, not, _||_, cond, or-true, true≢false}
+use mathlib.Core.Path.{_≡_, refl, sym, ap, ap₂, _∙_}
+use mathlib.Core.Bool.{Bool, true, false, not, _&&_, _||_, cond, or-true, true≢false}
 use mathlib.Core.Logic.{_⊎_, inl, inr, ⊎-elim, _↔_}
 use mathlib.Core.List.{[], _∷_}
 use native.Mathlib.Nat.{add-zero, add-suc}
@@ -13,7 +13,9 @@ use Rattle.column.specs.Cases.{equal-cases, truth, or-cases, and-left, a
 use Rattle.column.specs.Refusals.{first}
 use Rattle.column.specs.RefusalLaws.{passed, passes, earlier-none}
 use Rattle.column.specs.Pigeonhole.{Twice, pigeonhole}
-use Rattle.column.specs.Trees.{parent, climb, IsTree, every, parentBelow, climbsIn, treeConditions, treeRefusal, columnRefusal}
+use Rattle.column.specs.Sets.{whole}
+use Rattle.column.specs.SequenceLaws.{each-listed, listed-once, lists-whole}
+use Rattle.column.specs.Trees.{treeOf, parent, climb, listedAt, IsTree, every, parentBelow, climbsIn, listedBelow, listedIn, listsEach, treeConditions, treeRefusal, columnRefusal}
 use Rattle.column.specs.declared.tree.Tree.{Tree}
 
 -- ---- a test of every column below n
@@ -32,6 +34,11 @@ module _ (f : ℕ → Bool) where
   unfolding every
   every-all zero h = refl
   every-all (suc n) h = rw (every-all n (λ j l. h j (omega arith)), h n (omega arith))
+
+  pub every-alike : (g : ℕ → Bool) → ((j : ℕ) → f j ≡ g j) → (n : ℕ) → every f n ≡ every g n
+  unfolding every
+  every-alike g e zero = refl
+  every-alike g e (suc n) = ap₂ (λ (x y : Bool). x && y) (every-alike g e n) (e n)
 
   pub every-fails : (n j : ℕ) → f j ≡ false → j < n → every f n ≡ false
   every-fails n j e h = ⊎-elim (λ a. absurd (true≢false (sym (every-at n j a h) ∙ e))) (λ a. a) (truth (every f n))
@@ -61,6 +68,16 @@ module _ (t : Tree) where
   pub climbs-more : (budget c : ℕ) → (c ≡ t .root → ⊥) → climbsIn t (suc budget) c ≡ climbsIn t budget (parent t c)
   unfolding climbsIn
   climbs-more budget c ne = rw (ne-eqb c (t .root) ne)
+
+  -- a climb does not look at the sequence
+  climbs-alike : (budget c : ℕ) → climbsIn (treeOf (t .columns) (t .root) (t .up)) budget c ≡ climbsIn t budget c
+  unfolding climbsIn
+  climbs-alike zero c = refl
+  climbs-alike (suc budget) c = ap (λ (b : Bool). eqb c (t .root) || b) (climbs-alike budget (parent t c))
+
+  pub every-climbs-alike : (budget n : ℕ)
+      → every (climbsIn (treeOf (t .columns) (t .root) (t .up)) budget) n ≡ every (climbsIn t budget) n
+  every-climbs-alike budget n = every-alike _ (climbsIn t budget) (climbs-alike budget) n
 
   pub climb-ends : (budget c : ℕ) → climbsIn t budget c ≡ true → (k : ℕ) × (k < budget) × (climb t k c ≡ t .root)
   unfolding climb climbsIn
@@ -105,40 +122,60 @@ module _ (t : Tree) where
         let r = circle w k in
         (r .0, omega arith, r .2)
 
+    -- a climb that comes to where one ends, ends
+    pub climbs-on : (i k : ℕ) → climb t k (climb t i c) ≡ t .root → climbsIn t (t .columns) c ≡ true
+    climbs-on i k e =
+        let r = climb-short (k + i) in
+        ends-climb (t .columns) (r .0) c (r .1) (r .2 ∙ climb-add k i c ∙ e)
+
 -- ---- the check
 
 -- the conditions of row 3 give 0 or 3
 abbrev Three : ℕ → Type 0
 Three n = (n ≡ 0) ⊎ (n ≡ 3)
 
-three : (a b c d : Bool) → Three (cond a 3 (cond b 3 (cond c 3 (cond d 3 0))))
-three true b c d = inr refl
-three false true c d = inr refl
-three false false true d = inr refl
-three false false false true = inr refl
-three false false false false = inl refl
+three : (a b c d e : Bool) → Three (cond a 3 (cond b 3 (cond c 3 (cond d 3 (cond e 3 0)))))
+three true b c d e = inr refl
+three false true c d e = inr refl
+three false false true d e = inr refl
+three false false false true e = inr refl
+three false false false false true = inr refl
+three false false false false false = inl refl
 
 module _ (t : Tree) where
   accepted : treeRefusal t ≡ 0 → IsTree t
   unfolding treeRefusal
   accepted e =
       let p = passed (treeConditions t) tt e in
+      let each : listsEach t ≡ true = not-false _ (p .1 .1 .1 .1 .0) in
+      let below : (k : ℕ) → k < t .columns → listedAt t k < t .columns =
+      λ k h. ltb-true (listedAt t k) (t .columns) (every-at (listedBelow t) (t .columns) k (and-left _ _ each) h) in
+      let whole-listed : listedIn (t .first) (t .columns) ≡ whole (t .columns) =
+      eqb-true (listedIn (t .first) (t .columns)) (whole (t .columns)) (and-right (every (listedBelow t) (t .columns)) _ each) in
       record {
         some = omega (arith, eqb-false (t .columns) 0 (p .0));
         sixteen = ltb-false 16 (t .columns) (p .1 .0);
         root-below = leb-false (t .columns) (t .root) (p .1 .1 .0);
         parent-below = λ c h. ltb-true (parent t c) (t .columns) (every-at (parentBelow t) (t .columns) c (not-false _ (p .1 .1 .1 .0)) h);
-        root-own = eqb-true (parent t (t .root)) (t .root) (not-false _ (p .1 .1 .1 .1 .0));
+        root-own = eqb-true (parent t (t .root)) (t .root) (not-false _ (p .1 .1 .1 .1 .1 .0));
         climbs = λ c h.
-            let r = climb-ends t (t .columns) c (every-at (climbsIn t (t .columns)) (t .columns) c (not-false _ (p .1 .1 .1 .1 .1 .0)) h) in
+            let r = climb-ends t (t .columns) c (every-at (climbsIn t (t .columns)) (t .columns) c (not-false _ (p .1 .1 .1 .1 .1 .1 .0)) h) in
             (r .0, r .2);
+        listed = each-listed (t .first) (t .columns) below whole-listed;
+        listed-once = listed-once (t .first) (t .columns) below whole-listed;
+        listed-below = below;
       }
 
   pub climbs-in : IsTree t → (c : ℕ) → c < t .columns → climbsIn t (t .columns) c ≡ true
-  climbs-in tree c h =
-      let w = tree .climbs c h in
-      let r = climb-short t (tree .parent-below) c h (w .0) in
-      ends-climb t (t .columns) (r .0) c (r .1) (r .2 ∙ w .1)
+  climbs-in tree c h = let w = tree .climbs c h in climbs-on t (tree .parent-below) c h 0 (w .0) (ap (climb t (w .0)) (climb-zero t c) ∙ w .1)
+
+  lists-each : IsTree t → listsEach t ≡ true
+  lists-each tree =
+      let n = t .columns in
+      rw (
+        every-all (listedBelow t) n (λ k h. lt-ltb (listedAt t k) n (tree .listed-below k h)),
+        eq-eqb (listedIn (t .first) n) (whole n) (lists-whole (t .first) n (tree .listed-below) (tree .listed)),
+      )
 
   exact : IsTree t → treeRefusal t ≡ 0
   unfolding treeRefusal
@@ -152,10 +189,13 @@ module _ (t : Tree) where
             (
               ap not (every-all (parentBelow t) (t .columns) (λ c h. lt-ltb (parent t c) (t .columns) (tree .parent-below c h))),
               (
-                ap not (eq-eqb (parent t (t .root)) (t .root) (tree .root-own)),
+                ap not (lists-each tree),
                 (
-                  ap not (every-all (climbsIn t (t .columns)) (t .columns) (climbs-in tree)),
-                  tt,
+                  ap not (eq-eqb (parent t (t .root)) (t .root) (tree .root-own)),
+                  (
+                    ap not (every-all (climbsIn t (t .columns)) (t .columns) (climbs-in tree)),
+                    tt,
+                  ),
                 ),
               ),
             ),
@@ -187,7 +227,7 @@ module _ (t : Tree) where
       go (inl a) b = inl (inl (eqb-true (t .columns) 0 a), rw a)
       go (inr a) (inl b) = inl (inr (ltb-true 16 (t .columns) b), rw (a, b))
       go (inr a) (inr b) =
-          inr (rw (a, b) (three (leb (t .columns) (t .root)) (not (every (parentBelow t) (t .columns)))
+          inr (rw (a, b) (three (leb (t .columns) (t .root)) (not (every (parentBelow t) (t .columns))) (not (listsEach t))
           (not (eqb (parent t (t .root)) (t .root))) (not (every (climbsIn t (t .columns)) (t .columns)))))
 
   two-refused : (t .columns ≡ 0) ⊎ (16 < t .columns) → treeRefusal t ≡ 2

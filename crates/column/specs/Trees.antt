@@ -1,19 +1,32 @@
--- The tree of a bank, after document 01, "The bank and its table".
-use Prim.Native.Nat.{ℕ, zero, suc, _≤_, _<_}
+-- The tree of a bank, after document 01, "The bank and its table", and its sequence, after document 02, Point 6.
+use Prim.Native.Nat.{ℕ, zero, suc, _≤_, _<_, min}
 use mathlib.Core.Path.{_≡_}
 use mathlib.Core.Bool.{Bool, true, false, not, _&&_, _||_, cond}
 use mathlib.Core.List.{List, [], _∷_}
 use lib.Dec.{eqb, leb, ltb}
 use lib.ListN.{getD}
 use Rattle.column.specs.Refusals.{first, earlier, Given, given, refused, givenUnless}
-use Rattle.column.specs.Sets.{single, join, without, lowest, within, selected}
+use Rattle.column.specs.Sets.{has, single, join, insert, without, lowest, within, whole, selected}
 use Rattle.column.specs.declared.tree.Tree.{Tree}
 use Rattle.column.specs.declared.tree.Members.{Members}
 use Rattle.column.specs.declared.tree.Members.the-variants.{Set, Refused}
 
+-- k numbers from n on
+abbrev pub risingFrom : ℕ → ℕ → List ℕ
+risingFrom n zero = []
+risingFrom n (suc k) = n ∷ risingFrom (suc n) k
+
+-- document 02, Point 6: "Without it, ascending numbers"
+abbrev pub ascending : List ℕ
+ascending = risingFrom 0 16
+
 -- a tree by its parts
+abbrev pub treeInSequence : ℕ → ℕ → List ℕ → List ℕ → Tree
+treeInSequence columns root up first = record { columns = columns; root = root; up = up; first = first }
+
+-- a tree that names no sequence
 abbrev pub treeOf : ℕ → ℕ → List ℕ → Tree
-treeOf columns root up = record { columns = columns; root = root; up = up }
+treeOf columns root up = treeInSequence columns root up ascending
 
 -- "`up` names each column's parent in order"
 abbrev pub parent : Tree → ℕ → ℕ
@@ -24,7 +37,11 @@ unfoldable pub climb : Tree → ℕ → ℕ → ℕ
 climb t zero c = c
 climb t (suc k) c = climb t k (parent t c)
 
--- what document 01 asks of a tree
+-- which column stands at place k of the sequence
+abbrev pub listedAt : Tree → ℕ → ℕ
+listedAt t k = getD (t .first) k 0
+
+-- what document 01, and of the sequence document 02, asks of a tree
 pub record IsTree (t : Tree) : Type 0 where
   -- "A bank has 1 to 16 columns"
   pub some : 1 ≤ t .columns
@@ -35,6 +52,10 @@ pub record IsTree (t : Tree) : Type 0 where
   pub root-own : parent t (t .root) ≡ t .root
   -- "Every climb by parents must end at the root", however long it is
   pub climbs : (c : ℕ) → c < t .columns → (k : ℕ) × (climb t k c ≡ t .root)
+  -- "listing .. every column exactly once": it misses none, repeats none and exceeds none
+  pub listed : (c : ℕ) → c < t .columns → (k : ℕ) × (k < t .columns) × (listedAt t k ≡ c)
+  pub listed-once : (k m : ℕ) → k < t .columns → m < t .columns → listedAt t k ≡ listedAt t m → k ≡ m
+  pub listed-below : (k : ℕ) → k < t .columns → listedAt t k < t .columns
 
 -- ---- the check of rows 2 and 3, which computes; `check-exact` of TreeLaws says that it decides `IsTree`
 
@@ -51,19 +72,53 @@ unfoldable pub climbsIn : Tree → ℕ → ℕ → Bool
 climbsIn t zero c = false
 climbsIn t (suc budget) c = eqb c (t .root) || climbsIn t budget (parent t c)
 
--- "2: columns 0 or above 16. 3: root or parent not below columns, .. root not its own parent, or a climb that misses the root"
+abbrev pub listedBelow : Tree → ℕ → Bool
+listedBelow t k = ltb (listedAt t k) (t .columns)
+
+-- the columns at the first k places of a sequence
+abbrev pub listedIn : List ℕ → ℕ → ℕ
+listedIn first zero = 0
+listedIn first (suc k) = insert (listedIn first k) (getD first k 0)
+
+-- at as many places as there are columns nothing but columns, and each of them: so none is repeated
+abbrev pub listsEach : Tree → Bool
+listsEach t = every (listedBelow t) (t .columns) && eqb (listedIn (t .first) (t .columns)) (whole (t .columns))
+
+-- what both lists of a tree are tested for in one pass
+abbrev pub listsHold : Tree → Bool
+listsHold t = every (parentBelow t) (t .columns) && listsEach t
+
+-- "2: columns 0 or above 16. 3: root or parent not below columns, .. root not its own parent, or a climb that misses the root"; "A list that
+-- misses, repeats or exceeds a column is refused with 3."
 abbrev pub treeConditions : Tree → List (ℕ × Bool)
 treeConditions t =
     (2, eqb (t .columns) 0)
     ∷ (2, ltb 16 (t .columns))
     ∷ (3, leb (t .columns) (t .root))
     ∷ (3, not (every (parentBelow t) (t .columns)))
+    ∷ (3, not (listsEach t))
     ∷ (3, not (eqb (parent t (t .root)) (t .root)))
     ∷ (3, not (every (climbsIn t (t .columns)) (t .columns)))
     ∷ []
 
 unfoldable pub treeRefusal : Tree → ℕ
 treeRefusal t = first (treeConditions t)
+
+-- ---- the choice: "Send then takes the member that stands earliest in that list, not the lowest."
+
+-- the first member of m at k places of a sequence, from place `at` on; 16 where none stands there
+abbrev pub earliestFrom : List ℕ → ℕ → ℕ → ℕ → ℕ
+earliestFrom first m at zero = 16
+earliestFrom first m at (suc k) =
+    let c = getD first at 0 in
+    cond (has m c) c (earliestFrom first m (suc at) k)
+
+-- a sequence has sixteen places, of which as many count as there are columns
+abbrev pub places : Tree → ℕ
+places t = min (t .columns) 16
+
+abbrev pub choose : Tree → ℕ → ℕ
+choose t m = earliestFrom (t .first) m 0 (places t)
 
 -- ---- children and subtrees
 

@@ -1,4 +1,5 @@
 // What each step does where nothing refuses it.
+use crate::choice::choose;
 use crate::members::has;
 use crate::members::lowest;
 use crate::packet::Number;
@@ -18,6 +19,7 @@ ghost use mathlib.Core.List.{[], _∷_};
 ghost use Prim.Native.Nat.{_<_, _≤_};
 ghost use Rattle.column.specs.Packets.{sender};
 ghost use Rattle.column.specs.declared.packet.Packet.the-variants.{Acknowledgement};
+ghost use Rattle.column.specs.Trees.{choose};
 ghost use Rattle.column.specs.Columns.{highest};
 ghost use Rattle.column.specs.Steps.{meant, accepted, orderEffect, sendEffect, acknowledgementEffect, acknowledgeLowest, messageEffect, takeEffect, ackEffect, allEffect, noteEffect, haltEffect};
 
@@ -59,10 +61,10 @@ pub fn order_effect(t: Tree, i: usize, mut c: Column, doors: u64) -> Outcome
 }
 
 pub fn send_effect(t: Tree, i: usize, mut c: Column) -> Outcome
-    requires { ⌜ (t .columns ≤ 16) × ((i < 16) × (0 < c .send)) ⌝ }
+    requires { ⌜ (t .columns ≤ 16) × ((i < 16) × (choose t (c .send) < 16)) ⌝ }
     ensures { λ r. ⌜ meant r ≡ sendEffect t i c ⌝ }
 {
-    let k = lowest(c.send);
+    let k = choose(t, c.send);
     c.send = without(c.send, k);
     if k == i {
         return done(c);

@@ -1,5 +1,6 @@
 // The core of one column of a locker bank, which can be had alone. By value, with no heap and no global state.
 // Functions of public modules ask nothing of their arguments: what the papers refuse is answered by its number, and nothing changes.
+pub mod choice;
 pub mod codec;
 mod effect;
 pub mod frame;

@@ -1,7 +1,7 @@
-// Sets of columns as masks, changed: each asks for a column below 16.
+// Sets of columns as masks, made and changed: each asks for columns below 16.
 ghost use mathlib.Core.Path.{_≡_};
-ghost use Prim.Native.Nat.{_<_};
-ghost use Rattle.column.specs.Sets.{single, insert, without};
+ghost use Prim.Native.Nat.{_<_, _≤_};
+ghost use Rattle.column.specs.Sets.{single, insert, without, whole};
 
 pub fn single(i: usize) -> u16
     requires { ⌜ i < 16 ⌝ }
@@ -23,4 +23,12 @@ pub fn without(m: u16, i: usize) -> u16
     ensures { λ r. ⌜ r ≡ without m i ⌝ }
 {
     insert(m, i) ^ single(i)
+}
+
+// All columns below n.
+pub fn whole(n: usize) -> u16
+    requires { ⌜ n ≤ 16 ⌝ }
+    ensures { λ r. ⌜ r ≡ whole n ⌝ }
+{
+    ((1u32 << n) - 1) as u16
 }

@@ -2,30 +2,40 @@
 use crate::members::lowest;
 use crate::sets::insert;
 use crate::sets::single;
+use crate::sets::whole;
 use crate::sets::without;
 use crate::tree::Tree;
 ghost use mathlib.Core.Path.{_≡_};
 ghost use mathlib.Core.Bool.{true};
 ghost use Prim.Native.Nat.{_≤_, _<_};
-ghost use Rattle.column.specs.Trees.{treeOf, every, parentBelow, climbsIn, children, subtreeIn, subtreesIn};
+ghost use Rattle.column.specs.Trees.{treeOf, treeInSequence, every, parentBelow, climbsIn, listsHold, children, subtreeIn, subtreesIn};
 
-pub fn parents_below(up: &[usize; 16], n: usize) -> bool
+// What must hold of the two lists of a tree before any climb: every parent is below n, and the first n places of the sequence have each
+// column below n. One pass goes over both.
+pub fn lists_hold<'a>(up: &'a [usize; 16], first: &'a [usize; 16], n: usize) -> bool
     requires { ⌜ n ≤ 16 ⌝ }
-    ensures { λ r. ⌜ r ≡ every (parentBelow (treeOf n 0 (now (up .entry)))) n ⌝ }
+    ensures { λ r. ⌜ r ≡ listsHold (treeInSequence n 0 (now (up .entry)) (now (first .entry))) ⌝ }
 {
+    let mut listed: u16 = 0;
     let mut j: usize = 0;
     while j < n {
         if n <= up[j] {
             return false;
         }
+        let c = first[j];
+        if n <= c {
+            return false;
+        }
+        listed = insert(listed, c);
         j += 1;
     }
-    true
+    listed == whole(n)
 }
 
-// Whether the climb from c meets the root before it has been at more places than there are columns.
+// Whether the climb from c meets the root before it has been at more places than there are columns. The climbs from the columns below c
+// have been seen to end, so this one ends where it comes to such a column.
 pub fn climbs_in(up: &[usize; 16], n: usize, root: usize, c: usize) -> bool
-    requires { ⌜ (n ≤ 16) × ((c < n) × (every (parentBelow (treeOf n 0 (now up))) n ≡ true)) ⌝ }
+    requires { ⌜ (n ≤ 16) × ((c < n) × ((every (parentBelow (treeOf n 0 (now up))) n ≡ true) × (every (climbsIn (treeOf n root (now up)) n) c ≡ true))) ⌝ }
     ensures { λ r. ⌜ r ≡ climbsIn (treeOf n root (now (up .entry))) n c ⌝ }
 {
     let mut at = c;
@@ -35,6 +45,9 @@ pub fn climbs_in(up: &[usize; 16], n: usize, root: usize, c: usize) -> bool
             return true;
         }
         at = up[at];
+        if at < c {
+            return true;
+        }
         budget -= 1;
     }
     false

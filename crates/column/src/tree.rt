@@ -3,7 +3,7 @@ use crate::members::within;
 use crate::precedence::refuse_if;
 use crate::traversal::children_of;
 use crate::traversal::climbs_end;
-use crate::traversal::parents_below;
+use crate::traversal::lists_hold;
 use crate::traversal::subtree_in;
 use crate::traversal::subtrees_in;
 ghost use mathlib.Core.Path.{_≡_};
@@ -12,10 +12,15 @@ ghost use Rattle.column.specs.Trees.{treeRefusal, columnRefusal, members
 // Calls enough for the subtree of any column.
 const DESCENT: usize = 288;
 
+// The sequence of a tree that names none.
+pub const ASCENDING: [usize; 16] = [0, 1, 2, 3, 4, 5, 6, 7, 8, 9, 10, 11, 12, 13, 14, 15];
+
 pub struct Tree {
     pub columns: usize,
     pub root: usize,
     pub up: [usize; 16],
+    // The owner's sequence, in which send serves: every column exactly once.
+    pub first: [usize; 16],
 }
 
 pub enum Members {
@@ -38,7 +43,7 @@ pub fn tree_refusal(t: Tree) -> u8
     if n <= root {
         return 3;
     }
-    if !parents_below(&t.up, n) {
+    if !lists_hold(&t.up, &t.first, n) {
         return 3;
     }
     if t.up[root] != root {

@@ -8,12 +8,14 @@ use bank::step::Step;
 use bank::step::perform;
 use closing::line::Line;
 use closing::line::parse;
+use column::tree::ASCENDING;
 use column::tree::Tree;
 
 const TREE: Tree = Tree {
     columns: 3,
     root: 0,
     up: [0, 0, 1, 0, 0, 0, 0, 0, 0, 0, 0, 0, 0, 0, 0, 0],
+    first: ASCENDING,
 };
 
 fn performed(x: Step) -> Answer {

@@ -6,6 +6,7 @@ use bank::bank::Bank;
 use bank::bank::fresh;
 use closing::list::Listing;
 use closing::list::list;
+use column::tree::ASCENDING;
 use column::tree::Tree;
 
 // What the buffer holds before a call; no list has this byte.
@@ -17,6 +18,7 @@ const TREE: Tree = Tree {
     columns: 16,
     root: 0,
     up: [0; 16],
+    first: ASCENDING,
 };
 
 // The lister's list is the longest.

@@ -9,7 +9,8 @@ use lib.Dec.{eqb, ltb}
 use borrow.Author.Tests.{eqb-true, leb-false}
 use Rattle.column.specs.Refusals.{first, earlier}
 use Rattle.column.specs.RefusalLaws.{passed, earlier-none}
-use Rattle.column.specs.Sets.{has, insert, without, choose}
+use Rattle.column.specs.Sets.{has, insert, without}
+use Rattle.column.specs.Trees.{choose}
 use Rattle.column.specs.SetLaws.{has-and, has-none, has-insert, has-without, insert-lt, and-insert, no-members}
 use Rattle.column.specs.TreeLaws.{tree-sixteen}
 use Rattle.column.specs.Columns.{standing}
@@ -77,7 +78,7 @@ module _ (t : Tree) (i : ℕ) (c : Column) (h : Apart c) where
   send-apart : Stands t i c → Apart (columnOf (sendEffect t i c))
   unfolding sendEffect
   send-apart s =
-      let k = choose (c .send) in
+      let k = choose t (c .send) in
       either (eqb k i) _ _ (λ e. h) (λ e. either (has (c .noted) k) _ _ (λ e. h) (λ e. awaited-apart (c .awaited) (c .noted) h (noted-lt s) k e))
 
   take-apart : Stands t i c → (p : Packet) → Apart (columnOf (takeEffect t i c p))

@@ -5,7 +5,8 @@ use mathlib.Core.Path.{_≡_, refl, sym, ap}
 use mathlib.Core.Bool.{cond}
 use native.Mathlib.Omega.{arith}
 use lib.Dec.{eqb}
-use Rattle.column.specs.Sets.{has, join, without, choose}
+use Rattle.column.specs.Sets.{has, join, without}
+use Rattle.column.specs.Trees.{choose}
 use Rattle.column.specs.Steps.{sendRefusal, sendEffect}
 use Rattle.column.specs.declared.tree.Tree.{Tree}
 use Rattle.column.specs.declared.state.Column.{Column}
@@ -22,7 +23,7 @@ module _ (t : Tree) (i : ℕ) (c : Column) (ready : Ready t i c) where
   unfolding sendEffect sendCommand
   send-effect =
       let v = variablesOf t i c in
-      let k = choose (c .send) in
+      let k = choose t (c .send) in
       makes-either (eqb k i)
       (λ e. makes-of refl (ready .runs))
       (λ e. makes-either (has (c .noted) k)

@@ -5,8 +5,8 @@ use mathlib.Core.Bool.{Bool, not, _&&_, _||_, cond}
 use mathlib.Core.List.{List, [], _∷_, _++_, map}
 use lib.Bits.{bitAnd, bitXor}
 use lib.Dec.{eqb, ltb}
-use Rattle.column.specs.Sets.{has, single, join, choose, selected}
-use Rattle.column.specs.Trees.{parent}
+use Rattle.column.specs.Sets.{has, single, join, selected}
+use Rattle.column.specs.Trees.{parent, choose}
 use Rattle.column.specs.declared.tree.Tree.{Tree}
 use Rattle.column.specs.declared.packet.Packet.{Packet}
 use Rattle.column.specs.declared.packet.Packet.the-variants.{Message, Acknowledgement}
@@ -82,7 +82,7 @@ sendGuard v = not (isEmpty (v .sendto))
 
 unfoldable pub sendCommand : Tree → ℕ → ℕ → Variables → Made
 sendCommand t i FAILED v =
-    let dest = choose (v .sendto) in
+    let dest = choose t (v .sendto) in
     let sendto = less (v .sendto) (single dest) in
     cond (eqb dest i)
     (record { variables = withSets v sendto (v .ackfrom) (v .ackto); sent = [] })

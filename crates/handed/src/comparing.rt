@@ -56,10 +56,13 @@ fn trees() {
     let mut up = TREE;
     columns.columns = 4;
     root.root = 1;
+    let mut first = TREE;
     up.up[15] = 1;
+    first.first[15] = 1;
     compared(b"columns", with_tree(quiet(), columns));
     compared(b"root", with_tree(quiet(), root));
     compared(b"the last parent", with_tree(quiet(), up));
+    compared(b"the last place of the sequence", with_tree(quiet(), first));
 }
 
 pub fn cases() {

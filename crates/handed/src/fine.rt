@@ -33,6 +33,7 @@ pub fn with_junk(s: State) -> State {
     b.columns = columns;
     let mut t = b.tree;
     t.up = [0, 0, 1, 99, 99, 99, 99, 99, 99, 99, 99, 99, 99, 99, 99, 99];
+    t.first = [2, 0, 1, 99, 99, 99, 99, 99, 99, 99, 99, 99, 99, 99, 99, 99];
     b.tree = t;
     let mut heads = [18446744073709551615u64; 512];
     let mut doors = [18446744073709551615u64; 512];

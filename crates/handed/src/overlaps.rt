@@ -18,6 +18,7 @@ use crate::state::root;
 use crate::state::with_column;
 use crate::state::with_tree;
 use bank::step::Step;
+use column::tree::ASCENDING;
 use column::tree::Tree;
 
 // The tree whose first three parents are given.
@@ -26,7 +27,17 @@ fn tree(columns: usize, root: usize, first: usize, second: usize, third: usize) 
         columns,
         root,
         up: [first, second, third, 0, 0, 0, 0, 0, 0, 0, 0, 0, 0, 0, 0, 0],
+        first: ASCENDING,
     }
+}
+
+// The tree of three columns with a sequence that begins with these.
+fn sequenced(one: usize, two: usize, three: usize) -> Tree {
+    let mut t = tree(3, 0, 0, 0, 1);
+    t.first[0] = one;
+    t.first[1] = two;
+    t.first[2] = three;
+    t
 }
 
 // Row 4 meets the state of column 1.
@@ -97,6 +108,25 @@ fn three() {
         Step::Send(0),
     );
     answer(b"3 over 10, parent 7", s, Step::Take(600));
+}
+
+// "A list that misses, repeats or exceeds a column is refused with 3."
+fn sequences() {
+    answer(
+        b"3, a column listed twice",
+        with_tree(busy(), sequenced(2, 0, 2)),
+        Step::Send(0),
+    );
+    answer(
+        b"3, column 3 listed",
+        with_tree(busy(), sequenced(2, 0, 3)),
+        Step::Ack(1),
+    );
+    answer(
+        b"3 over 4, a column listed twice",
+        with_tree(busy(), sequenced(0, 0, 1)),
+        Step::Send(99),
+    );
 }
 
 // The other refusal alone, and then with a fault elsewhere.
@@ -227,6 +257,7 @@ fn ten() {
 pub fn cases() {
     two();
     three();
+    sequences();
     four();
     five();
     six();

@@ -18,6 +18,7 @@ use crate::state::with_count;
 use crate::state::with_tree;
 use crate::state::with_words;
 use bank::rest::at_rest;
+use column::tree::ASCENDING;
 use column::tree::Tree;
 
 fn rest(name: &[u8], s: State) {
@@ -51,11 +52,13 @@ fn refused() {
         columns: 17,
         root: 0,
         up,
+        first: ASCENDING,
     };
     let rootless = Tree {
         columns: 3,
         root: 3,
         up,
+        first: ASCENDING,
     };
     with_and_without(b"17 columns", with_tree(s, seventeen));
     with_and_without(b"root 3", with_tree(s, rootless));

@@ -32,7 +32,7 @@ fn same_tree(a: Tree, b: Tree) -> bool {
     let mut same = (a.columns == b.columns) & (a.root == b.root);
     let mut i: usize = 0;
     while i < 16 {
-        same = same & (a.up[i] == b.up[i]);
+        same = same & (a.up[i] == b.up[i]) & (a.first[i] == b.first[i]);
         i += 1;
     }
     same

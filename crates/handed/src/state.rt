@@ -4,6 +4,7 @@ use bank::bank::Bank;
 use bank::bank::NO_COLUMN;
 use column::packet::Number;
 use column::state::Column;
+use column::tree::ASCENDING;
 use column::tree::Tree;
 
 pub struct State {
@@ -30,6 +31,7 @@ pub const TREE: Tree = Tree {
     columns: 3,
     root: 0,
     up: [0, 0, 1, 0, 0, 0, 0, 0, 0, 0, 0, 0, 0, 0, 0, 0],
+    first: ASCENDING,
 };
 
 pub fn member(send: u16, awaited: u16, owed: u16, noted: u16) -> Column {

@@ -17,6 +17,7 @@ use column::state::fresh;
 use column::step::ack;
 use column::step::order;
 use column::step::send;
+use column::tree::ASCENDING;
 use column::tree::Tree;
 
 const ROOT: usize = 0;
@@ -45,6 +46,7 @@ fn exchange() {
         columns: 3,
         root: ROOT,
         up: [ROOT; 16],
+        first: ASCENDING,
     };
     let FreshColumn::Is(root) = fresh(t, ROOT) else {
         return;

@@ -4,6 +4,7 @@ use crate::print::print_line;
 use crate::print::print_number;
 use crate::print::print_set;
 use crate::print::wide;
+use column::tree::ASCENDING;
 use column::tree::Members;
 use column::tree::Tree;
 use column::tree::children;
@@ -15,6 +16,7 @@ const TREE: Tree = Tree {
     columns: 5,
     root: 2,
     up: [2, 0, 2, 2, 1, 0, 0, 0, 0, 0, 0, 0, 0, 0, 0, 0],
+    first: ASCENDING,
 };
 
 fn print_members(name: &[u8], answer: Members) {

@@ -11,6 +11,7 @@ use bank::step::note;
 use bank::step::order;
 use bank::step::send;
 use bank::step::take;
+use column::tree::ASCENDING;
 use column::tree::Tree;
 
 // More than any bank of sixteen columns needs.
@@ -29,6 +30,7 @@ fn star() -> Tree {
         columns: COLUMNS,
         root: 0,
         up: [0; 16],
+        first: ASCENDING,
     }
 }
 

@@ -1,4 +1,5 @@
 // What laps of a column and laps of a bank share: the tree, the number read, and the fold of what a lap left into one number.
+use column::tree::ASCENDING;
 use column::tree::Tree;
 
 // The columns as a heap: the parent of columns 2k + 1 and 2k + 2 is k.
@@ -7,6 +8,7 @@ pub fn heap(columns: usize) -> Tree {
         columns,
         root: 0,
         up: [0, 0, 0, 1, 1, 2, 2, 3, 3, 4, 4, 5, 5, 6, 6, 7],
+        first: ASCENDING,
     }
 }
 

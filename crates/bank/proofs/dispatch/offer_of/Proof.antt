@@ -10,7 +10,7 @@ use Rattle.bank.proofs.dispatch.offer_of.Tie as tie
 returns : tie.Need-returns
 returns c =
     let a = c .before .before .args in
-    record { step-is = λ other. sym (step-is (a .full) (a .halted) (a .root) (a .i) (a .c) other (not-true (a .c .running) (c .if1 .taken)) refl refl refl refl) }
+    record { step-is = λ other. sym (step-is (a .t) (a .full) (a .halted) (a .i) (a .c) other (not-true (a .c .running) (c .if1 .taken)) refl refl refl refl) }
 
 lowest-requires : tie.Need-lowest-requires
 lowest-requires c κs = search needs
@@ -22,7 +22,7 @@ returns-2 c =
     let a = e .before .before .args in
     record {
       step-is = λ other. ap (λ j. Note (a .i) j) (c .lowest .ensures)
-          ∙ sym (step-is (a .full) (a .halted) (a .root) (a .i) (a .c) other (not-false (a .c .running) (e .if1 .left)) (ne-eqb (minus (a .halted) (a .c .noted)) 0 (k .if2 .taken)) refl refl refl);
+          ∙ sym (step-is (a .t) (a .full) (a .halted) (a .i) (a .c) other (not-false (a .c .running) (e .if1 .left)) (ne-eqb (minus (a .halted) (a .c .noted)) 0 (k .if2 .taken)) refl refl refl);
     }
 
 can-send-requires : tie.Need-can-send-requires
@@ -34,7 +34,7 @@ returns-3 c =
     let k = m .before in
     let e = k .before in
     let a = e .before .before .args in
-    record { step-is = λ other. sym (step-is (a .full) (a .halted) (a .root) (a .i) (a .c) other (not-false (a .c .running) (e .if1 .left)) (eq-eqb (minus (a .halted) (a .c .noted)) 0 (k .if2 .left)) (sym (m .can-send .ensures) ∙ c .if3 .taken) refl refl) }
+    record { step-is = λ other. sym (step-is (a .t) (a .full) (a .halted) (a .i) (a .c) other (not-false (a .c .running) (e .if1 .left)) (eq-eqb (minus (a .halted) (a .c .noted)) 0 (k .if2 .left)) (sym (m .can-send .ensures) ∙ c .if3 .taken) refl refl) }
 
 can-ack-requires : tie.Need-can-ack-requires
 can-ack-requires c κs = search needs
@@ -48,7 +48,7 @@ returns-4 c =
     let e = k .before in
     let a = e .before .before .args in
     record {
-      step-is = λ other. sym (step-is (a .full) (a .halted) (a .root) (a .i) (a .c) other (not-false (a .c .running) (e .if1 .left)) (eq-eqb (minus (a .halted) (a .c .noted)) 0 (k .if2 .left))
+      step-is = λ other. sym (step-is (a .t) (a .full) (a .halted) (a .i) (a .c) other (not-false (a .c .running) (e .if1 .left)) (eq-eqb (minus (a .halted) (a .c .noted)) 0 (k .if2 .left))
           (sym (m .can-send .ensures) ∙ f .if3 .left) (sym (p .can-ack .ensures) ∙ c .if4 .taken) refl);
     }
 
@@ -66,7 +66,7 @@ returns-5 c =
     let e = k .before in
     let a = e .before .before .args in
     record {
-      step-is = λ other. sym (step-is (a .full) (a .halted) (a .root) (a .i) (a .c) other (not-false (a .c .running) (e .if1 .left)) (eq-eqb (minus (a .halted) (a .c .noted)) 0 (k .if2 .left))
+      step-is = λ other. sym (step-is (a .t) (a .full) (a .halted) (a .i) (a .c) other (not-false (a .c .running) (e .if1 .left)) (eq-eqb (minus (a .halted) (a .c .noted)) 0 (k .if2 .left))
           (sym (m .can-send .ensures) ∙ f .if3 .left) (sym (p .can-ack .ensures) ∙ g .if4 .left) (sym (w .can-take-over .ensures) ∙ c .if5 .taken));
     }
 
@@ -81,7 +81,7 @@ returns-6 c =
     let e = k .before in
     let a = e .before .before .args in
     record {
-      step-is = λ other. sym (step-is (a .full) (a .halted) (a .root) (a .i) (a .c) other (not-false (a .c .running) (e .if1 .left)) (eq-eqb (minus (a .halted) (a .c .noted)) 0 (k .if2 .left))
+      step-is = λ other. sym (step-is (a .t) (a .full) (a .halted) (a .i) (a .c) other (not-false (a .c .running) (e .if1 .left)) (eq-eqb (minus (a .halted) (a .c .noted)) 0 (k .if2 .left))
           (sym (m .can-send .ensures) ∙ f .if3 .left) (sym (p .can-ack .ensures) ∙ g .if4 .left) (sym (w .can-take-over .ensures) ∙ c .if5 .left));
     }
 

@@ -17,6 +17,9 @@ refuse-if-requires-2 c κs = search needs
 refuse-if-requires-3 : tie.Need-refuse-if-requires-3
 refuse-if-requires-3 c κs = search needs
 
+refuse-if-requires-4 : tie.Need-refuse-if-requires-4
+refuse-if-requires-4 c κs = search needs
+
 tree-refusal-requires : tie.Need-tree-refusal-requires
 tree-refusal-requires c κs = search needs
 
@@ -26,18 +29,20 @@ earlier-requires c κs = search needs
 returns : tie.Need-returns
 returns c =
     let check = c .before in
-    let length = check .before in
+    let listed = check .before in
+    let length = listed .before .before in
     let above = length .before .before in
     let none = above .before .before in
     let a = none .before .before .args in
     rw (
       c .earlier .ensures,
       check .tree-refusal .ensures,
+      listed .refuse-if4 .ensures,
       length .refuse-if3 .ensures,
       above .refuse-if2 .ensures,
       none .refuse-if .ensures,
     )
-    (ap (λ (n : ℕ). earlier n (treeRefusal (a .tree))) (in-turn 0 (countedConditions (a .tree) (a .count)) tt))
+    (ap (λ (n : ℕ). earlier n (treeRefusal (a .tree))) (in-turn 0 (countedConditions (a .tree) (a .parents) (a .listed)) tt))
 
 pub counted-refusal-spec : {M : Type 1} → statement M
 counted-refusal-spec =
@@ -46,6 +51,7 @@ counted-refusal-spec =
     refuse-if-requires
     refuse-if-requires-2
     refuse-if-requires-3
+    refuse-if-requires-4
     tree-refusal-requires
     earlier-requires
     returns)

@@ -1,29 +1,33 @@
-use mathlib.Core.Path.{_≡_, sym, ap, _∙_}
+use mathlib.Core.Path.{_≡_, refl, sym, ap, _∙_}
 use mathlib.Core.Bool.{Bool, true, false, cond}
+use lib.ListN.{drop}
 use borrow.Author.Tests.{not-true, not-false}
-use Rattle.closing.specs.Text.{columnsKey, rootKey, read, unread}
-use Rattle.closing.specs.Tables.{keyed, parents, joined, judged}
+use Rattle.closing.specs.Text.{columnsKey, rootKey, upKey, Reading, read, unread}
+use Rattle.closing.specs.Tables.{keyed, numbers, sequenceLine, joined, judged}
 use Rattle.closing.specs.Readings.{numberMeant}
-use Rattle.closing.specs.Parents.{upJudged, linesJudged, judged-up}
+use Rattle.closing.specs.TableLaws.{HeldSequence, heldFrom, heldJudged, linesJudged, judged-held}
 use borrow.Author.Needs.{needs}
 use Rattle.closing.proofs.table.read_lines.Statement.{statement}
 use Rattle.closing.proofs.table.read_lines.Tie as tie
 
 -- what is known once the third line is read
-up-read : (p : tie.After-parents-of) (good : Bool) → p .parents-of .result .good ≡ good
-    → let r = p .before .before in
+lines-are : (p : tie.After-numbers-of) (good : Bool) → p .numbers-of .result .good ≡ good
+    → let r = p .before .before .before in
     let k = r .before .before .before .before .before in
-    let a = k .before .before .before .before .before .before .before .args in
-    linesJudged (a .one .now) (a .two .now) (a .three .now) (a .end)
-    ≡ upJudged (k .columns .given .0 .0) (r .root .given .0 .0) (cond good (read (p .parents-of .result .parents)) unread) (a .end)
-up-read p good g =
-    let r = p .before .before in
+    let a = k .before .before .before .before .before .before .before .before .args in
+    (q : Reading HeldSequence) → heldFrom (a .at) (sequenceLine (drop (a .at) (a .input .now))) ≡ q
+    → linesJudged (a .one .now) (a .two .now) (a .three .now) (drop (a .at) (a .input .now)) (a .at)
+    ≡ heldJudged (k .columns .given .0 .0) (r .root .given .0 .0) (cond good (read (p .numbers-of .result .list)) unread) q
+lines-are p good g q h =
+    let r = p .before .before .before in
     let k = r .before .before .before .before .before in
-    let a = k .before .before .before .before .before .before .before .args in
-    judged-up _ _ (keyed columnsKey 2 (a .one .now)) (keyed rootKey 2 (a .two .now)) (parents (a .three .now)) (a .end) _
+    let a = k .before .before .before .before .before .before .before .before .args in
+    judged-held _ _ (keyed columnsKey 2 (a .one .now)) (keyed rootKey 2 (a .two .now)) (numbers upKey (a .three .now))
+    (sequenceLine (drop (a .at) (a .input .now))) (a .at) _ q
     (sym (k .before .before .keyed .ensures) ∙ ap numberMeant (k .columns .given .1))
     (sym (r .before .before .keyed2 .ensures) ∙ ap numberMeant (r .root .given .1))
-    (sym (p .parents-of .ensures) ∙ ap (λ b. cond b (read (p .parents-of .result .parents)) unread) g)
+    (sym (p .numbers-of .ensures) ∙ ap (λ b. cond b (read (p .numbers-of .result .list)) unread) g)
+    h
 
 slice-aggregate-keyed : tie.Need-slice-aggregate-keyed
 slice-aggregate-keyed c = search needs
@@ -55,20 +59,26 @@ refused-requires-2 c κs = search needs
 enum-known-root : tie.Need-enum-known-root
 enum-known-root c = search needs
 
-parents-of-requires : tie.Need-parents-of-requires
-parents-of-requires c κs = search needs
+slice-aggregate-numbers-of : tie.Need-slice-aggregate-numbers-of
+slice-aggregate-numbers-of c = search needs
+
+numbers-of-requires : tie.Need-numbers-of-requires
+numbers-of-requires c κs = search needs
 
 refused-requires-3 : tie.Need-refused-requires-3
 refused-requires-3 c κs = search needs
 
 returns : tie.Need-returns
-unfolding upJudged
+unfolding heldJudged
 returns c =
     let p = c .before .before .before in
-    rw (up-read p false (not-true _ (c .before .if1 .taken))) (c .refused3 .ensures)
+    rw (lines-are p false (not-true _ (c .before .if1 .taken)) _ refl) (c .refused3 .ensures)
 
-judge-requires : tie.Need-judge-requires
-judge-requires c κs = search needs
+read-sequence-requires : tie.Need-read-sequence-requires
+read-sequence-requires c κs = search needs
+
+join-requires : tie.Need-join-requires
+join-requires c κs = search needs
 
 returns-2 : tie.Need-returns-2
 unfolding joined judged
@@ -88,10 +98,10 @@ returns-3 c =
     (c .refused2 .ensures)
 
 returns-4 : tie.Need-returns-4
-unfolding upJudged
 returns-4 c =
-    let e = c .before .before .before in
-    rw (up-read (e .before .before) true (not-false _ (e .if1 .left))) (c .judge .ensures)
+    let w = c .before in
+    let e = w .before .before in
+    rw (lines-are (e .before .before) true (not-false _ (e .if1 .left)) _ (sym (w .read-sequence .ensures))) (c .join .ensures)
 
 pub read-lines-spec : {M : Type 1} → statement M
 read-lines-spec =
@@ -107,10 +117,12 @@ read-lines-spec =
     enum-told-2
     refused-requires-2
     enum-known-root
-    parents-of-requires
+    slice-aggregate-numbers-of
+    numbers-of-requires
     refused-requires-3
     returns
-    judge-requires
+    read-sequence-requires
+    join-requires
     returns-2
     returns-3
     returns-4)

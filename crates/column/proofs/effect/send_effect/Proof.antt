@@ -1,22 +1,18 @@
 use borrow.Author.Needs.{needs}
-use Prim.Native.Nat.{_<_, _^_}
+use Prim.Native.Nat.{_<_}
 use mathlib.Core.Path.{sym, _∙_}
 use native.Mathlib.Omega.{arith}
 use borrow.Author.Tests.{eq-eqb, ne-eqb}
-use Rattle.column.specs.SetLaws.{lowest-lt}
 use Rattle.column.specs.Steps.{sendEffect}
 use Rattle.column.proofs.effect.send_effect.Statement.{statement}
 use Rattle.column.proofs.effect.send_effect.Tie as tie
 
--- the lowest of those to send to is a column's number
-low : (c : tie.After-lowest) → c .lowest .result < 16
-low c =
-    let a = c .before .args in
-    let fit : a .c .send < 2 ^ 16 = search needs in
-    omega (arith, c .lowest .ensures, lowest-lt 16 (a .c .send) fit (omega arith))
+-- the one served is a column's number
+low : (c : tie.After-choose) → c .choose .result < 16
+low c = omega (arith, c .choose .ensures, c .before .pre .1 .1)
 
-lowest-requires : tie.Need-lowest-requires
-lowest-requires c κs = search needs
+choose-requires : tie.Need-choose-requires
+choose-requires c κs = search needs
 
 without-requires : tie.Need-without-requires
 without-requires c κs = low c
@@ -28,7 +24,7 @@ returns : tie.Need-returns
 unfolding sendEffect
 returns c =
     let w = c .before .before in
-    c .done .ensures ∙ rw (← w .before .lowest .ensures, eq-eqb _ _ (c .before .if1 .taken), w .without .ensures)
+    c .done .ensures ∙ rw (← w .before .choose .ensures, eq-eqb _ _ (c .before .if1 .taken), w .without .ensures)
 
 has-requires : tie.Need-has-requires
 has-requires c κs = search needs
@@ -47,7 +43,7 @@ returns-2 c =
     let w = h .before .before in
     c .done2 .ensures
     ∙ rw (
-      ← w .before .lowest .ensures,
+      ← w .before .choose .ensures,
       ne-eqb _ _ (h .before .if1 .left),
       sym (h .has .ensures) ∙ s .before .if2 .taken,
       s .children-of .ensures,
@@ -73,7 +69,7 @@ returns-3 c =
     let w = h .before .before in
     c .putting .ensures
     ∙ rw (
-      ← w .before .lowest .ensures,
+      ← w .before .choose .ensures,
       ne-eqb _ _ (h .before .if1 .left),
       sym (h .has .ensures) ∙ c .before .before .if2 .left,
       c .before .insert .ensures,
@@ -84,7 +80,7 @@ pub send-effect-spec : {M : Type 1} → statement M
 send-effect-spec =
     tie.close
     (tie.spec
-    lowest-requires
+    choose-requires
     without-requires
     done-requires
     returns

@@ -5,7 +5,7 @@ use borrow.Author.Tests.{eq-eqb, ne-eqb, eqb-false}
 use Rattle.column.specs.Refusals.{first}
 use Rattle.column.specs.RefusalLaws.{passed, earlier-none}
 use Rattle.column.specs.Columns.{standing}
-use Rattle.column.specs.StateLaws.{standing-sixteen, standing-column}
+use Rattle.column.specs.StateLaws.{standing-sixteen, standing-column, standing-choice}
 use Rattle.column.specs.Steps.{refused, sendConditions, sendRefusal}
 use Rattle.column.proofs.step.send.Statement.{statement}
 use Rattle.column.proofs.step.send.Tie as tie
@@ -27,7 +27,7 @@ send-effect-requires c κs =
     let a = c .before .before .args in
     let q = earlier-none (standing (a .t) (a .i) (a .c)) (first (sendConditions (a .t) (a .i) (a .c))) (sym (c .before .send-refusal .ensures) ∙ c .if1 .left) in
     let p = passed (sendConditions (a .t) (a .i) (a .c)) tt (q .1) in
-    (standing-sixteen (a .t) (a .i) (a .c) (q .0), (standing-column (a .t) (a .i) (a .c) (q .0), omega (arith, eqb-false (a .c .send) 0 (p .1 .0))))
+    (standing-sixteen (a .t) (a .i) (a .c) (q .0), (standing-column (a .t) (a .i) (a .c) (q .0), standing-choice (a .t) (a .i) (a .c) (q .0) (omega (arith, eqb-false (a .c .send) 0 (p .1 .0)))))
 
 returns-2 : tie.Need-returns-2
 returns-2 c =

@@ -8,12 +8,12 @@ use native.Mathlib.Omega.{arith}
 use borrow.Author.Tests.{eq-eqb, ne-eqb}
 use lib.ListN.{getD}
 use Rattle.column.specs.Sets.{selected}
-use Rattle.column.specs.Trees.{isChild}
+use Rattle.column.specs.Trees.{treeOf, isChild}
 use Rattle.column.proofs.traversal.children_of.Statement.{statement}
 use Rattle.column.proofs.traversal.children_of.Tie as tie
 
 abbrev Inv-loop : tie.InvT-loop
-Inv-loop c n root up set₀ j₀ set j = (j ≤ n) × (set ≡ selected (isChild (record { columns = n; root = root; up = up }) c) j)
+Inv-loop c n root up set₀ j₀ set j = (j ≤ n) × (set ≡ selected (isChild (treeOf n root up) c) j)
 
 abbrev μ-loop : tie.MeasureT-loop
 μ-loop c n root up set₀ j₀ set j = n - j

@@ -22,7 +22,7 @@ unfolding every
 loop-holds c = (omega arith, refl)
 
 climbs-in-requires : tie.Need-climbs-in-requires Inv-loop μ-loop
-climbs-in-requires c κs = search needs
+climbs-in-requires c κs = let l = c .before in (search needs, (search needs, (l .before .pre .1, l .loop .inv .1)))
 
 returns : tie.Need-returns Inv-loop μ-loop
 returns c =

@@ -24,6 +24,18 @@ mul-same-2 c = search needs
 element-copy-out-same-2 : tie.Need-element-copy-out-same-2 Inv-loop μ-loop
 element-copy-out-same-2 c = search needs
 
+mul-same-3 : tie.Need-mul-same-3 Inv-loop μ-loop
+mul-same-3 c = search needs
+
+element-copy-out-same-3 : tie.Need-element-copy-out-same-3 Inv-loop μ-loop
+element-copy-out-same-3 c = search needs
+
+mul-same-4 : tie.Need-mul-same-4 Inv-loop μ-loop
+mul-same-4 c = search needs
+
+element-copy-out-same-4 : tie.Need-element-copy-out-same-4 Inv-loop μ-loop
+element-copy-out-same-4 c = search needs
+
 add-i : tie.Need-add-i Inv-loop μ-loop
 add-i c = search needs
 
@@ -47,6 +59,10 @@ same-tree-spec =
     element-copy-out-same
     mul-same-2
     element-copy-out-same-2
+    mul-same-3
+    element-copy-out-same-3
+    mul-same-4
+    element-copy-out-same-4
     add-i
     loop-less
     loop-again

@@ -6,24 +6,24 @@ use lib.ListN.{length}
 use Rattle.closing.specs.Tables.{pieces, numerals}
 use Rattle.closing.specs.Readings.{numberMeant}
 use Rattle.closing.specs.Cutting.{piecesFrom, pieces-all}
-use Rattle.closing.specs.Parents.{parentsOf, withParent, held, heldAfter, held-all, piece-read, piece-unread, pieces-read}
+use Rattle.closing.specs.NumberLists.{listOf, withOne, held, heldAfter, held-all, piece-read, piece-unread, pieces-read}
 use borrow.Author.Needs.{needs}
-use Rattle.closing.proofs.table.parents_in.Statement.{statement}
-use Rattle.closing.proofs.table.parents_in.Tie as tie
+use Rattle.closing.proofs.table.numbers_in.Statement.{statement}
+use Rattle.closing.proofs.table.numbers_in.Tie as tie
 
 abbrev Inv-loop : tie.InvT-loop
-Inv-loop text parents₀ from₀ parents from =
-    (parents .count ≤ from)
+Inv-loop text list₀ from₀ list from =
+    (list .count ≤ from)
     × (from ≤ length text + 1)
-    × (held (numerals (pieces text)) ≡ heldAfter parents (numerals (piecesFrom text from)))
+    × (held (numerals (pieces text)) ≡ heldAfter list (numerals (piecesFrom text from)))
 
 abbrev μ-loop : tie.MeasureT-loop
-μ-loop text parents₀ from₀ parents from = length text + 1 - from
+μ-loop text list₀ from₀ list from = length text + 1 - from
 
 loop-holds : tie.Need-loop-holds Inv-loop μ-loop
 loop-holds c =
     let s = c .before .args .text .now in
-    (omega arith, omega arith, held-all (numerals (pieces s)) ∙ ap (λ l. heldAfter (parentsOf []) (numerals l)) (sym (pieces-all s)))
+    (omega arith, omega arith, held-all (numerals (pieces s)) ∙ ap (λ l. heldAfter (listOf []) (numerals l)) (sym (pieces-all s)))
 
 find-requires : tie.Need-find-requires Inv-loop μ-loop
 find-requires c κs = search needs
@@ -40,11 +40,11 @@ part-numeral-end c = search needs
 numeral-requires : tie.Need-numeral-requires Inv-loop μ-loop
 numeral-requires c κs = search needs
 
-enum-known-parent : tie.Need-enum-known-parent Inv-loop μ-loop
-enum-known-parent c = search needs
+enum-known-number : tie.Need-enum-known-number Inv-loop μ-loop
+enum-known-number c = search needs
 
-with-parent-requires : tie.Need-with-parent-requires Inv-loop μ-loop
-with-parent-requires c κs = search needs
+with-number-requires : tie.Need-with-number-requires Inv-loop μ-loop
+with-number-requires c κs = search needs
 
 enum-told : tie.Need-enum-told Inv-loop μ-loop
 enum-told c = search needs
@@ -56,7 +56,7 @@ returns c =
     let l = f .before .before in
     sym
     (l .loop .inv .2
-    ∙ piece-unread (l .loop .parents) (l .before .before .args .text .now) (l .loop .from) (f .find .result)
+    ∙ piece-unread (l .loop .list) (l .before .before .args .text .now) (l .loop .from) (f .find .result)
     (f .before .loop-test .taken)
     (f .find .ensures)
     (sym (m .numeral .ensures) ∙ ap numberMeant (c .enum-told .given .1)))
@@ -68,30 +68,30 @@ loop-less : tie.Need-loop-less Inv-loop μ-loop
 loop-less c = search needs
 
 loop-again : tie.Need-loop-again Inv-loop μ-loop
-unfolding withParent
+unfolding withOne
 loop-again c =
     let k = c .before .before in
     let m = k .before .before in
     let f = m .before .before in
     let l = f .before .before in (
-      rw (c .with-parent .ensures) (omega arith),
+      rw (c .with-number .ensures) (omega arith),
       omega arith,
-      rw (c .with-parent .ensures)
+      rw (c .with-number .ensures)
           (l .loop .inv .2
-          ∙ piece-read (l .loop .parents) (l .before .before .args .text .now) (l .loop .from) (f .find .result)
+          ∙ piece-read (l .loop .list) (l .before .before .args .text .now) (l .loop .from) (f .find .result)
           (f .before .loop-test .taken)
           (f .find .ensures)
           _
-          (sym (m .numeral .ensures) ∙ ap numberMeant (k .parent .given .1))),
+          (sym (m .numeral .ensures) ∙ ap numberMeant (k .number .given .1))),
     )
 
 returns-2 : tie.Need-returns-2 Inv-loop μ-loop
 returns-2 c =
     let l = c .before in
-    sym (l .loop .inv .2 ∙ pieces-read (l .loop .parents) (l .before .before .args .text .now) (l .loop .from) (c .loop-test .left))
+    sym (l .loop .inv .2 ∙ pieces-read (l .loop .list) (l .before .before .args .text .now) (l .loop .from) (c .loop-test .left))
 
-pub parents-in-spec : {M : Type 1} → statement M
-parents-in-spec =
+pub numbers-in-spec : {M : Type 1} → statement M
+numbers-in-spec =
     tie.close
     (tie.spec
     Inv-loop
@@ -102,8 +102,8 @@ parents-in-spec =
     part-numeral-start
     part-numeral-end
     numeral-requires
-    enum-known-parent
-    with-parent-requires
+    enum-known-number
+    with-number-requires
     enum-told
     returns
     add-from
