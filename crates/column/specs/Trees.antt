@@ -88,6 +88,14 @@ listsEach t = every (listedBelow t) (t .columns) && eqb (listedIn (t .first) (t 
 abbrev pub listsHold : Tree → Bool
 listsHold t = every (parentBelow t) (t .columns) && listsEach t
 
+-- what the pass over both lists answers, and what a climb rests on: "each parent number is .. tested against the column count in a pass
+-- made before any climb"
+pub record Passes (r : Bool) (n : ℕ) (up first : List ℕ) : Type 0 where
+  pub told : r ≡ listsHold (treeInSequence n 0 up first)
+
+pub record ParentsBelow (n : ℕ) (up : List ℕ) : Type 0 where
+  pub each : every (parentBelow (treeOf n 0 up)) n ≡ true
+
 -- "2: columns 0 or above 16. 3: root or parent not below columns, .. root not its own parent, or a climb that misses the root"; "A list that
 -- misses, repeats or exceeds a column is refused with 3."
 abbrev pub treeConditions : Tree → List (ℕ × Bool)

@@ -8,13 +8,13 @@ use crate::tree::Tree;
 ghost use mathlib.Core.Path.{_≡_};
 ghost use mathlib.Core.Bool.{true};
 ghost use Prim.Native.Nat.{_≤_, _<_};
-ghost use Rattle.column.specs.Trees.{treeOf, treeInSequence, every, parentBelow, climbsIn, listsHold, children, subtreeIn, subtreesIn};
+ghost use Rattle.column.specs.Trees.{treeOf, every, climbsIn, Passes, ParentsBelow, children, subtreeIn, subtreesIn};
 
 // What must hold of the two lists of a tree before any climb: every parent is below n, and the first n places of the sequence have each
 // column below n. One pass goes over both.
 pub fn lists_hold<'a>(up: &'a [usize; 16], first: &'a [usize; 16], n: usize) -> bool
     requires { ⌜ n ≤ 16 ⌝ }
-    ensures { λ r. ⌜ r ≡ listsHold (treeInSequence n 0 (now (up .entry)) (now (first .entry))) ⌝ }
+    ensures { λ r. ⌜ Passes r n (now (up .entry)) (now (first .entry)) ⌝ }
 {
     let mut listed: u16 = 0;
     let mut j: usize = 0;
@@ -35,7 +35,7 @@ pub fn lists_hold<'a>(up: &'a [usize; 16], first: &'a [usize; 16], n: usize) -> 
 // Whether the climb from c meets the root before it has been at more places than there are columns. The climbs from the columns below c
 // have been seen to end, so this one ends where it comes to such a column.
 pub fn climbs_in(up: &[usize; 16], n: usize, root: usize, c: usize) -> bool
-    requires { ⌜ (n ≤ 16) × ((c < n) × ((every (parentBelow (treeOf n 0 (now up))) n ≡ true) × (every (climbsIn (treeOf n root (now up)) n) c ≡ true))) ⌝ }
+    requires { ⌜ (n ≤ 16) × ((c < n) × (ParentsBelow n (now up) × (every (climbsIn (treeOf n root (now up)) n) c ≡ true))) ⌝ }
     ensures { λ r. ⌜ r ≡ climbsIn (treeOf n root (now (up .entry))) n c ⌝ }
 {
     let mut at = c;
@@ -54,7 +54,7 @@ pub fn climbs_in(up: &[usize; 16], n: usize, root: usize, c: usize) -> bool
 }
 
 pub fn climbs_end(up: &[usize; 16], n: usize, root: usize) -> bool
-    requires { ⌜ (n ≤ 16) × (every (parentBelow (treeOf n 0 (now up))) n ≡ true) ⌝ }
+    requires { ⌜ (n ≤ 16) × ParentsBelow n (now up) ⌝ }
     ensures { λ r. ⌜ r ≡ every (climbsIn (treeOf n root (now (up .entry))) n) n ⌝ }
 {
     let mut j: usize = 0;

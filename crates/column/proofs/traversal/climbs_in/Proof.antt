@@ -45,7 +45,7 @@ below-at : (l : tie.At-loop Inv-loop μ-loop)
 below-at l =
     let s = l .before in
     let t = treeOf (s .args .n) (s .args .root) (s .args .up .now) in
-    ltb-true (parent t (l .loop .at)) (t .columns) (every-at (parentBelow t) (t .columns) (l .loop .at) (s .pre .1 .1 .0) (l .loop .inv .0))
+    ltb-true (parent t (l .loop .at)) (t .columns) (every-at (parentBelow t) (t .columns) (l .loop .at) (s .pre .1 .1 .0 .each) (l .loop .inv .0))
 
 climbed : (l : tie.In-loop Inv-loop μ-loop)
     → let a = l .before .before .args in
@@ -66,7 +66,7 @@ returns-2 c =
     let t = treeOf (a .n) (a .root) (a .up .now) in
     let i = a .n - (l .before .loop .budget - 1) in
     let r = climb-ends t (a .n) (parent t (l .before .loop .at)) (every-at (climbsIn t (a .n)) (a .c) _ (s .pre .1 .1 .1) (c .if2 .taken)) in
-    sym (climbs-on t (λ j h. ltb-true (parent t j) (a .n) (every-at (parentBelow t) (a .n) j (s .pre .1 .1 .0) h)) (a .c) (s .pre .1 .0) i (r .0)
+    sym (climbs-on t (λ j h. ltb-true (parent t j) (a .n) (every-at (parentBelow t) (a .n) j (s .pre .1 .1 .0 .each) h)) (a .c) (s .pre .1 .0) i (r .0)
     (ap (climb t (r .0)) (climbed l) ∙ r .2))
 
 sub-budget : tie.Need-sub-budget Inv-loop μ-loop

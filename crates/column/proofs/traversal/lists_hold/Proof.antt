@@ -38,8 +38,10 @@ returns c =
     let a = l .before .args in
     let t = treeInSequence (a .n) 0 (a .up .now) (a .first .now) in
     let j = l .loop .j in
-    sym (ap (λ (b : Bool). b && listsEach t)
-    (every-fails (parentBelow t) (a .n) j (le-ltb (getD (a .up .now) j 0) (a .n) (c .if1 .taken)) (omega arith)))
+    record {
+      told = sym (ap (λ (b : Bool). b && listsEach t)
+          (every-fails (parentBelow t) (a .n) j (le-ltb (getD (a .up .now) j 0) (a .n) (c .if1 .taken)) (omega arith)));
+    }
 
 mul-c : tie.Need-mul-c Inv-loop μ-loop
 mul-c c = search needs
@@ -53,9 +55,11 @@ returns-2 c =
     let a = l .before .args in
     let t = treeInSequence (a .n) 0 (a .up .now) (a .first .now) in
     let j = l .loop .j in
-    sym (ap (λ (b : Bool). every (parentBelow t) (a .n) && (b && eqb (listedIn (a .first .now) (a .n)) (whole (a .n))))
-    (every-fails (listedBelow t) (a .n) j (le-ltb (getD (a .first .now) j 0) (a .n) (c .if2 .taken)) (omega arith))
-    ∙ and-false (every (parentBelow t) (a .n)))
+    record {
+      told = sym (ap (λ (b : Bool). every (parentBelow t) (a .n) && (b && eqb (listedIn (a .first .now) (a .n)) (whole (a .n))))
+          (every-fails (listedBelow t) (a .n) j (le-ltb (getD (a .first .now) j 0) (a .n) (c .if2 .taken)) (omega arith))
+          ∙ and-false (every (parentBelow t) (a .n)));
+    }
 
 insert-requires : tie.Need-insert-requires Inv-loop μ-loop
 insert-requires c κs = search needs
@@ -92,8 +96,10 @@ returns-3 c =
     let done : l .loop .j ≡ a .n = omega arith in
     let parents : true ≡ every (parentBelow t) (a .n) = sym (ap (every (parentBelow t)) (sym done) ∙ l .loop .inv .1) in
     let listed : true ≡ every (listedBelow t) (a .n) = sym (ap (every (listedBelow t)) (sym done) ∙ l .loop .inv .2) in
-    ap₂ eqb (l .loop .inv .3 ∙ ap (listedIn (a .first .now)) done) (c .whole .ensures)
-    ∙ ap₂ (λ (p q : Bool). p && (q && eqb (listedIn (a .first .now) (a .n)) (whole (a .n)))) parents listed
+    record {
+      told = ap₂ eqb (l .loop .inv .3 ∙ ap (listedIn (a .first .now)) done) (c .whole .ensures)
+          ∙ ap₂ (λ (p q : Bool). p && (q && eqb (listedIn (a .first .now) (a .n)) (whole (a .n)))) parents listed;
+    }
 
 pub lists-hold-spec : {M : Type 1} → statement M
 lists-hold-spec =

@@ -1,15 +1,23 @@
 use borrow.Author.Needs.{needs}
 use mathlib.Core.Path.{_≡_, sym, _∙_}
-use mathlib.Core.Bool.{true, not, cond}
-use mathlib.Core.List.{[], _∷_}
+use Prim.Native.Nat.{ℕ}
+use mathlib.Core.Bool.{Bool, true, false, not, cond}
+use mathlib.Core.List.{List, [], _∷_}
 use borrow.Author.Tests.{eq-eqb, ne-eqb, lt-ltb, le-ltb, lt-leb, le-leb, not-true, not-false}
 use lib.Dec.{eqb}
 use Rattle.column.specs.Cases.{and-left, cond-and}
 use Rattle.column.specs.Refusals.{first}
-use Rattle.column.specs.Trees.{parent, every, parentBelow, climbsIn, listsEach, listsHold, treeRefusal}
+use Rattle.column.specs.Trees.{Passes, ParentsBelow, parent, every, parentBelow, climbsIn, listsEach, listsHold, treeRefusal}
 use Rattle.column.specs.TreeLaws.{every-climbs-alike}
 use Rattle.column.proofs.tree.tree_refusal.Statement.{statement}
 use Rattle.column.proofs.tree.tree_refusal.Tie as tie
+
+below : {r : Bool} {n : ℕ} {up first : List ℕ} → Passes r n up first → not r ≡ false → ParentsBelow n up
+below k h = record { each = and-left _ _ (sym (k .told) ∙ not-false _ h) }
+
+-- the premise of the climbs: the pass before them gives it
+climbs-end-requires : tie.Need-climbs-end-requires
+climbs-end-requires c κs = let e = c .before .before .before .before in (search needs, below (e .before .lists-hold .ensures) (e .if4 .left))
 
 -- what is left to test where the root is below
 past-root : (c : tie.Else3)
@@ -27,7 +35,7 @@ past-root c =
 lists-are : (c : tie.Else4)
     → let t = c .before .before .before .before .before .before .before .before .args .t1 in
     listsHold t ≡ true
-lists-are c = sym (c .before .lists-hold .ensures) ∙ not-false _ (c .if4 .left)
+lists-are c = sym (c .before .lists-hold .ensures .told) ∙ not-false _ (c .if4 .left)
 
 -- what is left to test where the root is its own parent
 past-own : (c : tie.Else5)
@@ -57,7 +65,7 @@ lists-hold-requires : tie.Need-lists-hold-requires
 lists-hold-requires c κs = search needs
 
 returns-4 : tie.Need-returns-4
-returns-4 c = rw (past-root (c .before .before .before .before .before), sym (c .before .lists-hold .ensures) ∙ not-true _ (c .if4 .taken))
+returns-4 c = rw (past-root (c .before .before .before .before .before), sym (c .before .lists-hold .ensures .told) ∙ not-true _ (c .if4 .taken))
 
 mul-if5 : tie.Need-mul-if5
 mul-if5 c = search needs
@@ -71,9 +79,6 @@ returns-5 c =
     let e3 = e4 .before .before .before .before .before in
     let t = e3 .before .before .before .args .t1 in
     rw (past-root e3) (simp (lists-are e4, ne-eqb (parent t (t .root)) (t .root) (c .if5 .taken)))
-
-climbs-end-requires : tie.Need-climbs-end-requires
-climbs-end-requires c κs = (search needs, and-left _ _ (lists-are (c .before .before .before .before)))
 
 climbs-are : (c : tie.After-climbs-end)
     → let t = c .before .before .before .before .before .before .before .before .before .before .before .before .before .args .t1 in
