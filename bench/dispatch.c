@@ -23,8 +23,7 @@ static bool can_ack(const struct bank *b, uint16_t halted, const struct column *
 }
 
 /* The first step that would be accepted, or the take of the oldest packet. */
-static struct step next_step(const struct bank *b) {
-    uint16_t halted = halted_columns(b);
+static struct step next_step(const struct bank *b, uint16_t halted) {
     for (size_t i = 0; i < b->tree.columns; i++) {
         const struct column *c = &b->columns[i];
         uint16_t new = halted & ~c->noted;
@@ -52,28 +51,22 @@ static uint8_t perform(struct bank *b, struct step x) {
     }
 }
 
-/* The same of a bank that stands: the core tests its tree and its column, and nobody the rest. */
+/* The same of a bank that stands, for a step that is accepted or takes the oldest packet: the effect, and no test of a refusal before it. */
 static uint8_t perform_standing(struct bank *b, struct step x) {
     struct column *c = &b->columns[x.i], before = *c;
-    struct answer a;
     switch (x.kind) {
-    case NOTE: a = note(&b->tree, x.i, c, x.j); break;
-    case SEND: a = send(&b->tree, x.i, c); break;
-    case ACK: a = ack(&b->tree, x.i, c); break;
-    case ALL: a = all(&b->tree, x.i, c); break;
-    default:
-        if (!b->count)
-            return 10;
-        a = take(&b->tree, x.i, c, b->packets[0]);
-        return a.refusal ? a.refusal : settle_taken(b, 0, &before, a);
+    case NOTE: note_effect(&b->tree, c, x.j); return 0;
+    case SEND: return settle(b, c, &before, send_effect(&b->tree, x.i, c));
+    case ACK: return settle(b, c, &before, ack_effect(x.i, c));
+    case ALL: all_effect(&b->tree, c); return 0;
+    default: return b->count ? settle_taken(b, 0, &before, take_effect(&b->tree, x.i, c, b->packets[0])) : 10;
     }
-    return a.refusal ? a.refusal : settle(b, c, &before, a.put);
 }
 
-static bool still_stands(const struct bank *b, size_t i) {
+static bool still_stands(const struct bank *b, uint16_t halted, size_t i) {
     if (!stands(&b->tree, i, &b->columns[i]))
         return false;
-    return !b->count || packet_stands(b->tree.columns, b->tree.root, (uint16_t)~halted_columns(b), &b->packets[b->count - 1]);
+    return !b->count || packet_stands(b->tree.columns, b->tree.root, (uint16_t)~halted, &b->packets[b->count - 1]);
 }
 
 uint8_t bank_dispatch(struct bank *b, size_t limit, bool thorough, size_t *steps) {
@@ -81,12 +74,13 @@ uint8_t bank_dispatch(struct bank *b, size_t limit, bool thorough, size_t *steps
     uint8_t refusal = bank_refusal(b);
     if (refusal)
         return refusal;
+    uint16_t halted = halted_columns(b);
     while (*steps < limit) {
-        struct step x = next_step(b);
+        struct step x = next_step(b, halted);
         if (thorough ? perform(b, x) : perform_standing(b, x))
             break;
         ++*steps;
-        if (!thorough && !still_stands(b, x.i))
+        if (!thorough && !still_stands(b, halted, x.i))
             break;
     }
     return 0;

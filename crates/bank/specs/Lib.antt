@@ -10,6 +10,8 @@ pub mod Networks
 pub mod NetworkLaws
 pub mod Steps
 pub mod StepLaws
+pub mod Steady
+pub mod Changes
 pub mod Strips
 pub mod Stopping
 pub mod StripStates
@@ -28,7 +30,10 @@ pub mod Dispatch
 pub mod Dispatches
 pub mod DispatchLaws
 pub mod Quick
+pub mod Turns
 pub mod QuickLaws
 pub mod QuickTurn
 pub mod Offers
+pub mod ChangeLaws
+pub mod TurnLaws
 pub mod QuickSteps

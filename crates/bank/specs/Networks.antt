@@ -55,6 +55,16 @@ vanished s member =
     (padded (keeping (elsewhere member) heads heads) (s .bank .count) 0 (s .heads))
     (padded (keeping (elsewhere member) heads doors) (s .bank .count) 0 (s .doors))
 
+-- ---- what the functions leave of the words
+
+pub record Appended (p : Packet) (count : ℕ) (heads doors heads' doors' : List ℕ) : Type 0 where
+  pub heads-are : heads' ≡ set heads count (headOf p)
+  pub doors-are : doors' ≡ set doors count (doorsOf p)
+
+pub record ClosedUp (place count : ℕ) (heads doors heads' doors' : List ℕ) : Type 0 where
+  pub heads-are : heads' ≡ closedUp heads place count 0
+  pub doors-are : doors' ≡ closedUp doors place count 0
+
 -- ---- on the way to `vanished`
 
 -- the first k words of both arrays are those of the packets that are addressed to no member; words from k on are as they were

@@ -8,23 +8,21 @@ use mathlib.Core.List.{List, [], _∷_}
 use lib.Dec.{eqb}
 use lib.ListN.{length, getD}
 use borrow.Author.Tests.{eq-eqb, eqb-true}
-use Rattle.column.specs.Sets.{lowest}
 use Rattle.column.specs.TreeLaws.{tree-sixteen}
 use Rattle.column.specs.declared.tree.Tree.{Tree}
-use Rattle.column.specs.declared.state.Column.{Column}
-use Rattle.bank.specs.Banks.{State, state, columnAt, bankRefusal}
+use Rattle.bank.specs.Banks.{State, state, runs, bankRefusal}
 use Rattle.bank.specs.Standing.{stillStands}
 use Rattle.bank.specs.StandingLaws.{stands}
-use Rattle.bank.specs.StandingOn.{room-on, tree-on, stands-on}
-use Rattle.bank.specs.WordLaws.{receiver-of}
+use Rattle.bank.specs.StandingOn.{room-on, tree-on, runs-on, actor-on, stands-on}
 use Rattle.bank.specs.Steps.{Outcome, accepted, refused, answered, perform}
 use Rattle.bank.specs.Unchanged.{unchanged}
 use Rattle.bank.specs.Rest.{isRefused}
 use Rattle.bank.specs.RestSteps.{broken-refused}
-use Rattle.bank.specs.Places.{acts, isHalt}
+use Rattle.bank.specs.Places.{acts}
 use Rattle.bank.specs.Dispatch.{turn, onward, dispatched, dispatch}
-use Rattle.bank.specs.Quick.{minus, canSend, canAck, canTakeOver, stepOf, stepFrom, quickTurn, actingIn}
+use Rattle.bank.specs.Quick.{quickTurn, actingIn}
 use Rattle.bank.specs.QuickTurn.{quick-turn}
+use Rattle.bank.specs.TurnLaws.{Turning, turning}
 use Rattle.bank.specs.Offers.{isRefusal}
 use Rattle.bank.specs.Dispatches.{Dispatches, Ended}
 use Rattle.bank.specs.declared.bank.Bank.{Bank}
@@ -32,40 +30,6 @@ use Rattle.bank.specs.declared.bank.Answer.{Answer}
 use Rattle.bank.specs.declared.bank.Answer.the-variants.{Done, Refused}
 use Rattle.bank.specs.declared.dispatch.Dispatched.{Dispatched}
 use Rattle.bank.specs.declared.step.Step.{Step}
-use Rattle.bank.specs.declared.step.Step.the-variants.{Send, Take, Ack, All, Note}
-
--- ---- who acts in a turn
-
-abbrev Acts : State → Step → Type 0
-Acts s x = (isHalt x ≡ false) × (acts s x (actingIn x (getD (s .heads) 0 0)) ≡ true)
-
-module _ (s : State) where
-  either : (b : Bool) (x y : Step) → Acts s x → Acts s y → Acts s (cond b x y)
-  either true x y h k = h
-  either false x y h k = k
-
-  column-acts : (t : Tree) (full : Bool) (halted i : ℕ) (c : Column) (other : Step) → Acts s other → Acts s (stepOf t full halted i c other)
-  unfolding stepOf
-  column-acts t full halted i c other h =
-      let own : eqb i i ≡ true = eq-eqb i i refl in
-      let new = minus halted (c .noted) in
-      let third : Step = cond (canTakeOver (t .root) i c) (All i) other in
-      let second : Step = cond (canAck full halted c) (Ack i) third in
-      let first : Step = cond (canSend t full halted i c) (Send i) second in
-      let last : Acts s third = either (canTakeOver (t .root) i c) (All i) other (refl, own) h in
-      let later : Acts s second = either (canAck full halted c) (Ack i) third (refl, own) last in
-      either (c .running) (cond (eqb new 0) first (Note i (lowest new))) other
-      (either (eqb new 0) first (Note i (lowest new)) (either (canSend t full halted i c) (Send i) second (refl, own) later) (refl, own))
-      h
-
-  turn-acts-from : (b : Bank) (full : Bool) (halted i k : ℕ) → Acts s (stepFrom b full halted i k)
-  unfolding stepFrom
-  turn-acts-from b full halted i zero = (refl, eq-eqb _ _ (sym (receiver-of (getD (s .heads) 0 0) (getD (s .doors) 0 0))))
-  turn-acts-from b full halted i (suc k) =
-      column-acts (b .tree) full halted i (columnAt b i) (stepFrom b full halted (suc i) k) (turn-acts-from b full halted (suc i) k)
-
-  turn-acts : Acts s (quickTurn (s .bank))
-  turn-acts = turn-acts-from (s .bank) _ _ 0 _
 
 -- ---- a turn
 
@@ -162,18 +126,28 @@ module _ {limit steps : ℕ} {s m : State} (g : Going limit steps s m) where
             leads = g .leads ∙ ap (λ (j : ℕ). dispatch j m) more ∙ z .1;
           }
 
-      acting-turn : Acts m x
-      acting-turn = subst (Acts m) (sym quick) (turn-acts m)
+      acting-turn : Turning m x
+      acting-turn = turning m x quick
 
       -- what the test of the next turn asks
       pub turned-within : (m' .bank .tree .columns ≤ 16) × (m' .bank .count ≤ 512)
       turned-within =
           let z = acting-turn in
-          let tree = tree-on m x m' _ (z .0) ok done (z .1) in
-          let room = room-on m x m' _ (z .0) ok done (z .1) in
+          let tree = tree-on m x m' _ (z .moves) ok done (z .actor) in
+          let room = room-on m x m' _ (z .moves) ok done (z .actor) in
           (subst (λ (t : Tree). t .columns ≤ 16) (sym tree) (tree-sixteen (m .bank .tree) (stands m ok .tree)), room)
 
-      pub turned-stands : (i : ℕ) → i ≡ actingIn x (getD (m .heads) 0 0) → stillStands m' i ≡ eqb (bankRefusal m') 0
-      turned-stands i is =
-          let z = acting-turn in
-          stands-on m x m' i (z .0) ok done (ap (acts m x) is ∙ z .1)
+      pub turned-runs : (j : ℕ) → runs (m' .bank) j ≡ runs (m .bank) j
+      turned-runs = let z = acting-turn in runs-on m x m' _ (z .moves) ok done (z .actor)
+
+      module _ (i : ℕ) (is : i ≡ actingIn x (getD (m .heads) 0 0)) where
+        acts-at : acts m x i ≡ true
+        acts-at = ap (acts m x) is ∙ acting-turn .actor
+
+        pub turned-actor : (i < 16) × (runs (m .bank) i ≡ true)
+        turned-actor =
+            let z = actor-on m x m' i (acting-turn .moves) ok done acts-at in
+            (omega (arith, z .0, tree-sixteen (m .bank .tree) (stands m ok .tree)), z .1)
+
+        pub turned-stands : stillStands m' i ≡ eqb (bankRefusal m') 0
+        turned-stands = stands-on m x m' i (acting-turn .moves) ok done acts-at

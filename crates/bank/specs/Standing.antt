@@ -32,9 +32,3 @@ newestStands s = eqb (s .bank .count) 0 || packetStands (s .bank) (packetAt s (s
 -- of a bank that stood before a step of column i: that column, and the packet that was put
 abbrev pub stillStands : State → ℕ → Bool
 stillStands s i = columnStands (s .bank) i && newestStands s
-
-abbrev pub TellsNewest : Bool → Bank → List ℕ → Type 0
-TellsNewest r b heads = (doors : List ℕ) → r ≡ newestStands (state b heads doors)
-
-abbrev pub TellsStill : Bool → Bank → List ℕ → ℕ → Type 0
-TellsStill r b heads i = (doors : List ℕ) → r ≡ stillStands (state b heads doors) i

@@ -106,23 +106,20 @@ table true true false true true u = refl
 table true true false true false u = refl
 table true true false false r u = refl
 
-module _ (b : Bank) where
+module _ (b : Bank) (running : ℕ) (lit : (j : ℕ) → j < b .tree .columns → has running j ≡ runs b j) where
   abbrev n : ℕ
   n = b .tree .columns
 
   -- the set of columns that run, for a column below columns
-  in-running : (to : ℕ) (rest : Bool)
-      → (ltb to n && (rest && has (selected (runs b) n) to)) ≡ (ltb to n && (rest && runs b to))
-  in-running to rest = go (ltb to n) (λ e. selected-has (runs b) n to (ltb-true to n e))
+  in-running : (to : ℕ) (rest : Bool) → (ltb to n && (rest && has running to)) ≡ (ltb to n && (rest && runs b to))
+  in-running to rest = go (ltb to n) (λ e. lit to (ltb-true to n e))
     where
-      go : (below : Bool) → (below ≡ true → has (selected (runs b) n) to ≡ runs b to)
-          → (below && (rest && has (selected (runs b) n) to)) ≡ (below && (rest && runs b to))
+      go : (below : Bool) → (below ≡ true → has running to ≡ runs b to) → (below && (rest && has running to)) ≡ (below && (rest && runs b to))
       go true e = ap (_&&_ rest) (e refl)
       go false e = refl
 
   -- the doors are not looked at
-  pub head-stands : (head doors : ℕ)
-      → headStands n (b .tree .root) (selected (runs b) n) head ≡ packetStands b (packetOf head doors)
+  pub head-stands : (head doors : ℕ) → headStands n (b .tree .root) running head ≡ packetStands b (packetOf head doors)
   unfolding headStands packetRefusal
   head-stands head doors =
       let to = receiverIn head in
@@ -131,7 +128,9 @@ module _ (b : Bank) where
       ∙ rw (receiver-of head doors, sender-of head doors, kind-of head doors, not-below from n, not-below to n, not-below head acknowledging)
       (table (ltb to n) (ltb from n) (eqb from to) (ltb head acknowledging) (eqb to (b .tree .root)) (runs b to))
 
-  pub heads-stand : (heads doors : List ℕ)
-      → every (λ k. headStands n (b .tree .root) (selected (runs b) n) (getD heads k 0)) (b .count)
-      ≡ packetsStand (state b heads doors)
-  heads-stand heads doors = every-same _ _ (b .count) (λ k h. head-stands (getD heads k 0) (getD doors k 0))
+pub heads-stand : (b : Bank) (heads doors : List ℕ)
+    → let n = b .tree .columns in
+    every (λ k. headStands n (b .tree .root) (selected (runs b) n) (getD heads k 0)) (b .count) ≡ packetsStand (state b heads doors)
+heads-stand b heads doors =
+    let n = b .tree .columns in
+    every-same _ _ (b .count) (λ k h. head-stands b (selected (runs b) n) (selected-has (runs b) n) (getD heads k 0) (getD doors k 0))

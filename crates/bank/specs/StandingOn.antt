@@ -21,6 +21,7 @@ use Rattle.column.specs.declared.state.Column.{Column}
 use Rattle.column.specs.declared.packet.Packet.{Packet}
 use Rattle.column.specs.declared.packet.Packet.the-variants.{Message, Acknowledgement}
 use Rattle.bank.specs.Words.{packetOf}
+use Rattle.bank.specs.Steady.{Steady, steady-cond, steady-send, steady-take}
 use Rattle.bank.specs.Lists.{closedUp}
 use Rattle.bank.specs.ListLaws.{closed-up-before, closed-up-after, set-keeps}
 use Rattle.bank.specs.Banks.{State, columnAt, runs, packetAt, columnStands, packetStands, capacity, noColumn, bankRefusal, actingRefusal}
@@ -34,29 +35,6 @@ use Rattle.bank.specs.RestSteps.{refused-exactly}
 use Rattle.bank.specs.Places.{acts, isHalt, one-acts, tree-kept, others-kept, acting-runs}
 use Rattle.bank.specs.declared.step.Step.{Step}
 use Rattle.bank.specs.declared.step.Step.the-variants.{Order, Send, Take, Ack, All, Note, Halt}
-
--- ---- what the core does: at most one packet, and its column runs on as it did
-
-abbrev Steady : Column → core.Result → Type 0
-Steady c (core.accepted d [] left) = d .running ≡ c .running
-Steady c (core.accepted d (p ∷ []) left) = d .running ≡ c .running
-Steady c (core.accepted d (p ∷ (q ∷ l)) left) = ⊥
-Steady c (core.refused n d) = Unit {0}
-
-steady-cond : (b : Bool) (c : Column) (r q : core.Result) → Steady c r → Steady c q → Steady c (cond b r q)
-steady-cond true c r q h k = h
-steady-cond false c r q h k = k
-
-steady-send : (t : Tree) (i : ℕ) (c : Column) → Steady c (core.sendEffect t i c)
-unfolding core.sendEffect
-steady-send t i c =
-    steady-cond (eqb (choose t (c .send)) i) c _ _ refl (steady-cond (has (c .noted) (choose t (c .send))) c _ _ refl refl)
-
-steady-take : (t : Tree) (i : ℕ) (c : Column) (p : Packet) → Steady c (core.takeEffect t i c p)
-unfolding core.messageEffect core.receiveEffect core.acknowledgementEffect
-steady-take t i c (Message from to number doors) =
-    steady-cond (eqb number (c .number)) c _ _ refl (steady-cond (ltb number (c .number)) c _ _ refl (steady-cond (eqb (c .owed) 0) c _ _ refl refl))
-steady-take t i c (Acknowledgement from to number) = steady-cond (eqb number (c .number)) c _ _ refl refl
 
 -- ---- what a step carries over: who runs, and the packets but for the newest
 
@@ -200,10 +178,17 @@ module _ (s : State) (x : Step) (s' : State) (i : ℕ) (moves : isHalt x ≡ fal
   same-column j other =
       sym (ap (λ (o : Outcome State). columnAt (after o .bank) j) done) ∙ others-kept s x j (one-acts s x i j moves actor other)
 
-  actor-below : i < s' .bank .tree .columns
-  actor-below =
+  -- who runs is the same
+  pub runs-on : (j : ℕ) → runs (s' .bank) j ≡ runs (s .bank) j
+  runs-on = carried .1 .running
+
+  pub actor-on : (i < s .bank .tree .columns) × (runs (s .bank) i ≡ true)
+  actor-on =
       let none : refusalOf s x ≡ 0 = eqb-true (refusalOf s x) 0 (not-false (eqb (refusalOf s x) 0) (sym (refused-exactly s x) ∙ ap isRefused done)) in
-      subst (λ (t : Tree). i < t .columns) (sym tree-on) (acting-runs s x none i actor .0)
+      acting-runs s x none i actor
+
+  actor-below : i < s' .bank .tree .columns
+  actor-below = subst (λ (t : Tree). i < t .columns) (sym tree-on) (actor-on .0)
 
   older-stands : (p : Packet) → Held s p → packetStands (s' .bank) p ≡ true
   older-stands p q =

@@ -18,13 +18,14 @@ use Rattle.column.specs.Steps as core
 use Rattle.column.specs.Steps.{haltRefusal, haltEffect}
 use Rattle.column.specs.declared.step.Answer as core-answer
 use Rattle.column.specs.declared.step.Answer.the-variants as core-is
+use Rattle.column.specs.declared.tree.Tree.{Tree}
 use Rattle.column.specs.declared.state.Column.{Column}
 use Rattle.column.specs.declared.packet.Packet.{Packet}
-use Rattle.bank.specs.Banks.{State, state, columnAt, runs, packetAt, capacity, bankRefusal, actingRefusal}
+use Rattle.bank.specs.Banks.{State, state, runs, packetAt, capacity, bankRefusal, actingRefusal}
 use Rattle.bank.specs.StandingLaws.{stands, acting}
 use Rattle.bank.specs.Lists.{keeping-few}
 use Rattle.bank.specs.Networks.{withPacket, put, puts, only, elsewhere, vanished}
-use Rattle.bank.specs.Steps.{Outcome, accepted, refused, answered, outcome, unless, withColumn, fitting, settled, acted, noted, takeRefusal}
+use Rattle.bank.specs.Steps.{Outcome, accepted, refused, answered, outcome, unless, withColumn, fitting, settled, acted, takeRefusal}
 use Rattle.bank.specs.Steps as strip
 use Rattle.bank.specs.declared.bank.Bank.{Bank}
 use Rattle.bank.specs.declared.bank.Answer.{Answer}
@@ -136,17 +137,19 @@ module _ (s : State) (i n : ℕ) (e : n ≡ actingRefusal s i) where
   unfolding acted
   acted-settled result z a = a ∙ unless-goes s (settled s s i result) n (actingRefusal s i) e z
 
--- ---- note
+-- ---- note: whether j runs is one more condition
 
-module _ (b : Bank) (i j : ℕ) where
-  pub noted-halted : runs b j ≡ false → core.note (b .tree) i (columnAt b i) j ≡ noted b i j
-  noted-halted e = rw (e, earlier-zero (core.noteRefusal (b .tree) i (columnAt b i) j))
+module _ (t : Tree) (i : ℕ) (c : Column) (j : ℕ) (runs : Bool) where
+  abbrev believed : core.Result
+  believed = core.unless (earlier (core.noteRefusal t i c j) (first ((6, runs) ∷ []))) c (core.noteEffect t c j)
 
-  pub noted-running : runs b j ≡ true → core.refused (earlier (core.noteRefusal (b .tree) i (columnAt b i) j) 6) (columnAt b i) ≡ noted b i j
-  noted-running e = rw e (six (core.noteRefusal (b .tree) i (columnAt b i) j) (eqb (core.noteRefusal (b .tree) i (columnAt b i) j) 0) refl)
+  pub note-halted : runs ≡ false → core.note t i c j ≡ believed
+  note-halted e = rw (e, earlier-zero (core.noteRefusal t i c j))
+
+  pub note-running : runs ≡ true → core.refused (earlier (core.noteRefusal t i c j) 6) c ≡ believed
+  note-running e = rw e (six (core.noteRefusal t i c j) (eqb (core.noteRefusal t i c j) 0) refl)
     where
-      six : (n : ℕ) (x : Bool) → eqb n 0 ≡ x → let c = columnAt b i in
-          core.refused (cond x 6 n) c ≡ core.unless (cond x 6 n) c (core.noteEffect (b .tree) c j)
+      six : (n : ℕ) (x : Bool) → eqb n 0 ≡ x → core.refused (cond x 6 n) c ≡ core.unless (cond x 6 n) c (core.noteEffect t c j)
       six n true z = refl
       six n false z = rw z
 

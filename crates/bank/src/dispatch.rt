@@ -2,10 +2,16 @@
 use crate::bank::Answer;
 use crate::bank::Bank;
 use crate::bank::CAPACITY;
+use crate::settling::Change;
+use crate::settling::column_at;
+use crate::settling::settle;
+use crate::settling::unchanged;
 use crate::standing::bank_refusal;
+use crate::standing::running;
 use crate::standing::still_stands;
 use crate::step::Step;
-use crate::step::perform_tested;
+use crate::step::core_step;
+use crate::step::taken;
 use crate::words::receiver_in;
 use column::choice::choose;
 use column::members::has;
@@ -18,6 +24,7 @@ ghost use Rattle.bank.specs.Banks.{state, bankRefusal};
 ghost use Rattle.bank.specs.Dispatch.{dispatch, dispatchOutcome};
 ghost use Rattle.bank.specs.Steps.{accepted};
 ghost use Rattle.bank.specs.Quick.{fits, canSend, canAck, canTakeOver, haltedOf, quickTurn, actingIn};
+ghost use Rattle.bank.specs.Turns.{isTake, TakesTurn};
 ghost use Rattle.bank.specs.Offers.{Offers, isRefusal};
 ghost use Rattle.bank.specs.Dispatches.{Dispatches, Ended};
 
@@ -112,19 +119,18 @@ fn offer_of(t: Tree, full: bool, halted: u16, i: usize, c: Column) -> Offer
     Offer::Nothing
 }
 
-// The step of a turn, of a bank that stands.
-fn next_step(b: Bank) -> Step
-    requires { ⌜ b .tree .columns ≤ 16 ⌝ }
+// The step of a turn, of a bank that stands and whose columns in `halted` are halted.
+fn next_step(b: Bank, halted: u16) -> Step
+    requires { ⌜ (b .tree .columns ≤ 16) × (halted ≡ haltedOf b) ⌝ }
     ensures { λ r. ⌜ r ≡ quickTurn b ⌝ }
 {
     let t = b.tree;
     let n = t.columns;
-    let set = halted(b);
     let full = !(b.count < CAPACITY);
     let mut i: usize = 0;
     while i < n {
         let c = b.columns[i];
-        let o = offer_of(t, full, set, i, c);
+        let o = offer_of(t, full, halted, i, c);
         match o {
             Offer::Is(x) => {
                 return x;
@@ -168,25 +174,68 @@ fn ended(b: Bank, steps: usize) -> Dispatched
     }
 }
 
+fn is_take(x: Step) -> bool
+    ensures { λ r. ⌜ r ≡ isTake x ⌝ }
+{
+    match x {
+        Step::Order(_) => false,
+        Step::Send(_) => false,
+        Step::Take(_) => true,
+        Step::Ack(_) => false,
+        Step::All(_) => false,
+        Step::Note(_, _) => false,
+        Step::Halt(_) => false,
+    }
+}
+
+// What the turn's step x makes of column i, which is c, and of the network, in a bank that stands.
+fn take_turn(
+    t: Tree,
+    running: u16,
+    x: Step,
+    i: usize,
+    c: Column,
+    count: usize,
+    heads: &mut [u64; 512],
+    doors: &mut [u64; 512],
+) -> Change
+    requires { ⌜ count ≤ 512 ⌝ }
+    ensures { λ r. ⌜ TakesTurn r t running x i c count (now (heads .entry)) (now (doors .entry)) (now (heads .exit)) (now (doors .exit)) ⌝ }
+{
+    if !is_take(x) {
+        let o = core_step(t, running, x, i, c);
+        return settle(running, o, count, heads, doors);
+    }
+    if count == 0 {
+        return unchanged(c, count, 10);
+    }
+    taken(t, running, 0, i, c, count, heads, doors)
+}
+
 // Steps of a bank that stands until it rests, until the limit, or until one is refused. A step changes one column and puts one packet at
-// most, so that these alone are tested for the next turn.
+// most, so that these alone are tested for the next turn, and who runs stays the same.
 fn take_turns(b: Bank, limit: usize, heads: &mut [u64; 512], doors: &mut [u64; 512]) -> Dispatched
     requires { ⌜ bankRefusal (state b (now heads) (now doors)) ≡ 0 ⌝ }
     ensures { λ r. ⌜ Dispatches r (now (heads .exit)) (now (doors .exit)) limit (state b (now (heads .entry)) (now (doors .entry))) (accepted (dispatch limit (state b (now (heads .entry)) (now (doors .entry))))) ⌝ }
 {
     let mut d = b;
+    let t = b.tree;
+    let lit = running(b);
+    let dark = halted(b);
     let mut steps: usize = 0;
     while steps < limit {
-        let x = next_step(d);
+        let x = next_step(d, dark);
         let i = acting(x, heads[0]);
-        let r = perform_tested(d, 0, x, heads, doors);
-        d = r.bank;
+        let r = take_turn(t, lit, x, i, column_at(d, i), d.count, heads, doors);
         let a = r.answer;
         if is_refusal(a) {
             return ended(d, steps);
         }
+        let c = r.column;
+        d.columns[i] = c;
+        d.count = r.count;
         steps += 1;
-        if !still_stands(d, i, heads) {
+        if !still_stands(t, lit, i, c, d.count, heads) {
             return ended(d, steps);
         }
     }

@@ -11,18 +11,15 @@ ghost use lib.ListN.{length, take};
 ghost use Rattle.column.specs.Sets.{has};
 ghost use Rattle.bank.specs.Lists.{closedUp, padded};
 ghost use Rattle.bank.specs.Banks.{state};
-ghost use Rattle.bank.specs.Networks.{withPacket, removed, vanished, Kept};
+ghost use Rattle.bank.specs.Networks.{Appended, ClosedUp, vanished, Kept};
 
-pub fn append(b: Bank, p: Packet, heads: &mut [u64; 512], doors: &mut [u64; 512]) -> Bank
-    requires { ⌜ b .count < 512 ⌝ }
-    ensures { λ r. ⌜ state r (now (heads .exit)) (now (doors .exit)) ≡ withPacket (state b (now (heads .entry)) (now (doors .entry))) p ⌝ }
+// The words of packet p stand behind those of `count` others.
+pub fn append(p: Packet, count: usize, heads: &mut [u64; 512], doors: &mut [u64; 512])
+    requires { ⌜ count < 512 ⌝ }
+    ensures { λ r. ⌜ Appended p count (now (heads .entry)) (now (doors .entry)) (now (heads .exit)) (now (doors .exit)) ⌝ }
 {
-    let mut d = b;
-    let at = d.count;
-    heads[at] = head(p);
-    doors[at] = doors_word(p);
-    d.count = at + 1;
-    d
+    heads[count] = head(p);
+    doors[count] = doors_word(p);
 }
 
 // The words past `place` move up by one, and place `last` is free.
@@ -38,16 +35,19 @@ fn close_up(words: &mut [u64], place: usize, last: usize)
     words[last] = 0;
 }
 
-pub fn remove(b: Bank, place: usize, heads: &mut [u64; 512], doors: &mut [u64; 512]) -> Bank
-    requires { ⌜ (place < b .count) × (b .count ≤ 512) ⌝ }
-    ensures { λ r. ⌜ state r (now (heads .exit)) (now (doors .exit)) ≡ removed (state b (now (heads .entry)) (now (doors .entry))) place ⌝ }
+// The words of the packet at a place of `count` are gone. With the oldest, which a dispatcher takes, the others move as one block.
+pub fn remove(place: usize, count: usize, heads: &mut [u64; 512], doors: &mut [u64; 512])
+    requires { ⌜ (place < count) × (count ≤ 512) ⌝ }
+    ensures { λ r. ⌜ ClosedUp place count (now (heads .entry)) (now (doors .entry)) (now (heads .exit)) (now (doors .exit)) ⌝ }
 {
-    let last = b.count - 1;
+    let last = count - 1;
+    if place == 0 {
+        close_up(heads, 0, last);
+        close_up(doors, 0, last);
+        return;
+    }
     close_up(heads, place, last);
     close_up(doors, place, last);
-    let mut d = b;
-    d.count = last;
-    d
 }
 
 // Whether j is a member of a set with room for numbers that no bank has.

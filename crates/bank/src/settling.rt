@@ -1,4 +1,5 @@
-// What the core's answer makes of the bank: one place is rewritten, and the packet is put unless its addressee is halted.
+// What the core's answer makes of the bank: one place is rewritten, and the packet is put unless its addressee is halted. The functions that
+// decide it are handed the place, the count and who runs, never the whole bank.
 use crate::bank::Answer;
 use crate::bank::Bank;
 use crate::bank::CAPACITY;
@@ -6,18 +7,18 @@ use crate::bank::NO_COLUMN;
 use crate::bank::Result;
 use crate::network::append;
 use crate::network::remove;
+use column::members::has;
 use column::packet::Packet;
 use column::packet::receiver;
-use column::precedence::refuse_if;
 use column::state::Column;
 use column::step::Outcome;
 ghost use mathlib.Core.Path.{_≡_};
 ghost use Prim.Native.Nat.{_≤_, _<_};
-ghost use Rattle.column.specs.Steps.{meant};
-ghost use Rattle.bank.specs.Banks.{state, columnAt, runs, bankRefusal};
-ghost use Rattle.bank.specs.Networks.{put, removed};
+ghost use Rattle.bank.specs.Banks.{columnAt, runs};
 ghost use Rattle.bank.specs.StepLaws.{takesOff};
-ghost use Rattle.bank.specs.Steps.{answered, accepted, refused, outcome, withPlace, withColumn, fitting, settled, acted};
+ghost use Rattle.bank.specs.Steps.{answered, accepted, refused, withPlace};
+ghost use Rattle.bank.specs.Changes.{Becomes, Delivers, Settles, SettlesTaken, Stores};
+ghost use Rattle.bank.specs.declared.bank.Answer.the-variants.{Done, Refused};
 
 pub fn done(b: Bank) -> Result
     ensures { λ r. ⌜ answered (r .answer) (r .bank) ≡ accepted b ⌝ }
@@ -64,51 +65,78 @@ pub fn with_column(b: Bank, i: usize, c: Column) -> Bank
     d
 }
 
-// Column i of the bank is c, and packet p is put where its addressee runs.
-fn deliver(
-    b: Bank,
-    i: usize,
-    c: Column,
-    p: Packet,
-    heads: &mut [u64; 512],
-    doors: &mut [u64; 512],
-) -> Result
-    requires { ⌜ (i < 16) × (b .count ≤ 512) ⌝ }
-    ensures { λ r. ⌜ outcome r (now (heads .exit)) (now (doors .exit)) ≡ fitting (state b (now (heads .entry)) (now (doors .entry))) (put (withColumn (state b (now (heads .entry)) (now (doors .entry))) i c) p) ⌝ }
-{
-    let d = with_column(b, i, c);
-    if !runs(d, receiver(p)) {
-        return done(d);
-    }
-    if d.count == CAPACITY {
-        return refused(b, 9);
-    }
-    done(append(d, p, heads, doors))
+// What a step makes of the place of its column and of the network's count; or the number by which it is refused.
+pub struct Change {
+    pub column: Column,
+    pub count: usize,
+    pub answer: Answer,
 }
 
-// The core's outcome o for column i, once a packet that the step takes is off.
-pub fn settle(
-    b: Bank,
-    i: usize,
-    o: Outcome,
+fn changed(c: Column, count: usize) -> Change
+    ensures { λ r. ⌜ Becomes r c count Done ⌝ }
+{
+    Change {
+        column: c,
+        count,
+        answer: Answer::Done,
+    }
+}
+
+pub fn unchanged(c: Column, count: usize, n: u8) -> Change
+    ensures { λ r. ⌜ Becomes r c count (Refused n) ⌝ }
+{
+    Change {
+        column: c,
+        count,
+        answer: Answer::Refused(n),
+    }
+}
+
+// The acting column is c, and packet p is put where its addressee runs.
+fn deliver(
+    running: u16,
+    c: Column,
+    p: Packet,
+    count: usize,
     heads: &mut [u64; 512],
     doors: &mut [u64; 512],
-) -> Result
-    requires { ⌜ (i < 16) × (b .count ≤ 512) ⌝ }
-    ensures { λ r. ⌜ outcome r (now (heads .exit)) (now (doors .exit)) ≡ settled (state b (now (heads .entry)) (now (doors .entry))) (state b (now (heads .entry)) (now (doors .entry))) i (meant o) ⌝ }
+) -> Change
+    requires { ⌜ count ≤ 512 ⌝ }
+    ensures { λ r. ⌜ Delivers r running c p count (now (heads .entry)) (now (doors .entry)) (now (heads .exit)) (now (doors .exit)) ⌝ }
+{
+    if !has(running, receiver(p)) {
+        return changed(c, count);
+    }
+    if count == CAPACITY {
+        return unchanged(c, count, 9);
+    }
+    append(p, count, heads, doors);
+    changed(c, count + 1)
+}
+
+// The core's outcome o for the acting column, once a packet that the step takes is off.
+pub fn settle(
+    running: u16,
+    o: Outcome,
+    count: usize,
+    heads: &mut [u64; 512],
+    doors: &mut [u64; 512],
+) -> Change
+    requires { ⌜ count ≤ 512 ⌝ }
+    ensures { λ r. ⌜ Settles r running o count (now (heads .entry)) (now (doors .entry)) (now (heads .exit)) (now (doors .exit)) ⌝ }
 {
     let a = o.answer;
     match a {
-        column::step::Answer::Done => done(with_column(b, i, o.column)),
+        column::step::Answer::Done => changed(o.column, count),
         column::step::Answer::Put(p) | column::step::Answer::Left(p) => deliver(
-            b,
-            i,
+            running,
             o.column,
             p,
+            count,
             heads,
             doors,
         ),
-        column::step::Answer::Refused(n) => refused(b, n),
+        column::step::Answer::Refused(n) => unchanged(o.column, count, n),
     }
 }
 
@@ -124,41 +152,38 @@ fn takes_off(a: column::step::Answer) -> bool
     }
 }
 
-// The core's outcome o for column i, to which the packet at a place was given. Once that is off there is room for the one that is put.
+// The core's outcome o for the acting column, to which the packet at a place was given. Once that is off there is room for the one that is put.
 pub fn settle_taken(
-    b: Bank,
+    running: u16,
     place: usize,
-    i: usize,
     o: Outcome,
+    count: usize,
     heads: &mut [u64; 512],
     doors: &mut [u64; 512],
-) -> Result
-    requires { ⌜ (i < 16) × (place < b .count) × (b .count ≤ 512) ⌝ }
-    ensures { λ r. ⌜ outcome r (now (heads .exit)) (now (doors .exit)) ≡ settled (state b (now (heads .entry)) (now (doors .entry))) (removed (state b (now (heads .entry)) (now (doors .entry))) place) i (meant o) ⌝ }
+) -> Change
+    requires { ⌜ (place < count) × (count ≤ 512) ⌝ }
+    ensures { λ r. ⌜ SettlesTaken r running place o count (now (heads .entry)) (now (doors .entry)) (now (heads .exit)) (now (doors .exit)) ⌝ }
 {
     let a = o.answer;
     if !takes_off(a) {
-        return settle(b, i, o, heads, doors);
+        return settle(running, o, count, heads, doors);
     }
-    settle(remove(b, place, heads, doors), i, o, heads, doors)
+    remove(place, count, heads, doors);
+    settle(running, o, count - 1, heads, doors)
 }
 
-// A step of column i that takes no packet off, of a bank that is refused by n, where the core's outcome is o.
-pub fn act(
-    b: Bank,
-    n: u8,
-    i: usize,
-    o: Outcome,
-    heads: &mut [u64; 512],
-    doors: &mut [u64; 512],
-) -> Result
-    requires { ⌜ n ≡ bankRefusal (state b (now heads) (now doors)) ⌝ }
-    ensures { λ r. ⌜ outcome r (now (heads .exit)) (now (doors .exit)) ≡ acted (state b (now (heads .entry)) (now (doors .entry))) i (meant o) ⌝ }
+// The bank in which column i acted.
+pub fn store(b: Bank, i: usize, r: Change) -> Result
+    requires { ⌜ i < 16 ⌝ }
+    ensures { λ z. ⌜ Stores z b i r ⌝ }
 {
-    let t = b.tree;
-    let m = refuse_if(n, t.columns <= i, 4);
-    if m != 0 {
-        return refused(b, m);
+    let a = r.answer;
+    match a {
+        Answer::Refused(n) => refused(b, n),
+        Answer::Done => {
+            let mut d = with_column(b, i, r.column);
+            d.count = r.count;
+            done(d)
+        }
     }
-    settle(b, i, o, heads, doors)
 }

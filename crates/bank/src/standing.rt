@@ -1,12 +1,13 @@
 // What every step tests first: the tree, then row 4 of every column and of every packet.
 use crate::bank::Bank;
 use crate::bank::CAPACITY;
-use crate::settling::column_at;
 use crate::words::ACKNOWLEDGING;
 use crate::words::receiver_in;
 use crate::words::sender_in;
 use column::precedence::refuse_if;
+use column::state::Column;
 use column::state::state_refusal;
+use column::tree::Tree;
 use column::tree::tree_refusal;
 ghost use mathlib.Core.Path.{_≡_};
 ghost use Prim.Native.Nat.{ℕ, _≤_};
@@ -14,7 +15,8 @@ ghost use lib.ListN.{getD};
 ghost use Rattle.column.specs.Sets.{selected};
 ghost use Rattle.column.specs.Trees.{every};
 ghost use Rattle.bank.specs.Banks.{runs, columnsStand};
-ghost use Rattle.bank.specs.Standing.{headStands, RefusesBank, RefusesActing, TellsNewest, TellsStill};
+ghost use Rattle.bank.specs.Standing.{headStands, RefusesBank, RefusesActing};
+ghost use Rattle.bank.specs.Changes.{TellsNewest, TellsStill};
 
 fn columns_stand(b: Bank) -> bool
     requires { ⌜ b .tree .columns ≤ 16 ⌝ }
@@ -33,7 +35,7 @@ fn columns_stand(b: Bank) -> bool
 }
 
 // The set of columns that run.
-fn running(b: Bank) -> u16
+pub(crate) fn running(b: Bank) -> u16
     requires { ⌜ b .tree .columns ≤ 16 ⌝ }
     ensures { λ r. ⌜ r ≡ selected (runs b) (b .tree .columns) ⌝ }
 {
@@ -110,25 +112,36 @@ pub fn acting_refusal(b: Bank, i: usize, heads: &[u64; 512]) -> u8
 }
 
 // Row 4 of the newest packet, where there is one.
-fn newest_stands(b: Bank, heads: &[u64; 512]) -> bool
-    requires { ⌜ (b .tree .columns ≤ 16) × (b .count ≤ 512) ⌝ }
-    ensures { λ r. ⌜ TellsNewest r b (now (heads .entry)) ⌝ }
+fn newest_stands(
+    columns: usize,
+    root: usize,
+    running: u16,
+    count: usize,
+    heads: &[u64; 512],
+) -> bool
+    requires { ⌜ (columns ≤ 16) × (count ≤ 512) ⌝ }
+    ensures { λ r. ⌜ TellsNewest r columns root running count (now (heads .entry)) ⌝ }
 {
-    let t = b.tree;
-    let count = b.count;
     if count == 0 {
         return true;
     }
-    head_stands(t.columns, t.root, running(b), heads[count - 1])
+    head_stands(columns, root, running, heads[count - 1])
 }
 
-// Row 4 of what a step of column i can have changed.
-pub(crate) fn still_stands(b: Bank, i: usize, heads: &[u64; 512]) -> bool
-    requires { ⌜ (b .tree .columns ≤ 16) × (b .count ≤ 512) ⌝ }
-    ensures { λ r. ⌜ TellsStill r b (now (heads .entry)) i ⌝ }
+// Row 4 of what a step of column i, which is now c, can have changed.
+pub(crate) fn still_stands(
+    t: Tree,
+    running: u16,
+    i: usize,
+    c: Column,
+    count: usize,
+    heads: &[u64; 512],
+) -> bool
+    requires { ⌜ (t .columns ≤ 16) × (count ≤ 512) ⌝ }
+    ensures { λ r. ⌜ TellsStill r t running i c count (now (heads .entry)) ⌝ }
 {
-    if state_refusal(b.tree, i, column_at(b, i)) != 0 {
+    if state_refusal(t, i, c) != 0 {
         return false;
     }
-    newest_stands(b, heads)
+    newest_stands(t.columns, t.root, running, count, heads)
 }

@@ -2,29 +2,37 @@
 use crate::bank::Bank;
 use crate::bank::Result;
 use crate::network::vanish;
-use crate::settling::act;
+use crate::settling::Change;
 use crate::settling::column_at;
 use crate::settling::done;
 use crate::settling::refused;
-use crate::settling::runs;
+use crate::settling::settle;
 use crate::settling::settle_taken;
+use crate::settling::store;
 use crate::standing::bank_refusal;
+use crate::standing::running;
 use crate::strip::halt_refusal;
 use crate::strip::stop;
 use crate::words::packet;
-use column::packet::Packet;
-use column::packet::receiver;
+use crate::words::receiver_in;
+use column::members::has;
 use column::precedence::earlier;
 use column::precedence::refuse_if;
 use column::refusal::note_refusal;
+use column::state::Column;
 use column::step::Answer;
 use column::step::Outcome;
+use column::tested;
+use column::tree::Tree;
 ghost use mathlib.Core.Path.{_≡_};
+ghost use mathlib.Core.Bool.{true};
 ghost use Prim.Native.Nat.{_≤_, _<_};
-ghost use Rattle.column.specs.Packets.{receiver};
-ghost use Rattle.column.specs.Steps.{meant};
+ghost use Rattle.column.specs.Steps.{meant, refused};
 ghost use Rattle.bank.specs.Banks.{state, bankRefusal};
-ghost use Rattle.bank.specs.Steps.{outcome, delivered, order, send, take, ack, all, noted, note, halt, perform};
+ghost use Rattle.bank.specs.Changes.{isOwn, StepsCore, Takes};
+ghost use Rattle.bank.specs.Places.{acts};
+ghost use Rattle.bank.specs.Steps.{outcome, order, send, take, ack, all, note, halt, perform};
+ghost use Rattle.bank.specs.declared.step.Step.the-variants.{Note};
 
 pub enum Step {
     Order(u64),
@@ -36,20 +44,78 @@ pub enum Step {
     Halt(u32),
 }
 
-// Packet p, which stands at a place, goes to its receiver.
-fn receive(
-    b: Bank,
+// The core believes that the column to note is halted; the bank tests it.
+fn noted(t: Tree, running: u16, i: usize, c: Column, j: usize) -> Outcome
+    ensures { λ r. ⌜ StepsCore r t running (Note i j) i c ⌝ }
+{
+    if !has(running, j) {
+        return tested::note(t, i, c, j);
+    }
+    let n = earlier(note_refusal(t, i, c, j), 6);
+    Outcome {
+        column: c,
+        answer: Answer::Refused(n),
+    }
+}
+
+// What is no step of the core's is refused.
+fn no_step(c: Column) -> Outcome
+    ensures { λ r. ⌜ meant r ≡ refused 10 c ⌝ }
+{
+    Outcome {
+        column: c,
+        answer: Answer::Refused(10),
+    }
+}
+
+// What the core makes of column i, which is c, in a bank that stands and whose columns in `running` run.
+pub(crate) fn core_step(t: Tree, running: u16, x: Step, i: usize, c: Column) -> Outcome
+    ensures { λ r. ⌜ StepsCore r t running x i c ⌝ }
+{
+    match x {
+        Step::Order(given) => tested::order(t, i, c, given),
+        Step::Send(_) => tested::send(t, i, c),
+        Step::Ack(_) => tested::ack(t, i, c),
+        Step::All(_) => tested::all(t, i, c),
+        Step::Note(_, j) => noted(t, running, i, c, j),
+        Step::Take(_) => no_step(c),
+        Step::Halt(_) => no_step(c),
+    }
+}
+
+// The step x of column i, which takes no packet off, of a bank that is refused by n.
+fn act(b: Bank, n: u8, x: Step, i: usize, heads: &mut [u64; 512], doors: &mut [u64; 512]) -> Result
+    requires { ⌜ (n ≡ bankRefusal (state b (now heads) (now doors))) × ((isOwn x ≡ true) × (acts (state b (now heads) (now doors)) x i ≡ true)) ⌝ }
+    ensures { λ r. ⌜ outcome r (now (heads .exit)) (now (doors .exit)) ≡ perform (state b (now (heads .entry)) (now (doors .entry))) x ⌝ }
+{
+    let t = b.tree;
+    let m = refuse_if(n, t.columns <= i, 4);
+    if m != 0 {
+        return refused(b, m);
+    }
+    let set = running(b);
+    let o = core_step(t, set, x, i, column_at(b, i));
+    let r = settle(set, o, b.count, heads, doors);
+    store(b, i, r)
+}
+
+// The packet at a place goes to column i, which is c and its receiver.
+pub(crate) fn taken(
+    t: Tree,
+    running: u16,
     place: usize,
-    p: Packet,
+    i: usize,
+    c: Column,
+    count: usize,
     heads: &mut [u64; 512],
     doors: &mut [u64; 512],
-) -> Result
-    requires { ⌜ (receiver p < 16) × (place < b .count) × (b .count ≤ 512) ⌝ }
-    ensures { λ r. ⌜ outcome r (now (heads .exit)) (now (doors .exit)) ≡ delivered (state b (now (heads .entry)) (now (doors .entry))) place p ⌝ }
+) -> Change
+    requires { ⌜ (place < count) × (count ≤ 512) ⌝ }
+    ensures { λ r. ⌜ Takes r t running place i c count (now (heads .entry)) (now (doors .entry)) (now (heads .exit)) (now (doors .exit)) ⌝ }
 {
-    let i = receiver(p);
-    let o = column::step::take(b.tree, i, column_at(b, i), p);
-    settle_taken(b, place, i, o, heads, doors)
+    let p = packet(heads[place], doors[place]);
+    let o = tested::take(t, i, c, p);
+    settle_taken(running, place, o, count, heads, doors)
 }
 
 // The packet at a place of a bank that is refused by n.
@@ -67,24 +133,18 @@ fn take_packet(
     if m != 0 {
         return refused(b, m);
     }
-    let p = packet(heads[place], doors[place]);
-    receive(b, place, p, heads, doors)
-}
-
-// The core believes that the column to note is halted; the bank tests it.
-fn noted(b: Bank, i: usize, j: usize) -> Outcome
-    ensures { λ r. ⌜ meant r ≡ noted b i j ⌝ }
-{
-    let t = b.tree;
-    let c = column_at(b, i);
-    if !runs(b, j) {
-        return column::step::note(t, i, c, j);
-    }
-    let n = earlier(note_refusal(t, i, c, j), 6);
-    Outcome {
-        column: c,
-        answer: Answer::Refused(n),
-    }
+    let i = receiver_in(heads[place]);
+    let r = taken(
+        b.tree,
+        running(b),
+        place,
+        i,
+        column_at(b, i),
+        b.count,
+        heads,
+        doors,
+    );
+    store(b, i, r)
 }
 
 // The columns of a set, of a bank that is refused by n.
@@ -99,48 +159,21 @@ fn halt_columns(b: Bank, n: u8, m: u32, heads: &mut [u64; 512], doors: &mut [u64
     done(stop(vanish(b, m, heads, doors), m))
 }
 
-// Any of the seven steps, of a bank that is refused by n: whoever knows n need not test the bank again.
-pub(crate) fn perform_tested(
-    b: Bank,
-    n: u8,
-    x: Step,
-    heads: &mut [u64; 512],
-    doors: &mut [u64; 512],
-) -> Result
-    requires { ⌜ n ≡ bankRefusal (state b (now heads) (now doors)) ⌝ }
-    ensures { λ r. ⌜ outcome r (now (heads .exit)) (now (doors .exit)) ≡ perform (state b (now (heads .entry)) (now (doors .entry))) x ⌝ }
-{
-    let t = b.tree;
-    match x {
-        Step::Order(given) => {
-            let i = t.root;
-            let o = column::step::order(t, i, column_at(b, i), given);
-            act(b, n, i, o, heads, doors)
-        }
-        Step::Send(i) => {
-            let o = column::step::send(t, i, column_at(b, i));
-            act(b, n, i, o, heads, doors)
-        }
-        Step::Take(place) => take_packet(b, n, place, heads, doors),
-        Step::Ack(i) => {
-            let o = column::step::ack(t, i, column_at(b, i));
-            act(b, n, i, o, heads, doors)
-        }
-        Step::All(i) => {
-            let o = column::step::all(t, i, column_at(b, i));
-            act(b, n, i, o, heads, doors)
-        }
-        Step::Note(i, j) => act(b, n, i, noted(b, i, j), heads, doors),
-        Step::Halt(m) => halt_columns(b, n, m, heads, doors),
-    }
-}
-
 // The bank after any of the seven steps.
 pub fn perform(b: Bank, x: Step, heads: &mut [u64; 512], doors: &mut [u64; 512]) -> Result
     ensures { λ r. ⌜ outcome r (now (heads .exit)) (now (doors .exit)) ≡ perform (state b (now (heads .entry)) (now (doors .entry))) x ⌝ }
 {
     let n = bank_refusal(b, heads);
-    perform_tested(b, n, x, heads, doors)
+    let t = b.tree;
+    match x {
+        Step::Order(_) => act(b, n, x, t.root, heads, doors),
+        Step::Send(i) => act(b, n, x, i, heads, doors),
+        Step::Take(place) => take_packet(b, n, place, heads, doors),
+        Step::Ack(i) => act(b, n, x, i, heads, doors),
+        Step::All(i) => act(b, n, x, i, heads, doors),
+        Step::Note(i, _) => act(b, n, x, i, heads, doors),
+        Step::Halt(m) => halt_columns(b, n, m, heads, doors),
+    }
 }
 
 // The bank with these doors given to its root under the next number.

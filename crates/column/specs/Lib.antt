@@ -24,4 +24,6 @@ pub mod FramePlaces
 pub mod FrameExamples
 pub mod Steps
 pub mod StateLaws
+pub mod Tested
+pub mod TestedLaws
 pub mod StepExamples

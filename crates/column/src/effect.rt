@@ -21,7 +21,7 @@ ghost use Rattle.column.specs.Packets.{sender};
 ghost use Rattle.column.specs.declared.packet.Packet.the-variants.{Acknowledgement};
 ghost use Rattle.column.specs.Trees.{choose};
 ghost use Rattle.column.specs.Columns.{highest};
-ghost use Rattle.column.specs.Steps.{meant, accepted, orderEffect, sendEffect, acknowledgementEffect, acknowledgeLowest, messageEffect, takeEffect, ackEffect, allEffect, noteEffect, haltEffect};
+ghost use Rattle.column.specs.Steps.{meant, accepted, refused, orderEffect, sendEffect, acknowledgementEffect, acknowledgeLowest, messageEffect, takeEffect, ackEffect, allEffect, noteEffect, haltEffect};
 
 fn done(c: Column) -> Outcome
     ensures { λ r. ⌜ meant r ≡ accepted c [] false ⌝ }
@@ -29,6 +29,15 @@ fn done(c: Column) -> Outcome
     Outcome {
         column: c,
         answer: Answer::Done,
+    }
+}
+
+pub fn refused(c: Column, n: u8) -> Outcome
+    ensures { λ r. ⌜ meant r ≡ refused n c ⌝ }
+{
+    Outcome {
+        column: c,
+        answer: Answer::Refused(n),
     }
 }
 

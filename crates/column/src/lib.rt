@@ -12,5 +12,6 @@ pub mod refusal;
 mod sets;
 pub mod state;
 pub mod step;
+pub mod tested;
 mod traversal;
 pub mod tree;

@@ -1,5 +1,5 @@
-// Which step is refused, and by which number: 0 where it is not. Each function lists its conditions in document 01's order; every one
-// may be tested in any state, so none has to wait for those before it.
+// Which step is refused, and by which number: 0 where it is not. Each step has its own conditions in document 01's order, listed by one
+// function that is handed the number n of the tests before them; every one may be tested in any state, so none has to wait for those before it.
 use crate::members::has;
 use crate::packet::HIGHEST;
 use crate::packet::Packet;
@@ -12,8 +12,10 @@ use crate::state::Column;
 use crate::state::standing;
 use crate::tree::Tree;
 ghost use mathlib.Core.Path.{_≡_};
+ghost use Rattle.column.specs.Refusals.{first, earlier};
 ghost use Rattle.column.specs.Columns.{idle};
-ghost use Rattle.column.specs.Steps.{packetRefusal, orderRefusal, sendRefusal, takeRefusal, ackRefusal, allRefusal, noteRefusal, haltRefusal};
+ghost use Rattle.column.specs.Steps.{packetRefusal, orderConditions, orderRefusal, sendConditions, sendRefusal, takeConditions, takeRefusal};
+ghost use Rattle.column.specs.Steps.{ackConditions, ackRefusal, allConditions, allRefusal, noteConditions, noteRefusal, haltRefusal};
 
 fn idle(c: Column) -> bool
     ensures { λ r. ⌜ r ≡ idle c ⌝ }
@@ -21,28 +23,40 @@ fn idle(c: Column) -> bool
     (c.send == 0) & (c.awaited == 0)
 }
 
+// Of an order to column i: 4 where that is not the root, 5, 7 while it sends or awaits, 8 at the highest number.
+pub(crate) fn order_conditions(n: u8, t: Tree, i: usize, c: Column) -> u8
+    ensures { λ r. ⌜ r ≡ earlier n (first (orderConditions t i c)) ⌝ }
+{
+    let mut m = refuse_if(n, i != t.root, 4);
+    m = refuse_if(m, !c.running, 5);
+    m = refuse_if(m, !idle(c), 7);
+    refuse_if(m, c.number == HIGHEST, 8)
+}
+
 // Of an order to column i, which must be the root: 2 to 5, 7 while it sends or awaits, 8 at the highest number.
 pub fn order_refusal(t: Tree, i: usize, c: Column) -> u8
     ensures { λ r. ⌜ r ≡ orderRefusal t i c ⌝ }
 {
-    let mut n = standing(t, i, c);
-    n = refuse_if(n, i != t.root, 4);
-    n = refuse_if(n, !c.running, 5);
-    n = refuse_if(n, !idle(c), 7);
-    refuse_if(n, c.number == HIGHEST, 8)
+    order_conditions(standing(t, i, c), t, i, c)
+}
+
+// Of a send by column i: 5, 6 where nobody is to be sent to.
+pub(crate) fn send_conditions(n: u8, t: Tree, i: usize, c: Column) -> u8
+    ensures { λ r. ⌜ r ≡ earlier n (first (sendConditions t i c)) ⌝ }
+{
+    let m = refuse_if(n, !c.running, 5);
+    refuse_if(m, c.send == 0, 6)
 }
 
 // Of a send by column i: 2 to 5, 6 where nobody is to be sent to.
 pub fn send_refusal(t: Tree, i: usize, c: Column) -> u8
     ensures { λ r. ⌜ r ≡ sendRefusal t i c ⌝ }
 {
-    let mut n = standing(t, i, c);
-    n = refuse_if(n, !c.running, 5);
-    refuse_if(n, c.send == 0, 6)
+    send_conditions(standing(t, i, c), t, i, c)
 }
 
 // 4 where row 4 refuses the packet. Neither the tree nor the addressee is tested.
-fn packet_refusal(t: Tree, p: Packet) -> u8
+pub(crate) fn packet_refusal(t: Tree, p: Packet) -> u8
     ensures { λ r. ⌜ r ≡ packetRefusal t p ⌝ }
 {
     let from = sender(p);
@@ -53,46 +67,71 @@ fn packet_refusal(t: Tree, p: Packet) -> u8
     refuse_if(n, is_message(p) & (to == t.root), 4)
 }
 
+// Of a packet given to column i: 4 where it is for another one, 5.
+pub(crate) fn take_conditions(n: u8, t: Tree, i: usize, c: Column, p: Packet) -> u8
+    ensures { λ r. ⌜ r ≡ earlier n (first (takeConditions t i c p)) ⌝ }
+{
+    let m = refuse_if(n, receiver(p) != i, 4);
+    refuse_if(m, !c.running, 5)
+}
+
 // Of a packet given to column i: 2 to 5.
 pub fn take_refusal(t: Tree, i: usize, c: Column, p: Packet) -> u8
     ensures { λ r. ⌜ r ≡ takeRefusal t i c p ⌝ }
 {
-    let mut n = earlier(standing(t, i, c), packet_refusal(t, p));
-    n = refuse_if(n, receiver(p) != i, 4);
-    refuse_if(n, !c.running, 5)
+    let n = earlier(standing(t, i, c), packet_refusal(t, p));
+    take_conditions(n, t, i, c, p)
+}
+
+// Of an acknowledgement by column i: 5, 6 where nobody is owed, or the goal is its own subtree and it still sends or awaits.
+pub(crate) fn ack_conditions(n: u8, t: Tree, i: usize, c: Column) -> u8
+    ensures { λ r. ⌜ r ≡ earlier n (first (ackConditions t i c)) ⌝ }
+{
+    let mut m = refuse_if(n, !c.running, 5);
+    m = refuse_if(m, c.owed == 0, 6);
+    refuse_if(m, !(c.whole | idle(c)), 6)
 }
 
 // Of an acknowledgement by column i: 2 to 5, 6 where nobody is owed, or the goal is its own subtree and it still sends or awaits.
 pub fn ack_refusal(t: Tree, i: usize, c: Column) -> u8
     ensures { λ r. ⌜ r ≡ ackRefusal t i c ⌝ }
 {
-    let mut n = standing(t, i, c);
-    n = refuse_if(n, !c.running, 5);
-    n = refuse_if(n, c.owed == 0, 6);
-    refuse_if(n, !(c.whole | idle(c)), 6)
+    ack_conditions(standing(t, i, c), t, i, c)
+}
+
+// Of a takeover by column i: 5, 6 at the root, with the root not noted, after another takeover, or while it sends or awaits.
+pub(crate) fn all_conditions(n: u8, t: Tree, i: usize, c: Column) -> u8
+    ensures { λ r. ⌜ r ≡ earlier n (first (allConditions t i c)) ⌝ }
+{
+    let mut m = refuse_if(n, !c.running, 5);
+    m = refuse_if(m, i == t.root, 6);
+    m = refuse_if(m, !has(c.noted, t.root), 6);
+    m = refuse_if(m, c.whole, 6);
+    refuse_if(m, !idle(c), 6)
 }
 
 // Of a takeover by column i: 2 to 5, 6 at the root, with the root not noted, after another takeover, or while it sends or awaits.
 pub fn all_refusal(t: Tree, i: usize, c: Column) -> u8
     ensures { λ r. ⌜ r ≡ allRefusal t i c ⌝ }
 {
-    let mut n = standing(t, i, c);
-    n = refuse_if(n, !c.running, 5);
-    n = refuse_if(n, i == t.root, 6);
-    n = refuse_if(n, !has(c.noted, t.root), 6);
-    n = refuse_if(n, c.whole, 6);
-    refuse_if(n, !idle(c), 6)
+    all_conditions(standing(t, i, c), t, i, c)
+}
+
+// Of a note of column j by column i: 4 of a j that the bank has not, 5, 6 where j is i or is noted already.
+pub(crate) fn note_conditions(n: u8, t: Tree, i: usize, c: Column, j: usize) -> u8
+    ensures { λ r. ⌜ r ≡ earlier n (first (noteConditions t i c j)) ⌝ }
+{
+    let mut m = refuse_if(n, t.columns <= j, 4);
+    m = refuse_if(m, !c.running, 5);
+    m = refuse_if(m, j == i, 6);
+    refuse_if(m, has(c.noted, j), 6)
 }
 
 // Of a note of column j by column i: 2 to 5, 6 where j is i or is noted already. That j is halted is believed.
 pub fn note_refusal(t: Tree, i: usize, c: Column, j: usize) -> u8
     ensures { λ r. ⌜ r ≡ noteRefusal t i c j ⌝ }
 {
-    let mut n = standing(t, i, c);
-    n = refuse_if(n, t.columns <= j, 4);
-    n = refuse_if(n, !c.running, 5);
-    n = refuse_if(n, j == i, 6);
-    refuse_if(n, has(c.noted, j), 6)
+    note_conditions(standing(t, i, c), t, i, c, j)
 }
 
 // Of a halt of column i: 2 to 5.

@@ -2,29 +2,24 @@
 use borrow.Author.Needs.{needs}
 use Prim.Native.Nat.{_≤_, _-_}
 use native.Mathlib.Omega.{arith}
-use mathlib.Core.Path.{_≡_, sym, ap, _∙_}
+use mathlib.Core.Path.{_≡_, sym, ap, ap₂, _∙_}
 use Rattle.bank.specs.Quick.{isFull, haltedOf, stepFrom, quickTurn}
 use Rattle.bank.specs.Offers.{from-offer, from-next}
 use Rattle.bank.proofs.dispatch.next_step.Statement.{statement}
 use Rattle.bank.proofs.dispatch.next_step.Tie as tie
 
 abbrev Inv-loop : tie.InvT-loop
-Inv-loop b t n set full i₀ i = (i ≤ n) × (set ≡ haltedOf b) × (stepFrom b full set i (n - i) ≡ quickTurn b)
+Inv-loop halted b t n full i₀ i = (i ≤ n) × (stepFrom b full halted i (n - i) ≡ quickTurn b)
 
 abbrev μ-loop : tie.MeasureT-loop
-μ-loop b t n set full i₀ i = n - i
-
-halted-requires : tie.Need-halted-requires Inv-loop μ-loop
-halted-requires c κs = search needs
+μ-loop halted b t n full i₀ i = n - i
 
 loop-holds : tie.Need-loop-holds Inv-loop μ-loop
 loop-holds c =
-    let b = c .before .before .args .t1 in
-    let e : b .tree .columns - 0 ≡ b .tree .columns = omega arith in (
-      omega arith,
-      c .halted .ensures,
-      ap (λ m. stepFrom b (isFull b) m 0 (b .tree .columns - 0)) (c .halted .ensures) ∙ ap (stepFrom b (isFull b) (haltedOf b) 0) e,
-    )
+    let s = c .before in
+    let b = s .args .t1 in
+    let e : b .tree .columns - 0 ≡ b .tree .columns = omega arith in
+    (omega arith, ap₂ (λ m k. stepFrom b (isFull b) m 0 k) (s .pre .1) e)
 
 mul-c : tie.Need-mul-c Inv-loop μ-loop
 mul-c c = search needs
@@ -42,11 +37,12 @@ returns : tie.Need-returns Inv-loop μ-loop
 returns c =
     let f = c .before .before .before in
     let l = f .before .before .before in
-    let b = l .before .before .before .args .t1 in
+    let a = l .before .before .args in
+    let b = a .t1 in
     sym
-    (from-offer b (isFull b) (l .before .halted .result) (l .loop .i) (b .tree .columns) (f .offer-of .result) (f .offer-of .ensures) (omega arith)
+    (from-offer b (isFull b) (a .halted) (l .loop .i) (b .tree .columns) (f .offer-of .result) (f .offer-of .ensures) (omega arith)
     _ (c .before .o .given .1))
-    ∙ l .loop .inv .2
+    ∙ l .loop .inv .1
 
 enum-told : tie.Need-enum-told Inv-loop μ-loop
 enum-told c = search needs
@@ -61,22 +57,23 @@ loop-again : tie.Need-loop-again Inv-loop μ-loop
 loop-again c =
     let f = c .before .before in
     let l = f .before .before .before in
-    let b = l .before .before .before .args .t1 in (
+    let a = l .before .before .args in
+    let b = a .t1 in (
       omega arith,
-      l .loop .inv .1,
       sym
-          (from-next b (isFull b) (l .before .halted .result) (l .loop .i) (b .tree .columns) (f .offer-of .result) (f .offer-of .ensures)
+          (from-next b (isFull b) (a .halted) (l .loop .i) (b .tree .columns) (f .offer-of .result) (f .offer-of .ensures)
           (omega arith) (c .enum-told .given .1))
-          ∙ l .loop .inv .2,
+          ∙ l .loop .inv .1,
     )
 
 returns-2 : tie.Need-returns-2 Inv-loop μ-loop
 unfolding stepFrom
 returns-2 c =
     let l = c .before in
-    let b = l .before .before .before .args .t1 in
+    let a = l .before .before .args in
+    let b = a .t1 in
     let e : b .tree .columns - l .loop .i ≡ 0 = omega arith in
-    sym (ap (stepFrom b (isFull b) (l .before .halted .result) (l .loop .i)) e) ∙ l .loop .inv .2
+    sym (ap (stepFrom b (isFull b) (a .halted) (l .loop .i)) e) ∙ l .loop .inv .1
 
 pub next-step-spec : {M : Type 1} → statement M
 next-step-spec =
@@ -84,7 +81,6 @@ next-step-spec =
     (tie.spec
     Inv-loop
     μ-loop
-    halted-requires
     loop-holds
     mul-c
     element-copy-out-c

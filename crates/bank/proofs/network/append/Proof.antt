@@ -1,4 +1,6 @@
 use borrow.Author.Needs.{needs}
+use mathlib.Core.Path.{ap}
+use lib.ListN.{set}
 use Rattle.bank.proofs.network.append.Statement.{statement}
 use Rattle.bank.proofs.network.append.Tie as tie
 
@@ -20,21 +22,16 @@ mul-doors c = search needs
 element-write-doors : tie.Need-element-write-doors
 element-write-doors c = search needs
 
-add-d : tie.Need-add-d
-add-d c = search needs
-
 returns : tie.Need-returns
-returns c = rw (c .before .head .ensures, c .doors-word .ensures)
+returns c =
+    let h = c .before in
+    let a = h .before .args in
+    record {
+      heads-are = ap (set (a .heads .now) (a .count)) (h .head .ensures);
+      doors-are = ap (set (a .doors .now) (a .count)) (c .doors-word .ensures);
+    }
 
 pub append-spec : {M : Type 1} → statement M
 append-spec =
     tie.close
-    (tie.spec
-    head-requires
-    mul-heads
-    element-write-heads
-    doors-word-requires
-    mul-doors
-    element-write-doors
-    add-d
-    returns)
+    (tie.spec head-requires mul-heads element-write-heads doors-word-requires mul-doors element-write-doors returns)

@@ -1,22 +1,21 @@
 use borrow.Author.Needs.{needs}
 use mathlib.Core.Path.{sym, ap, _∙_}
 use native.Mathlib.Omega.{arith}
-use Prim.Native.Nat.{_<_}
 use borrow.Author.Tests.{not-true, not-false}
-use Rattle.column.specs.Steps.{meant}
-use Rattle.bank.specs.Banks.{State, state}
+use Rattle.bank.specs.Banks.{state}
 use Rattle.bank.specs.Networks.{removed}
+use Rattle.bank.specs.StepLaws.{settled-stays}
+use Rattle.bank.specs.ChangeLaws.{changed-off}
+use Prim.Native.Nat.{_-_}
+use mathlib.Core.Path.{_≡_}
+use Rattle.column.specs.Steps.{meant}
+use Rattle.bank.specs.Banks.{State}
+use Rattle.bank.specs.Networks.{counting}
 use Rattle.bank.specs.Steps.{settled}
-use Rattle.bank.specs.StepLaws.{settled-stays, settled-off}
+use Prim.Native.Nat.{ℕ, _<_}
+use Rattle.bank.specs.ChangeLaws.{removed-words}
 use Rattle.bank.proofs.settling.settle_taken.Statement.{statement}
 use Rattle.bank.proofs.settling.settle_taken.Tie as tie
-
-abbrev given : tie.Start → State
-given c = state (c .args .b) (c .args .heads .now) (c .args .doors .now)
-
--- the bank without the packet that is taken
-abbrev gone : tie.Start → State
-gone c = removed (given c) (c .args .place)
 
 takes-off-requires : tie.Need-takes-off-requires
 takes-off-requires c κs = search needs
@@ -26,33 +25,44 @@ settle-requires c κs = search needs
 
 returns : tie.Need-returns
 returns c =
+    λ b i n lit steady aimed.
     let t = c .before .before .before in
     let k = t .before in
-    let s = k .before in
-    let o = s .args .o in
-    c .settle .ensures
-    ∙ settled-stays (given s) (gone s) _ (o .column) (o .answer) (sym (k .takes-off .ensures) ∙ not-true _ (t .if1 .taken))
+    let a = k .before .args in
+    let s = state b (a .heads .now) (a .doors .now) in
+    c .settle .ensures b i n lit steady aimed
+    ∙ settled-stays s (removed s (a .place)) i (a .o .column) (a .o .answer) (sym (k .takes-off .ensures) ∙ not-true _ (t .if1 .taken))
 
 remove-requires : tie.Need-remove-requires
 remove-requires c κs = search needs
 
+sub-settle : tie.Need-sub-settle
+sub-settle c = search needs
+
 settle-requires-2 : tie.Need-settle-requires-2
-settle-requires-2 c κs =
-    let m = c .before .before in
-    let s = m .before .before .before .before .before in
-    (s .pre .0, omega (arith, ap (λ (x : State). x .bank .count) (m .remove .ensures), s .pre .1, s .pre .2))
+settle-requires-2 c κs = search needs
 
 returns-2 : tie.Need-returns-2
 returns-2 c =
+    λ b i n lit steady aimed.
     let m = c .before .before .before in
     let e = m .before .before .before in
     let k = e .before in
     let s = k .before in
-    let o = s .args .o in
-    let room : gone s .bank .count < 512 = omega (arith, s .pre .1, s .pre .2) in
-    c .settle2 .ensures
-    ∙ ap (λ (x : State). settled x x (s .args .i) (meant o)) (m .remove .ensures)
-    ∙ settled-off (given s) (gone s) _ (o .column) room (o .answer) (sym (k .takes-off .ensures) ∙ not-false _ (e .if1 .left))
+    let a = s .args in
+    let room : b .count - 1 < 512 = omega (arith, n, s .pre .0, s .pre .1) in
+    changed-off b i (a .heads .now) (a .doors .now) (a .place) (a .o .column) room (a .o .answer) (sym (k .takes-off .ensures) ∙ not-false _ (e .if1 .left)) (c .settle2 .result) _ _
+    (c .settle2 .ensures (counting b (b .count - 1)) i (ap (λ (k : ℕ). k - 1) n) lit steady aimed
+    ∙ ap (λ (x : State). settled x x i (meant (a .o))) (removed-words b i (a .heads .now) (a .doors .now) (a .place) (a .o .column) room n (m .remove .ensures)))
 
 pub settle-taken-spec : {M : Type 1} → statement M
-settle-taken-spec = tie.close (tie.spec takes-off-requires settle-requires returns remove-requires settle-requires-2 returns-2)
+settle-taken-spec =
+    tie.close
+    (tie.spec
+    takes-off-requires
+    settle-requires
+    returns
+    remove-requires
+    sub-settle
+    settle-requires-2
+    returns-2)

@@ -1,15 +1,128 @@
 use borrow.Author.Needs.{needs}
+use mathlib.Core.Path.{_≡_, refl, sym, ap, _∙_}
+use borrow.Author.Tests.{eq-eqb}
+use Rattle.bank.specs.Banks.{state, bankRefusal}
+use Rattle.bank.specs.Steps.{perform}
+use Rattle.bank.specs.Changes.{isOwn}
+use mathlib.Core.Path.{subst}
+use mathlib.Core.Bool.{true}
+use Rattle.bank.specs.Places.{acts}
+use Rattle.bank.specs.declared.step.Step.{Step}
 use Rattle.bank.proofs.step.perform.Statement.{statement}
 use Rattle.bank.proofs.step.perform.Tie as tie
+
+refusal : (c : tie.After-bank-refusal) → let a = c .before .before .args in c .bank-refusal .result ≡ bankRefusal (state (a .b) (a .heads .now) (a .doors .now))
+refusal c = c .bank-refusal .ensures (c .before .before .args .doors .now)
 
 bank-refusal-requires : tie.Need-bank-refusal-requires
 bank-refusal-requires c κs = search needs
 
-perform-tested-requires : tie.Need-perform-tested-requires
-perform-tested-requires c κs = c .before .before .bank-refusal .ensures _
+enum-told : tie.Need-enum-told
+enum-told c = search needs
+
+act-requires : tie.Need-act-requires
+act-requires c κs =
+    let k = c .before .before in
+    let r = k .before .before .before in
+    let a = r .before .before .args in
+    let root = a .b .tree .root in
+    let e = k .enum-told .given .1 in
+    (refusal r, (ap isOwn e, subst (λ (y : Step). acts (state (a .b) (a .heads .now) (a .doors .now)) y root ≡ true) (sym e) (eq-eqb root root refl)))
+
+enum-known-x : tie.Need-enum-known-x
+enum-known-x c = search needs
+
+act-requires-2 : tie.Need-act-requires-2
+act-requires-2 c κs =
+    let k = c .before .before .before in
+    let i = k .x .given .0 .0 in
+    (refusal (k .before .before .before), (refl, eq-eqb i i refl))
+
+enum-known-x-2 : tie.Need-enum-known-x-2
+enum-known-x-2 c = search needs
+
+take-packet-requires : tie.Need-take-packet-requires
+take-packet-requires c κs = refusal (c .before .before .before .before .before .before)
+
+enum-known-x-3 : tie.Need-enum-known-x-3
+enum-known-x-3 c = search needs
+
+act-requires-3 : tie.Need-act-requires-3
+act-requires-3 c κs =
+    let k = c .before .before .before in
+    let i = k .x3 .given .0 .0 in
+    (refusal (k .before .before .before), (refl, eq-eqb i i refl))
+
+enum-known-x-4 : tie.Need-enum-known-x-4
+enum-known-x-4 c = search needs
+
+act-requires-4 : tie.Need-act-requires-4
+act-requires-4 c κs =
+    let k = c .before .before .before in
+    let i = k .x4 .given .0 .0 in
+    (refusal (k .before .before .before), (refl, eq-eqb i i refl))
+
+enum-known-x-5 : tie.Need-enum-known-x-5
+enum-known-x-5 c = search needs
+
+act-requires-5 : tie.Need-act-requires-5
+act-requires-5 c κs =
+    let k = c .before .before .before in
+    let i = k .x5 .given .0 .0 in
+    (refusal (k .before .before .before), (refl, eq-eqb i i refl))
+
+enum-known-x-6 : tie.Need-enum-known-x-6
+enum-known-x-6 c = search needs
+
+halt-columns-requires : tie.Need-halt-columns-requires
+halt-columns-requires c κs = refusal (c .before .before .before .before .before .before)
 
 returns : tie.Need-returns
-returns c = search needs
+returns c = c .act .ensures
+
+returns-2 : tie.Need-returns-2
+returns-2 c = c .act2 .ensures ∙ rw (c .before .before .before .before .x .given .1)
+
+returns-3 : tie.Need-returns-3
+unfolding perform
+returns-3 c = c .take-packet .ensures ∙ rw (c .before .before .before .before .x2 .given .1)
+
+returns-4 : tie.Need-returns-4
+returns-4 c = c .act3 .ensures ∙ rw (c .before .before .before .before .x3 .given .1)
+
+returns-5 : tie.Need-returns-5
+returns-5 c = c .act4 .ensures ∙ rw (c .before .before .before .before .x4 .given .1)
+
+returns-6 : tie.Need-returns-6
+returns-6 c = c .act5 .ensures ∙ rw (c .before .before .before .before .x5 .given .1)
+
+returns-7 : tie.Need-returns-7
+unfolding perform
+returns-7 c = c .halt-columns .ensures ∙ rw (c .before .before .before .before .x6 .given .1)
 
 pub perform-spec : {M : Type 1} → statement M
-perform-spec = tie.close (tie.spec bank-refusal-requires perform-tested-requires returns)
+perform-spec =
+    tie.close
+    (tie.spec
+    bank-refusal-requires
+    enum-told
+    act-requires
+    enum-known-x
+    act-requires-2
+    enum-known-x-2
+    take-packet-requires
+    enum-known-x-3
+    act-requires-3
+    enum-known-x-4
+    act-requires-4
+    enum-known-x-5
+    act-requires-5
+    enum-known-x-6
+    halt-columns-requires
+    returns
+    returns-2
+    returns-3
+    returns-4
+    returns-5
+    returns-6
+    returns-7)

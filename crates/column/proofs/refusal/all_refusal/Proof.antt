@@ -1,6 +1,7 @@
 use borrow.Author.Needs.{needs}
-use Rattle.column.specs.RefusalLaws.{in-turn}
-use Rattle.column.specs.Columns.{standing}
+use mathlib.Core.Path.{_∙_, ap}
+use Prim.Native.Nat.{ℕ}
+use Rattle.column.specs.Refusals.{first, earlier}
 use Rattle.column.specs.Steps.{allConditions, allRefusal}
 use Rattle.column.proofs.refusal.all_refusal.Statement.{statement}
 use Rattle.column.proofs.refusal.all_refusal.Tie as tie
@@ -8,57 +9,12 @@ use Rattle.column.proofs.refusal.all_refusal.Tie as tie
 standing-requires : tie.Need-standing-requires
 standing-requires c κs = search needs
 
-refuse-if-requires : tie.Need-refuse-if-requires
-refuse-if-requires c κs = search needs
-
-refuse-if-requires-2 : tie.Need-refuse-if-requires-2
-refuse-if-requires-2 c κs = search needs
-
-has-requires : tie.Need-has-requires
-has-requires c κs = search needs
-
-refuse-if-requires-3 : tie.Need-refuse-if-requires-3
-refuse-if-requires-3 c κs = search needs
-
-refuse-if-requires-4 : tie.Need-refuse-if-requires-4
-refuse-if-requires-4 c κs = search needs
-
-idle-requires : tie.Need-idle-requires
-idle-requires c κs = search needs
-
-refuse-if-requires-5 : tie.Need-refuse-if-requires-5
-refuse-if-requires-5 c κs = search needs
+all-conditions-requires : tie.Need-all-conditions-requires
+all-conditions-requires c κs = search needs
 
 returns : tie.Need-returns
 unfolding allRefusal
-returns c =
-    let whole = c .before .before in
-    let unnoted = whole .before in
-    let root = unnoted .before .before in
-    let halted = root .before .before in
-    let first = halted .before .before in
-    let a = first .before .args in
-    rw (
-      c .refuse-if5 .ensures,
-      c .before .idle .ensures,
-      whole .refuse-if4 .ensures,
-      unnoted .refuse-if3 .ensures,
-      unnoted .before .has .ensures,
-      root .refuse-if2 .ensures,
-      halted .refuse-if .ensures,
-      first .standing .ensures,
-    ) (in-turn (standing (a .t) (a .i) (a .c)) (allConditions (a .t) (a .i) (a .c)) tt)
+returns c = rw (c .all-conditions .ensures, c .before .standing .ensures)
 
 pub all-refusal-spec : {M : Type 1} → statement M
-all-refusal-spec =
-    tie.close
-    (tie.spec
-    standing-requires
-    refuse-if-requires
-    refuse-if-requires-2
-    has-requires
-    refuse-if-requires-3
-    refuse-if-requires-4
-    idle-requires
-    refuse-if-requires-5
-    returns)
+all-refusal-spec = tie.close (tie.spec standing-requires all-conditions-requires returns)

@@ -1,6 +1,7 @@
 use borrow.Author.Needs.{needs}
-use Rattle.column.specs.RefusalLaws.{in-turn}
-use Rattle.column.specs.Columns.{standing}
+use mathlib.Core.Path.{_∙_, ap}
+use Prim.Native.Nat.{ℕ}
+use Rattle.column.specs.Refusals.{first, earlier}
 use Rattle.column.specs.Steps.{orderConditions, orderRefusal}
 use Rattle.column.proofs.refusal.order_refusal.Statement.{statement}
 use Rattle.column.proofs.refusal.order_refusal.Tie as tie
@@ -8,46 +9,12 @@ use Rattle.column.proofs.refusal.order_refusal.Tie as tie
 standing-requires : tie.Need-standing-requires
 standing-requires c κs = search needs
 
-refuse-if-requires : tie.Need-refuse-if-requires
-refuse-if-requires c κs = search needs
-
-refuse-if-requires-2 : tie.Need-refuse-if-requires-2
-refuse-if-requires-2 c κs = search needs
-
-idle-requires : tie.Need-idle-requires
-idle-requires c κs = search needs
-
-refuse-if-requires-3 : tie.Need-refuse-if-requires-3
-refuse-if-requires-3 c κs = search needs
-
-refuse-if-requires-4 : tie.Need-refuse-if-requires-4
-refuse-if-requires-4 c κs = search needs
+order-conditions-requires : tie.Need-order-conditions-requires
+order-conditions-requires c κs = search needs
 
 returns : tie.Need-returns
 unfolding orderRefusal
-returns c =
-    let busy = c .before .before in
-    let halted = busy .before .before in
-    let other = halted .before .before in
-    let first = other .before .before in
-    let a = first .before .args in
-    rw (
-      c .refuse-if4 .ensures,
-      busy .refuse-if3 .ensures,
-      busy .before .idle .ensures,
-      halted .refuse-if2 .ensures,
-      other .refuse-if .ensures,
-      first .standing .ensures,
-    ) (in-turn (standing (a .t) (a .i) (a .c)) (orderConditions (a .t) (a .i) (a .c)) tt)
+returns c = rw (c .order-conditions .ensures, c .before .standing .ensures)
 
 pub order-refusal-spec : {M : Type 1} → statement M
-order-refusal-spec =
-    tie.close
-    (tie.spec
-    standing-requires
-    refuse-if-requires
-    refuse-if-requires-2
-    idle-requires
-    refuse-if-requires-3
-    refuse-if-requires-4
-    returns)
+order-refusal-spec = tie.close (tie.spec standing-requires order-conditions-requires returns)

@@ -1,7 +1,7 @@
 use borrow.Author.Needs.{needs}
 use mathlib.Core.Path.{_∙_}
-use Rattle.column.specs.Refusals.{first, earlier}
-use Rattle.column.specs.RefusalLaws.{in-turn, earlier-assoc}
+use Rattle.column.specs.Refusals.{first}
+use Rattle.column.specs.RefusalLaws.{earlier-assoc}
 use Rattle.column.specs.Columns.{standing}
 use Rattle.column.specs.Steps.{packetRefusal, takeConditions, takeRefusal}
 use Rattle.column.proofs.refusal.take_refusal.Statement.{statement}
@@ -16,42 +16,19 @@ packet-refusal-requires c κs = search needs
 earlier-requires : tie.Need-earlier-requires
 earlier-requires c κs = search needs
 
-receiver-requires : tie.Need-receiver-requires
-receiver-requires c κs = search needs
-
-refuse-if-requires : tie.Need-refuse-if-requires
-refuse-if-requires c κs = search needs
-
-refuse-if-requires-2 : tie.Need-refuse-if-requires-2
-refuse-if-requires-2 c κs = search needs
+take-conditions-requires : tie.Need-take-conditions-requires
+take-conditions-requires c κs = search needs
 
 returns : tie.Need-returns
 unfolding takeRefusal
 returns c =
-    let other = c .before .before in
-    let both = other .before .before in
+    let both = c .before in
     let packet = both .before in
     let a = packet .before .before .args in
-    let n = standing (a .t) (a .i) (a .c) in
-    let m = packetRefusal (a .t) (a .p) in
-    let own = takeConditions (a .t) (a .i) (a .c) (a .p) in
-    rw (
-      c .refuse-if2 .ensures,
-      other .refuse-if .ensures,
-      other .before .receiver .ensures,
-      both .earlier .ensures,
-      packet .packet-refusal .ensures,
-      packet .before .standing .ensures,
-    ) (in-turn (earlier n m) own tt ∙ earlier-assoc n m (first own))
+    rw (c .take-conditions .ensures, both .earlier .ensures, packet .packet-refusal .ensures, packet .before .standing .ensures)
+    (earlier-assoc (standing (a .t) (a .i) (a .c)) (packetRefusal (a .t) (a .p)) (first (takeConditions (a .t) (a .i) (a .c) (a .p))))
 
 pub take-refusal-spec : {M : Type 1} → statement M
 take-refusal-spec =
     tie.close
-    (tie.spec
-    standing-requires
-    packet-refusal-requires
-    earlier-requires
-    receiver-requires
-    refuse-if-requires
-    refuse-if-requires-2
-    returns)
+    (tie.spec standing-requires packet-refusal-requires earlier-requires take-conditions-requires returns)

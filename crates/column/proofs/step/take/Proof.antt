@@ -1,42 +1,54 @@
 use borrow.Author.Needs.{needs}
-use mathlib.Core.Path.{sym, ap, _∙_}
-use native.Mathlib.Omega.{arith}
-use borrow.Author.Tests.{eq-eqb, ne-eqb}
+use Prim.Native.Nat.{ℕ}
+use mathlib.Core.Path.{_≡_, sym, ap, _∙_}
 use Rattle.column.specs.Refusals.{first, earlier}
-use Rattle.column.specs.RefusalLaws.{earlier-none}
+use Rattle.column.specs.RefusalLaws.{earlier-none, earlier-assoc}
 use Rattle.column.specs.Columns.{standing}
-use Rattle.column.specs.StateLaws.{acceptable, standing-sixteen, standing-column}
-use Rattle.column.specs.Steps.{refused, packetRefusal, takeConditions, takeRefusal}
+use Rattle.column.specs.Steps.{unless, packetRefusal, takeConditions, takeRefusal, takeEffect}
+use Rattle.column.specs.TestedLaws.{standing-refused, take-tested}
 use Rattle.column.proofs.step.take.Statement.{statement}
 use Rattle.column.proofs.step.take.Tie as tie
 
-take-refusal-requires : tie.Need-take-refusal-requires
-take-refusal-requires c κs = search needs
+standing-requires : tie.Need-standing-requires
+standing-requires c κs = search needs
+
+packet-refusal-requires : tie.Need-packet-refusal-requires
+packet-refusal-requires c κs = search needs
+
+earlier-requires : tie.Need-earlier-requires
+earlier-requires c κs = search needs
 
 refused-requires : tie.Need-refused-requires
 refused-requires c κs = search needs
 
-returns : tie.Need-returns
-returns c =
-    let e = c .before .before .take-refusal .ensures in
-    simp (ne-eqb _ _ (λ z. c .before .if1 .taken (e ∙ z))) (c .refused .ensures ∙ ap (λ k. refused k (c .before .before .before .args .c)) e)
+tests : (c : tie.After-earlier)
+    → let a = c .before .before .before .args in
+    c .earlier .result ≡ earlier (standing (a .t) (a .i) (a .c)) (packetRefusal (a .t) (a .p))
+tests c = rw (c .earlier .ensures, c .before .packet-refusal .ensures, c .before .before .standing .ensures)
 
-take-effect-requires : tie.Need-take-effect-requires
+returns : tie.Need-returns
 unfolding takeRefusal
-take-effect-requires c κs =
-    let a = c .before .before .args in
+returns c =
+    let k = c .before .before in
+    let a = k .before .before .before .args in
+    let n = standing (a .t) (a .i) (a .c) in
+    let m = packetRefusal (a .t) (a .p) in
     let own = first (takeConditions (a .t) (a .i) (a .c) (a .p)) in
-    let q = earlier-none (standing (a .t) (a .i) (a .c)) (earlier (packetRefusal (a .t) (a .p)) own) (sym (c .before .take-refusal .ensures) ∙ c .if1 .left) in
-    let good = acceptable (a .t) (a .p) (earlier-none (packetRefusal (a .t) (a .p)) own (q .1) .0) in
-    let sixteen = standing-sixteen (a .t) (a .i) (a .c) (q .0) in
-    (sixteen, (standing-column (a .t) (a .i) (a .c) (q .0), omega (arith, good .sender-below)))
+    let effect = takeEffect (a .t) (a .i) (a .c) (a .p) in
+    standing-refused _ (earlier n m) own (a .c) effect (c .refused .ensures) (tests k) (c .before .if1 .taken)
+    ∙ ap (λ (x : ℕ). unless x (a .c) effect) (earlier-assoc n m own)
+
+take-requires : tie.Need-take-requires
+take-requires c κs = search needs
 
 returns-2 : tie.Need-returns-2
 returns-2 c =
-    let e1 = c .before in
-    simp (eq-eqb _ _ (sym (e1 .before .take-refusal .ensures) ∙ e1 .if1 .left)) (c .take-effect .ensures)
+    let e = c .before in
+    let a = e .before .before .before .before .args in
+    let q = earlier-none (standing (a .t) (a .i) (a .c)) (packetRefusal (a .t) (a .p)) (sym (tests (e .before)) ∙ e .if1 .left) in
+    c .take .ensures ∙ take-tested (a .t) (a .i) (a .c) (q .0) (a .p) (q .1)
 
 pub take-spec : {M : Type 1} → statement M
 take-spec =
     tie.close
-    (tie.spec take-refusal-requires refused-requires returns take-effect-requires returns-2)
+    (tie.spec standing-requires packet-refusal-requires earlier-requires refused-requires returns take-requires returns-2)

@@ -1,0 +1,47 @@
+use borrow.Author.Needs.{needs}
+use mathlib.Core.Path.{_≡_, sym, ap, _∙_}
+use borrow.Author.Tests.{eq-eqb, ne-eqb}
+use Rattle.column.specs.Steps.{refused, allConditions}
+use Rattle.column.specs.Tested.{testedRefusal}
+use Rattle.column.specs.TestedLaws.{tested-passes}
+use Rattle.column.proofs.tested.all.Statement.{statement}
+use Rattle.column.proofs.tested.all.Tie as tie
+
+all-conditions-requires : tie.Need-all-conditions-requires
+all-conditions-requires c κs = search needs
+
+bounded-requires : tie.Need-bounded-requires
+bounded-requires c κs = search needs
+
+refuse-if-requires : tie.Need-refuse-if-requires
+refuse-if-requires c κs = search needs
+
+refused-requires : tie.Need-refused-requires
+refused-requires c κs = search needs
+
+refusal : (c : tie.After-refuse-if)
+    → let a = c .before .before .before .args in
+    c .refuse-if .result ≡ testedRefusal (allConditions (a .t) (a .i) (a .c)) (a .t) (a .i) (a .t .root)
+refusal c = rw (c .refuse-if .ensures, c .before .bounded .ensures, c .before .before .all-conditions .ensures)
+
+returns : tie.Need-returns
+returns c =
+    let k = c .before .before in
+    let e = refusal k in
+    simp (ne-eqb _ _ (λ z. c .before .if1 .taken (e ∙ z))) (c .refused .ensures ∙ ap (λ n. refused n (k .before .before .before .args .c)) e)
+
+all-effect-requires : tie.Need-all-effect-requires
+all-effect-requires c κs =
+    let a = c .before .before .before .before .args in
+    let q = tested-passes (allConditions (a .t) (a .i) (a .c)) (a .t) (a .i) (a .t .root) (sym (refusal (c .before)) ∙ c .if1 .left) in
+    q .1 .other
+
+returns-2 : tie.Need-returns-2
+returns-2 c =
+    let e = c .before in
+    simp (eq-eqb _ _ (sym (refusal (e .before)) ∙ e .if1 .left)) (c .all-effect .ensures)
+
+pub all-spec : {M : Type 1} → statement M
+all-spec =
+    tie.close
+    (tie.spec all-conditions-requires bounded-requires refuse-if-requires refused-requires returns all-effect-requires returns-2)

@@ -1,0 +1,51 @@
+use borrow.Author.Needs.{needs}
+use mathlib.Core.Path.{_≡_, sym, ap, _∙_}
+use borrow.Author.Tests.{eq-eqb, ne-eqb}
+use Rattle.column.specs.Trees.{choose}
+use Rattle.column.specs.Steps.{refused, sendConditions}
+use Rattle.column.specs.Tested.{testedRefusal}
+use Rattle.column.specs.TestedLaws.{tested-passes}
+use Rattle.column.proofs.tested.send.Statement.{statement}
+use Rattle.column.proofs.tested.send.Tie as tie
+
+send-conditions-requires : tie.Need-send-conditions-requires
+send-conditions-requires c κs = search needs
+
+choose-requires : tie.Need-choose-requires
+choose-requires c κs = search needs
+
+bounded-requires : tie.Need-bounded-requires
+bounded-requires c κs = search needs
+
+refuse-if-requires : tie.Need-refuse-if-requires
+refuse-if-requires c κs = search needs
+
+refused-requires : tie.Need-refused-requires
+refused-requires c κs = search needs
+
+refusal : (c : tie.After-refuse-if)
+    → let a = c .before .before .before .before .args in
+    c .refuse-if .result ≡ testedRefusal (sendConditions (a .t) (a .i) (a .c)) (a .t) (a .i) (choose (a .t) (a .c .send))
+refusal c = rw (c .refuse-if .ensures, c .before .bounded .ensures, c .before .before .choose .ensures, c .before .before .before .send-conditions .ensures)
+
+returns : tie.Need-returns
+returns c =
+    let k = c .before .before in
+    let e = refusal k in
+    simp (ne-eqb _ _ (λ z. c .before .if1 .taken (e ∙ z))) (c .refused .ensures ∙ ap (λ n. refused n (k .before .before .before .before .args .c)) e)
+
+send-effect-requires : tie.Need-send-effect-requires
+send-effect-requires c κs =
+    let a = c .before .before .before .before .before .args in
+    let q = tested-passes (sendConditions (a .t) (a .i) (a .c)) (a .t) (a .i) (choose (a .t) (a .c .send)) (sym (refusal (c .before)) ∙ c .if1 .left) in
+    (q .1 .sixteen, (q .1 .column, q .1 .other))
+
+returns-2 : tie.Need-returns-2
+returns-2 c =
+    let e = c .before in
+    simp (eq-eqb _ _ (sym (refusal (e .before)) ∙ e .if1 .left)) (c .send-effect .ensures)
+
+pub send-spec : {M : Type 1} → statement M
+send-spec =
+    tie.close
+    (tie.spec send-conditions-requires choose-requires bounded-requires refuse-if-requires refused-requires returns send-effect-requires returns-2)

@@ -1,0 +1,101 @@
+// The steps for a caller that has tested the tree, the column and a packet by rows 2 to 4, as a bank has: nothing of that is tested again.
+// Handed in what does not stand, a step still answers, and reaches outside nothing.
+use crate::choice::choose;
+use crate::effect::ack_effect;
+use crate::effect::all_effect;
+use crate::effect::note_effect;
+use crate::effect::order_effect;
+use crate::effect::refused;
+use crate::effect::send_effect;
+use crate::effect::take_effect;
+use crate::packet::Packet;
+use crate::packet::sender;
+use crate::precedence::refuse_if;
+use crate::refusal::ack_conditions;
+use crate::refusal::all_conditions;
+use crate::refusal::note_conditions;
+use crate::refusal::order_conditions;
+use crate::refusal::send_conditions;
+use crate::refusal::take_conditions;
+use crate::state::Column;
+use crate::step::Outcome;
+use crate::tree::Tree;
+ghost use mathlib.Core.Path.{_≡_};
+ghost use Rattle.column.specs.Steps.{meant};
+ghost use Rattle.column.specs.Tested.{bounded, orderTested, sendTested, takeTested, ackTested, allTested, noteTested};
+
+fn bounded(t: Tree, i: usize, k: usize) -> bool
+    ensures { λ r. ⌜ r ≡ bounded t i k ⌝ }
+{
+    (t.columns <= 16) & ((i < 16) & (k < 16))
+}
+
+// The root with the next number, these doors, and its children to send to.
+pub fn order(t: Tree, i: usize, c: Column, doors: u64) -> Outcome
+    ensures { λ r. ⌜ meant r ≡ orderTested t i c doors ⌝ }
+{
+    let n = refuse_if(order_conditions(0, t, i, c), !bounded(t, i, i), 4);
+    if n != 0 {
+        return refused(c, n);
+    }
+    order_effect(t, i, c, doors)
+}
+
+// Column i with the one served that stands earliest of those to send to, and the message for it, if there is one to put.
+pub fn send(t: Tree, i: usize, c: Column) -> Outcome
+    ensures { λ r. ⌜ meant r ≡ sendTested t i c ⌝ }
+{
+    let n = refuse_if(
+        send_conditions(0, t, i, c),
+        !bounded(t, i, choose(t, c.send)),
+        4,
+    );
+    if n != 0 {
+        return refused(c, n);
+    }
+    send_effect(t, i, c)
+}
+
+// Column i after a packet, what it answers at once, and whether the packet is left for another take.
+pub fn take(t: Tree, i: usize, c: Column, p: Packet) -> Outcome
+    ensures { λ r. ⌜ meant r ≡ takeTested t i c p ⌝ }
+{
+    let n = refuse_if(take_conditions(0, t, i, c, p), !bounded(t, i, sender(p)), 4);
+    if n != 0 {
+        return refused(c, n);
+    }
+    take_effect(t, i, c, p)
+}
+
+// Column i with the lowest owed struck out, and the acknowledgement for that one.
+pub fn ack(t: Tree, i: usize, c: Column) -> Outcome
+    ensures { λ r. ⌜ meant r ≡ ackTested t i c ⌝ }
+{
+    let n = refuse_if(ack_conditions(0, t, i, c), !bounded(t, i, i), 4);
+    if n != 0 {
+        return refused(c, n);
+    }
+    ack_effect(i, c)
+}
+
+// Column i with the whole bank as its goal, and the root alone to send to.
+pub fn all(t: Tree, i: usize, c: Column) -> Outcome
+    ensures { λ r. ⌜ meant r ≡ allTested t i c ⌝ }
+{
+    let n = refuse_if(all_conditions(0, t, i, c), !bounded(t, i, t.root), 4);
+    if n != 0 {
+        return refused(c, n);
+    }
+    all_effect(t, c)
+}
+
+// Column i with j noted; where j was awaited, its children are to be sent to instead.
+pub fn note(t: Tree, i: usize, c: Column, j: usize) -> Outcome
+    ensures { λ r. ⌜ meant r ≡ noteTested t i c j ⌝ }
+{
+    let n = refuse_if(note_conditions(0, t, i, c, j), !bounded(t, i, j), 4);
+    if n != 0 {
+        return refused(c, n);
+    }
+    note_effect(t, c, j)
+}
