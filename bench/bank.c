@@ -176,3 +176,29 @@ bool bank_at_rest(const struct bank *b) {
     }
     return true;
 }
+
+uint8_t bank_back(struct bank *b, size_t j) {
+    uint8_t refusal = bank_refusal(b);
+    if (refusal)
+        return refusal;
+    size_t columns = b->tree.columns;
+    if (j >= columns)
+        return 4;
+    if (b->columns[j].running)
+        return 6;
+    if (j == b->tree.root)
+        return 15;
+    if (!bank_at_rest(b))
+        return 14;
+    uint16_t halted = halted_columns(b);
+    uint32_t running = ((1u << columns) - 1) & ~(uint32_t)halted;
+    if (!running)
+        return 16;
+    const struct column *copied = &b->columns[__builtin_ctz(running)];
+    struct column back = {.running = true, .number = copied->number, .doors = copied->doors,
+                          .noted = (uint16_t)(halted & ~(1u << j)), .whole = !b->columns[b->tree.root].running};
+    for (size_t i = 0; i < columns; i++)
+        b->columns[i].noted &= (uint16_t)~(1u << j);
+    b->columns[j] = back;
+    return 0;
+}

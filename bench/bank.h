@@ -22,6 +22,7 @@ uint8_t bank_all(struct bank *b, size_t i);
 uint8_t bank_note(struct bank *b, size_t i, size_t j);
 /* A set of columns; bit 16 stands for every number that no bank has. */
 uint8_t bank_halt(struct bank *b, uint32_t set);
+uint8_t bank_back(struct bank *b, size_t j);
 
 /* Steps until rest, the limit or a refused one, counted. Each is tested as a call of its own; or, not `thorough`, the bank is tested once and
    after each step the column and the packet that it changed. */

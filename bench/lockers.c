@@ -187,6 +187,7 @@ static uint8_t step(struct cursor *c) {
         return numbered(c, "all=", 2, &n) ? bank_all(&bank, n) : 13;
     case 'n': return noted(c);
     case 'h': return halted(c);
+    case 'b': return numbered(c, "back=", 2, &n) ? bank_back(&bank, n) : 13;
     default: return 13;
     }
 }

@@ -1,5 +1,5 @@
 #!/usr/bin/env python3
-"""The script program of document 01, with Points 1, 2 and 6 of document 02, written from the papers: sets as sets, packets as tuples, text by patterns. Beside the bank stand the words of
+"""The script program of document 01, with Points 1, 2, 6 and 7 of document 02, written from the papers: sets as sets, packets as tuples, text by patterns. Beside the bank stand the words of
 demand 3 (received, awaits), tracked from the steps and their answers. `tell` is told in words which condition or branch each line met.
 
     python3 tests/model.py < script
@@ -14,7 +14,7 @@ NUMERAL = r"(0|[1-9][0-9]?)"
 NUMERALS = "({0}(?:,{0})*)".format(NUMERAL.replace("(", "(?:"))
 STEPS = {"order": r"order=([0-9a-f]{16})", "take": r"take=(0|[1-9][0-9]{0,2})", "note": rf"note={NUMERAL},{NUMERAL}", "halt": f"halt={NUMERALS}",
          "run": r"run=(0|[1-9][0-9]{0,3})",
-         **{name: f"{name}={NUMERAL}" for name in ("send", "ack", "all", "list")}}
+         **{name: f"{name}={NUMERAL}" for name in ("send", "ack", "all", "back", "list")}}
 
 
 class Refused(Exception):
@@ -52,7 +52,7 @@ class Bank:
         self.orders = []
         self.received = [0] * columns
         self.awaits = set()
-        self.taken_over = set()
+        self.taken_over, self.came_back = set(), set()
 
     def children(self, i):
         return {c for c, parent in enumerate(self.up) if parent == i and c != self.root}
@@ -113,6 +113,8 @@ class Bank:
         refuse(7, root.send and "the root sends")
         refuse(7, root.awaited and "the root awaits")
         refuse(8, root.number == HIGHEST and "the highest number")
+        if self.came_back:
+            self.tell("an order after a return")
         self.tell("the first order" if not self.orders else "a further order after rest" if self.at_rest() else "a further order before rest")
         root.number += 1
         root.doors = doors
@@ -179,6 +181,8 @@ class Bank:
     def receive(self, sender, to, number, doors):
         column = self.columns[to]
         self.tell("received after a takeover" if column.whole else "received with own goal")
+        if to in self.came_back:
+            self.tell("received by one that came back")
         if column.send or column.awaited:
             self.tell("received while sending" if column.send else "received while awaiting")
         column.number, column.doors = number, doors
@@ -203,6 +207,8 @@ class Bank:
         refuse(6, self.refused_all(i))
         self.tell("takeover of a column that took over before" if i in self.taken_over else "takeover, the first of its column")
         self.taken_over.add(i)
+        if self.came_back:
+            self.tell("takeover of one that came back" if i in self.came_back else "takeover after another came back")
         column.whole = True
         column.send = {self.root}
 
@@ -236,6 +242,30 @@ class Bank:
         for i in columns:
             self.columns[i].running = False
         self.network = [packet for packet in self.network if packet[2] not in columns]
+
+    def back(self, j):
+        refuse(4, j >= len(self.columns) and "no such column")
+        refuse(6, self.columns[j].running and "it runs")
+        refuse(15, j == self.root and "the root")
+        refuse(14, not self.at_rest() and "not at rest")
+        running = [i for i, column in enumerate(self.columns) if column.running]
+        refuse(16, not running and "no column runs")
+        copied, old, root = self.columns[running[0]], self.columns[j], self.columns[self.root]
+        self.tell("return while the root runs" if root.running else "return while the root is halted")
+        self.tell("return of one that came back before" if j in self.came_back else "return, the first of its column")
+        if self.received[j] != copied.number:
+            self.tell("return to a lower number" if self.received[j] > copied.number else "return to a higher number")
+        if sum(not column.running for column in self.columns) > 1:
+            self.tell("return while others remain halted")
+        if old.send or old.awaited or old.owed:
+            self.tell("return of one that was halted at work")
+        column = self.columns[j] = Column(not root.running)
+        column.number, column.doors = copied.number, copied.doors
+        column.noted = {i for i, other in enumerate(self.columns) if not other.running}
+        for other in self.columns:
+            other.noted.discard(j)
+        self.came_back.add(j)
+        self.received[j] = copied.number
 
     # ---- the dispatcher
 

@@ -133,7 +133,7 @@ def exhaustive_part():
               for n in (1, 2, 3, 4) for root in range(n + 1) for up in itertools.product(range(n + 1), repeat=n)]
     tables += [f"columns={n}\nroot=0\nup={','.join('0' * n)}\nfirst={','.join(map(str, first))}\norder=0100000000000000\nsend=0\ntake=0\n".encode()
                for n in (1, 2, 3) for size in range(1, n + 2) for first in itertools.product(range(n + 1), repeat=size)]
-    alphabet = [b"order=0100000000000000\n", b"send=0\n", b"take=0\n", b"ack=1\n", b"note=0,1\n", b"halt=0\n", b"all=1\n", b"note=1,0\n"]
+    alphabet = [b"order=0100000000000000\n", b"send=0\n", b"take=0\n", b"ack=1\n", b"note=0,1\n", b"halt=0\n", b"all=1\n", b"note=1,0\n", b"back=1\n"]
     kept = [path.read_bytes() for path in sorted(pathlib.Path(ROOT, "tests", "scripts").glob("*.script"))]
     short = [b"columns=2\nroot=0\nup=0,0\n" + b"".join(lines) for n in range(5) for lines in itertools.product(alphabet, repeat=n)]
     limits = [b"columns=1\nroot=0\nup=0\n".ljust(size, b"\n") for size in (model.LIMIT, model.LIMIT + 1)]

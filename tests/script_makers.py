@@ -1,5 +1,5 @@
-"""Scripts made at random: orders brought to rest or left half way, columns that halt where it matters, a root that halts late and columns that race
-to take over, lines and tables near to the accepted ones, inputs at the limit. Each maker is given a random.Random and answers the bytes of a script."""
+"""Scripts made at random: orders brought to rest or left half way, columns that halt where it matters and come back, a root that halts late and
+columns that race to take over, lines and tables near to the accepted ones, inputs at the limit. Each maker is given a random.Random and answers the bytes of a script."""
 import model
 import script_texts
 from script_walks import Script, between, root_idle
@@ -16,6 +16,8 @@ def calm(rng):
         script.until(rng.choice([root_idle, model.Bank.at_rest]))
         if rng.random() < 0.3:
             script.halt()
+        if rng.random() < 0.2:
+            script.rest_and_back(1)
     if rng.random() < 0.2:
         script.do(f"halt={script.bank.root}")
     return script.finish()
@@ -72,6 +74,44 @@ def sleeping(rng):
 
     script.until(model.Bank.at_rest, held)
     script.walk(40, halts=rng.choice([0, 0.05]))
+    return script.finish()
+
+
+def returning(rng):
+    """Columns halt and come back, some twice, with orders between; then the root halts, half way through an order or before it, and the others take
+    over, those that came back among them."""
+    script = Script(rng, script_texts.tree(rng, rng.randint(2, 6)))
+    for _ in range(rng.randint(1, 2)):
+        script.order()
+        script.walk(rng.choice([0, 4, 8]), halts=rng.choice([0, 0.2]))
+        script.halt()
+        script.rest_and_back(3)
+    if rng.random() < 0.6:
+        script.order()
+        script.walk(rng.choice([1, 4, 8]))
+    script.take_over()
+    script.walk(rng.choice([5, 20]))
+    if rng.random() < 0.5:
+        script.halt()
+    script.rest_and_back(3)
+    return script.finish()
+
+
+def lost(rng):
+    """The one column that has heard of an order halts with the root, and comes back to a bank that never hears of it."""
+    script = Script(rng, script_texts.tree(rng, rng.randint(3, 6)))
+    root = script.bank.root
+    for _ in range(rng.randint(0, 1)):
+        script.order()
+        script.until(model.Bank.at_rest)
+    script.order()
+    script.do(f"send={root}")
+    script.do("take=0")
+    heard = [i for i, column in enumerate(script.bank.columns) if column.number == len(script.bank.orders)]
+    script.do(f"halt={','.join(map(str, heard))}")
+    script.rest_and_back(2)
+    script.walk(rng.choice([0, 10]), halts=0.1)
+    script.rest_and_back(2)
     return script.finish()
 
 
@@ -151,7 +191,7 @@ def refused_tables(rng):
         yield from (f"{table}send=0\nlist=0\n".encode() for table in tables)
 
 
-MAKERS = [(calm, 200), (unserved, 80), (race, 200), (sleeping, 120), (crowded, 1), (wandering, 60), (blind, 70), (unended, 60), (damaged, 60),
+MAKERS = [(calm, 200), (unserved, 80), (race, 200), (sleeping, 120), (returning, 100), (lost, 40), (crowded, 1), (wandering, 60), (blind, 70), (unended, 60), (damaged, 60),
           (at_limit, 25), (past_limit, 25)]
 
 

@@ -4,8 +4,8 @@ import re
 
 # A field of a template: the pattern that knows it, and how it is made.
 FIELDS = {
-    "step": ("(?:send|ack|all|halt|list)", lambda rng: rng.choice(["send", "ack", "all", "halt", "list"])),
-    "single": ("(?:send|ack|all|list)", lambda rng: rng.choice(["send", "ack", "all", "list"])),
+    "step": ("(?:send|ack|all|halt|back|list)", lambda rng: rng.choice(["send", "ack", "all", "halt", "back", "list"])),
+    "single": ("(?:send|ack|all|back|list)", lambda rng: rng.choice(["send", "ack", "all", "back", "list"])),
     "shout": ("(?:SEND|Send|ACK|List)", lambda rng: rng.choice(["SEND", "Send", "ACK", "List"])),
     "digit": ("[0-9]", lambda rng: str(rng.randrange(10))),
     "column": ("(?:1[0-5]|[0-9])", lambda rng: str(rng.choice([0, 1, 2, rng.randrange(16)]))),
@@ -82,7 +82,7 @@ def line(rng, columns):
     number = lambda: rng.choice([rng.randrange(columns), rng.randrange(columns), columns, rng.randrange(100)])
     return rng.choice([f"order={rng.randbytes(8).hex()}", f"send={number()}", f"take={rng.choice([0, 1, rng.randrange(1000)])}", f"ack={number()}",
                        f"all={number()}", f"note={number()},{number()}", f"halt={number()}", f"halt={number()},{number()}",
-                       f"list={number()}", f"run={rng.choice([0, 1, number(), 10 * number(), 1000 + 90 * number()])}"])
+                       f"back={number()}", f"list={number()}", f"run={rng.choice([0, 1, number(), 10 * number(), 1000 + 90 * number()])}"])
 
 
 # ---- tables

@@ -36,7 +36,7 @@ def written(step, numbers):
 
 
 def moves(bank):
-    """The lines that would be accepted, but for orders and halts."""
+    """The lines that would be accepted, but for orders, halts and returns."""
     halted = [j for j, column in enumerate(bank.columns) if not column.running]
     lines = [written(step, numbers) for step, numbers in asked(bank, halted) if not refused(bank, step, numbers)]
     return lines + [f"take={place}" for place in range(len(bank.network))]
@@ -52,6 +52,10 @@ def refusals(bank):
     lines["halt, a later one halted"] = [f"halt={i},{j}" for i in running for j in halted]
     lines["halt, a later one not below columns"] = [f"halt={i},{len(bank.columns)}" for i in running + halted]
     lines["take"] = [f"take={len(bank.network)}"]
+    lines["back, one that runs"] = [f"back={i}" for i in running]
+    lines["back, the root"] = [f"back={bank.root}"] * (bank.root in halted)
+    lines["back, no rest"] = [f"back={i}" for i in halted if i != bank.root] * (not bank.at_rest())
+    lines["back, nobody runs"] = [f"back={i}" for i in halted if i != bank.root] * (not running)
     return [group for key, group in lines.items() if group and "not" not in key]
 
 
@@ -181,6 +185,21 @@ class Script:
         """A run that ends at its limit, at rest, or at both."""
         steps = int(re.match("steps=([0-9]+)", copy.deepcopy(self.bank).run(9999))[1])
         self.do(f"run={self.rng.choice([0, 1, steps // 2, max(steps - 1, 0), steps, steps + 1, 9999])}")
+
+    def back(self):
+        """A halted column comes back, where the bank is at rest and has one other than the root."""
+        halted = [i for i, column in enumerate(self.bank.columns) if not column.running and i != self.bank.root]
+        if halted:
+            self.do(f"back={self.rng.choice(halted)}")
+
+    def rest_and_back(self, most):
+        """The bank is brought to rest, and some columns come back, one now and then to halt again and to come back once more."""
+        self.until(model.Bank.at_rest)
+        for _ in range(self.rng.randint(1, most)):
+            self.back()
+            if self.rng.random() < 0.3:
+                self.halt()
+                self.until(model.Bank.at_rest)
 
     def tempt(self):
         """A refused line, each condition as often as the others that can be met; or an order or a list, which may be."""

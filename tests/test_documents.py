@@ -132,8 +132,8 @@ class Readme(Citations):
         self.assertEqual(printed[-1:], shown[-1][1])
 
     def test_every_refusal_is_met_by_its_example(self):
-        refusals = [(int(row[0]), row[2]) for row in self.rows("The thirteen refusals")]
-        self.assertEqual([number for number, _ in refusals], list(range(1, 14)))
+        refusals = [(int(row[0]), row[2]) for row in self.rows("The sixteen refusals")]
+        self.assertEqual([number for number, _ in refusals], list(range(1, 17)))
         told = {number: cell for number, cell in refusals if not any("=" in line for line in spans(cell))}
         self.assertEqual(set(told), {8, 9, 11, 12})
         for number, cell in refusals:

@@ -6,10 +6,12 @@ import unittest
 
 ROOT = os.path.dirname(os.path.dirname(os.path.abspath(__file__)))
 # name, step and its parameters, answer, whether the state is as it was, and what the step did
-STEP = re.compile(r"(.+), (order|send|take|ack|all|note|halt) ([\d ]+|\{[\d,]*\}): (ok|refused \d+), (unchanged|changed, rewritten (\{[\d,]*\}))(.*)")
+STEP = re.compile(r"(.+), (order|send|take|ack|all|note|halt|back) ([\d ]+|\{[\d,]*\}): (ok|refused \d+), (unchanged|changed, rewritten (\{[\d,]*\}))(.*)")
 
 # name, limit, answer, steps, whether the state is as it was, and whether the bank is at rest
 DISPATCH = re.compile(r"(.+), dispatch (\d+): (ok|refused \d+), steps (\d+), (unchanged|changed), count \d+, (at rest|not at rest), column 1 .*")
+
+NUMBERS = (*range(2, 11), 14, 15, 16)
 
 
 class Handed(unittest.TestCase):
@@ -24,8 +26,8 @@ class Handed(unittest.TestCase):
         cls.lines = lines
 
     def test_the_count_of_cases(self):
-        self.assertEqual((len(self.steps), len(self.rest), len(self.comparisons), len(self.dispatches)), (224, 29, 18, 14))
-        self.assertEqual(len(self.lines), 224 + 29 + 18 + 14)
+        self.assertEqual((len(self.steps), len(self.rest), len(self.comparisons), len(self.dispatches)), (244, 29, 18, 14))
+        self.assertEqual(len(self.lines), 244 + 29 + 18 + 14)
         self.assertEqual(len({line.split(": ")[0] for line in self.lines}), len(self.lines))
 
     def test_the_comparison_sees_every_part(self):
@@ -39,21 +41,23 @@ class Handed(unittest.TestCase):
         for found in self.steps:
             if found[2] == "halt":
                 self.assertIn(found[6], (None, found[3]), found[0])
+            elif found[2] == "back":
+                self.assertIn(found[6], (None, "{0,1,2}", "{1,2}"), found[0])
             elif found[6]:
                 self.assertIn(found[6], ("{}", "{0}", "{1}", "{2}"), found[0])
                 if found[2] not in ("order", "take") and found[6] != "{}":
                     self.assertEqual(found[6], f"{{{found[3].split()[0]}}}", found[0])
 
     def test_every_number_of_a_step_and_every_step_occur(self):
-        self.assertEqual({found[4] for found in self.steps}, {"ok"} | {f"refused {n}" for n in range(2, 11)})
+        self.assertEqual({found[4] for found in self.steps}, {"ok"} | {f"refused {n}" for n in NUMBERS})
         for answer in ("ok", "refused 4"):
             steps = {found[2] for found in self.steps if found[4] == answer}
-            self.assertEqual(steps, {"order", "send", "take", "ack", "all", "note", "halt"}, answer)
+            self.assertEqual(steps, {"order", "send", "take", "ack", "all", "note", "halt", "back"}, answer)
 
     def test_a_name_that_begins_with_a_number_is_refused_with_it(self):
         named = [(re.match(r"(\d+)(?: over (\d+))?, ", found[1]), found) for found in self.steps]
         named = [(number, found) for number, found in named if number]
-        self.assertEqual({number[1] for number, _ in named}, {str(n) for n in range(2, 11)})
+        self.assertEqual({number[1] for number, _ in named}, {str(n) for n in NUMBERS})
         for number, found in named:
             self.assertEqual(found[4], f"refused {number[1]}", found[0])
 
@@ -75,7 +79,7 @@ class Handed(unittest.TestCase):
 
     def test_nothing_unused_is_touched(self):
         kept = [line for line in self.lines if line.endswith(" kept")]
-        self.assertEqual(len(kept), 13)
+        self.assertEqual(len(kept), 19)
         self.assertFalse([line for line in self.lines if line.endswith(" lost")])
 
 

@@ -44,7 +44,7 @@ class Scripts(unittest.TestCase):
         for path in glob.glob(os.path.join(ROOT, "examples", "*.out")):
             with open(path, encoding="ascii") as printed:
                 met |= {int(number) for number in re.findall(r"^refused=(\d+)$", printed.read(), re.M)}
-        self.assertEqual(met, {1, 2, 3, 4, 5, 6, 7, 10, 13})
+        self.assertEqual(met, {1, 2, 3, 4, 5, 6, 7, 10, 13, 14, 15, 16})
 
     def test_past_the_limit_the_refusal_alone(self):
         for data in (TABLE.ljust(LIMIT + 1, b"\n"), b"x" * (LIMIT + 1), TABLE + b"send=0\n" * 100_000):

@@ -5,12 +5,13 @@ use Rattle.column.specs.Sets.{without}
 use Rattle.column.specs.Trees.{IsTree}
 use Rattle.column.specs.declared.tree.Tree.{Tree}
 use Rattle.agreement.proofs.Model.{In, State, Becomes}
-use Rattle.agreement.proofs.Move.{serving, Event, Move, order, send-self, send-noted, send-message, take-acknowledgement, take-stale, take-equal, take-lower, take-left, take-higher, acknowledge, widen, note-awaited, note-other, halt}
+use Rattle.agreement.proofs.Move.{serving, Event, Move, order, send-self, send-noted, send-message, take-acknowledgement, take-stale, take-equal, take-lower, take-left, take-higher, acknowledge, widen, note-awaited, note-other, halt, back}
 use Rattle.agreement.proofs.Invariant.{Invariant}
 use Rattle.agreement.proofs.Bounded.{Bounded}
 use Rattle.agreement.proofs.BoundedServing.{bound-send-self, bound-send-noted, bound-send-message, bound-note-awaited, bound-note-other}
 use Rattle.agreement.proofs.BoundedTaking.{bound-take-acknowledgement, bound-take-stale, bound-take-equal, bound-take-lower, bound-take-left, bound-acknowledge, bound-widen}
 use Rattle.agreement.proofs.BoundedRecords.{bound-order, bound-take-higher, bound-halt}
+use Rattle.agreement.proofs.BoundedBack.{bound-back}
 
 pub bounded : {t : Tree} {s s' : State} {e : Event} → IsTree t → Invariant t s → Bounded t s → Move t s s' e → Bounded t s'
 bounded {t} tree inv old (order d r idle b) = bound-order t tree d inv old r idle b
@@ -29,3 +30,4 @@ bounded {t} tree inv old (widen a r n m w idle b) = bound-widen t tree a inv old
 bounded {t} tree inv old (note-awaited a j r _ n m b) = bound-note-awaited t tree a inv old r j n m b
 bounded {t} tree inv old (note-other a j r _ n m _ b) = bound-note-other t tree a inv old r j b
 bounded {t} tree inv old (halt a r b) = bound-halt t tree a inv old r b
+bounded {t} tree inv old (back j l noted rest h n nr r k b) = bound-back t tree inv rest r b

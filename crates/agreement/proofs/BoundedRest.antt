@@ -14,11 +14,11 @@ use Rattle.column.specs.declared.state.Column.{Column}
 use Rattle.column.specs.declared.packet.Packet.{Packet}
 use Rattle.column.specs.declared.packet.Packet.the-variants.{Acknowledgement}
 use Rattle.agreement.proofs.Model.{In, Empty, State, Runs}
-use Rattle.agreement.proofs.Move.{Idle}
+use Rattle.agreement.proofs.Move.{Idle, Rest}
 use Rattle.agreement.proofs.Members.{absent, in-none}
 use Rattle.agreement.proofs.Network.{Holds, holds-none}
 use Rattle.agreement.proofs.Invariant.{number, Unserved, Invariant, Fresh, fresh-invariant}
-use Rattle.agreement.proofs.Rest.{Rest, none-awaited, rest-agrees}
+use Rattle.agreement.proofs.Rest.{none-awaited, none-owed, rest-agrees}
 use Rattle.agreement.proofs.Tokens.{one, many, between, owes, tokens, any, stale, current, ahead}
 use Rattle.agreement.proofs.Bounded.{done, idle-at, Bounded}
 
@@ -101,7 +101,7 @@ pub rest-still : (t : Tree) → IsTree t → {s : State} → Invariant t s → R
 rest-still t tree {s} inv rest = record {
   no-packet = rest .no-packet;
   idle = idle;
-  owes-nobody = λ i h q m. rest .no-ack i q h m (inr (idle i h));
+  owes-nobody = none-owed t tree inv rest;
   agree = rest-agrees t tree inv rest;
 }
   where

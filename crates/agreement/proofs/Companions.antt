@@ -12,7 +12,8 @@ use Rattle.column.specs.StateLaws.{acceptable}
 use Rattle.column.specs.declared.tree.Tree.{Tree}
 use Rattle.column.specs.declared.state.Column.{Column}
 use Rattle.bank.specs.Banks.{State, columnAt, runs, packetAt, bankRefusal}
-use Rattle.bank.specs.Steps.{Outcome, accepted, refused, after, perform}
+use Rattle.bank.specs.Steps.{Outcome, accepted, refused, after}
+use Rattle.bank.specs.Performs.{perform}
 use Rattle.bank.specs.Rest.{Running, AtRest}
 use Rattle.bank.specs.StandingLaws.{Stands}
 use Rattle.bank.specs.RestLaws.{halted-rests}

@@ -11,13 +11,14 @@ use Rattle.column.specs.Trees.{IsTree}
 use Rattle.column.specs.TreeLaws.{check-exact}
 use Rattle.column.specs.declared.tree.Tree.{Tree}
 use Rattle.bank.specs.Banks.{State, runs, places}
-use Rattle.bank.specs.Steps.{Outcome, accepted, refused, perform}
+use Rattle.bank.specs.Steps.{Outcome, accepted, refused}
+use Rattle.bank.specs.Performs.{perform}
 use Rattle.bank.specs.Rest.{isRefused, AtRest}
 use Rattle.bank.specs.RestLaws.{rest-exact}
 use Rattle.bank.specs.Dispatch.{offers, offered, firstAccepted, turn, onward, dispatched, dispatch}
 use Rattle.bank.specs.DispatchLaws.{stops-rest, stops-taken, take-accepted}
 use Rattle.bank.specs.declared.step.Step.{Step}
-use Rattle.bank.specs.declared.step.Step.the-variants.{Order, Send, Take, Ack, All, Note, Halt}
+use Rattle.bank.specs.declared.step.Step.the-variants.{Order, Send, Take, Ack, All, Note, Halt, Back}
 use Rattle.agreement.specs.History.{World, columnsOf, ordersAfter, told, run}
 use Rattle.agreement.specs.Dispatching.{stepsWithin, isSettling, allSettling, allAccepted, Settles, Rests}
 use Rattle.agreement.proofs.Potential.{potential}
@@ -41,6 +42,7 @@ one-move (Ack i) e = tt
 one-move (All i) e = tt
 one-move (Note i j) e = tt
 one-move (Halt m) e = absurd (true≢false (sym e))
+one-move (Back j) e = absurd (true≢false (sym e))
 
 event-settling : (s : State) (x : Step) (o : OneMove x) → settling (event s x o) ≡ isSettling x
 event-settling s (Order doors) o = refl
@@ -50,6 +52,7 @@ event-settling s (Ack i) o = refl
 event-settling s (All i) o = refl
 event-settling s (Note i j) o = refl
 event-settling s (Halt m) o = absurd o
+event-settling s (Back j) o = refl
 
 is-tree : (w : World) → Reached w → IsTree (w .state .bank .tree)
 is-tree w r = check-exact (w .state .bank .tree) .0 (r .tree)

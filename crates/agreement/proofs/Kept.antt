@@ -6,11 +6,12 @@ use Rattle.column.specs.Trees.{IsTree}
 use Rattle.column.specs.declared.tree.Tree.{Tree}
 use Rattle.column.specs.declared.packet.Packet.the-variants.{Message, Acknowledgement}
 use Rattle.agreement.proofs.Model.{In, State, Taken, Becomes}
-use Rattle.agreement.proofs.Move.{serving, Event, Move, order, send-self, send-noted, send-message, take-acknowledgement, take-stale, take-equal, take-lower, take-left, take-higher, acknowledge, widen, note-awaited, note-other, halt}
+use Rattle.agreement.proofs.Move.{serving, Event, Move, order, send-self, send-noted, send-message, take-acknowledgement, take-stale, take-equal, take-lower, take-left, take-higher, acknowledge, widen, note-awaited, note-other, halt, back}
 use Rattle.agreement.proofs.Invariant.{Invariant}
 use Rattle.agreement.proofs.Serving.{keep-send-self, keep-send-noted, keep-send-message, keep-note-awaited, keep-note-other}
 use Rattle.agreement.proofs.Taking.{keep-take-acknowledgement, keep-take-stale, keep-take-equal, keep-take-lower, keep-take-left, keep-acknowledge, keep-widen}
 use Rattle.agreement.proofs.Records.{keep-order, keep-take-higher, keep-halt}
+use Rattle.agreement.proofs.Back.{back-invariant}
 
 pub kept : {t : Tree} {s s' : State} {e : Event} → IsTree t → Invariant t s → Move t s s' e → Invariant t s'
 kept {t} tree inv (order d r idle b) = keep-order t tree d inv r idle b
@@ -31,3 +32,4 @@ kept {t} tree inv (widen a r n m w idle b) = keep-widen t tree a inv r n m w idl
 kept {t} tree inv (note-awaited a j r _ n m b) = keep-note-awaited t tree a inv r j n m b
 kept {t} tree inv (note-other a j r _ n m _ b) = keep-note-other t tree a inv r j n m b
 kept {t} tree inv (halt a r b) = keep-halt t tree a inv r b
+kept {t} tree inv (back j l noted rest h n nr r k b) = back-invariant t tree j l noted inv rest h n nr r k b

@@ -13,6 +13,8 @@ mod Serving
 mod Taking
 mod Given
 mod Records
+mod Rest
+mod Back
 mod Kept
 mod Tokens
 mod TokenLaws
@@ -25,12 +27,12 @@ mod Bounding
 mod BoundedServing
 mod BoundedTaking
 mod BoundedRecords
-mod BoundedKept
 mod BoundedRest
+mod BoundedBack
+mod BoundedKept
 mod Sums
 mod Pairs
 mod Cover
-mod Rest
 mod Standing
 mod Counting
 mod Potential
@@ -43,12 +45,16 @@ pub mod View
 pub mod Refining
 pub mod Refine
 pub mod RefineTake
+pub mod Quiet
+pub mod RefineBack
 pub mod Perform
 pub mod Told
 pub mod Reached
-pub mod Quiet
 pub mod Agreement
 pub mod Companions
 mod Nine
 pub mod Limits
+pub mod RestQuiet
+mod Away
+pub mod Returned
 pub mod Dispatched

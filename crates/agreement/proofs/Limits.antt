@@ -6,7 +6,8 @@ use mathlib.Core.Path.{_≡_}
 use Rattle.column.specs.TreeLaws.{tree-sixteen}
 use Rattle.bank.specs.Banks.{State, capacity}
 use Rattle.bank.specs.NetworkLaws.{packets-length}
-use Rattle.bank.specs.Steps.{refused, perform}
+use Rattle.bank.specs.Steps.{refused}
+use Rattle.bank.specs.Performs.{perform}
 use Rattle.bank.specs.declared.step.Step.{Step}
 use Rattle.agreement.specs.History.{World, columnsOf}
 use Rattle.agreement.specs.Limits.{packetLimit, NeverFills, At480, NeverNine}

@@ -1,13 +1,14 @@
 -- The moves of a bank: a rule for each effect that an accepted step can have. `send` and `ack` serve any member of their set, and `take`
 -- takes any packet of the network, so that the argument holds for every order of service.
-use Prim.Native.Nat.{ℕ, _<_, _+_}
+use Prim.Native.Nat.{ℕ, _≤_, _<_, _+_, _^_}
 use mathlib.Core.Path.{_≡_}
 use mathlib.Core.Logic.{_≢_, _⊎_}
-use mathlib.Core.Bool.{Bool, true, false}
-use mathlib.Core.List.{List, _∷_}
+use mathlib.Core.Bool.{Bool, true, false, not}
+use mathlib.Core.List.{List, [], _∷_}
 use Rattle.column.specs.Sets.{single, join, insert, without}
 use Rattle.column.specs.Trees.{children}
 use Rattle.column.specs.Columns.{withSets}
+use Rattle.column.specs.Returns.{rejoined, struck}
 use Rattle.column.specs.declared.tree.Tree.{Tree}
 use Rattle.column.specs.declared.state.Column.{Column}
 use Rattle.column.specs.declared.packet.Packet.{Packet}
@@ -68,7 +69,7 @@ halted = withRunning false
 
 -- ---- the moves
 
--- which step a move is: a send with the column that it serves, a take with its packet
+-- which step a move is: a send with the column that it serves, a take with its packet, a return with the column that is copied
 pub data Event : Type 0 where
   orders : ℕ → Event
   sends : ℕ → ℕ → Event
@@ -77,10 +78,37 @@ pub data Event : Type 0 where
   widens : ℕ → Event
   notes : ℕ → ℕ → Event
   halts : ℕ → Event
+  backs : ℕ → ℕ → Event
 
 -- neither sends nor awaits
 abbrev pub Idle : Column → Type 0
 Idle c = Empty (c .send) × Empty (c .awaited)
+
+-- no packet is under way, and no running column can send, acknowledge, take over the bank, or note a halted column
+pub record Rest (t : Tree) (s : State) : Type 0 where
+  pub no-packet : s .network ≡ []
+  pub no-send : (i : ℕ) → Runs s i → Empty (s .columns i .send)
+  pub no-ack : (i q : ℕ) → Runs s i → In (s .columns i .owed) q → ¬ ((s .columns i .whole ≡ true) ⊎ Idle (s .columns i))
+  pub no-all : (i : ℕ) → Runs s i → i ≢ t .root → In (s .columns i .noted) (t .root) → s .columns i .whole ≡ false → ¬ Idle (s .columns i)
+  pub no-note : (i j : ℕ) → Runs s i → j < t .columns → ¬ Runs s j → j ≢ i → ¬ (¬ In (s .columns i .noted) j)
+
+-- "It has noted exactly the columns that remain halted"
+pub record Remaining (t : Tree) (s : State) (j noted : ℕ) : Type 0 where
+  pub fits : noted < 2 ^ t .columns
+  pub remains : (q : ℕ) → In noted q → (q < t .columns) × (¬ Runs s q) × (q ≢ j)
+  pub all-remaining : (q : ℕ) → q < t .columns → ¬ Runs s q → q ≢ j → In noted q
+
+-- the column that comes back: it copies l; "Its goal is its own subtree if the root runs, the whole bank if not."
+abbrev pub cameBack : Tree → State → ℕ → ℕ → Column
+cameBack t s l noted = rejoined (s .columns l) noted (not (s .columns (t .root) .running))
+
+-- column j becomes c, and "all others strike it from those noted"; "unused ones never change"
+pub record Returns (t : Tree) (s s' : State) (j : ℕ) (c : Column) : Type 0 where
+  pub mine : s' .columns j ≡ c
+  pub strikes : (i : ℕ) → i ≢ j → i < t .columns → s' .columns i ≡ struck (s .columns i) j
+  pub unused : (i : ℕ) → i ≢ j → t .columns ≤ i → s' .columns i ≡ s .columns i
+  pub packets : s' .network ≡ s .network
+  pub told : s' .orders ≡ s .orders
 
 pub data Move (t : Tree) (s s' : State) : Event → Type 0 where
   order : (d : ℕ) →
@@ -145,3 +173,7 @@ pub data Move (t : Tree) (s s' : State) : Event → Type 0 where
   halt : (a : ℕ) →
       Runs s a →
       Becomes s s' a (halted (s .columns a)) (others a (s .network)) (s .orders) → Move t s s' (halts a)
+  -- column j comes back with the record of a running column l: of any, since at rest they all hold the same
+  back : (j l noted : ℕ) →
+      Rest t s → j < t .columns → ¬ Runs s j → j ≢ t .root → Runs s l → Remaining t s j noted →
+      Returns t s s' j (cameBack t s l noted) → Move t s s' (backs j l)

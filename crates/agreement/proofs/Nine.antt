@@ -17,11 +17,13 @@ use Rattle.column.specs.declared.tree.Tree.{Tree}
 use Rattle.column.specs.declared.state.Column.{Column}
 use Rattle.column.specs.declared.packet.Packet.{Packet}
 use Rattle.bank.specs.Banks.{State, columnAt, runs, packetAt, capacity, bankConditions, bankRefusal}
-use Rattle.bank.specs.Steps.{accepted, refused, after, haltConditions, perform}
+use Rattle.bank.specs.Steps.{accepted, refused, after, haltConditions}
+use Rattle.bank.specs.Returns.{backConditions}
+use Rattle.bank.specs.Performs.{perform}
 use Rattle.bank.specs.Exact.{ownRefusal, raised, overfull, refusalOf}
 use Rattle.bank.specs.ExactLaws.{exact}
 use Rattle.bank.specs.declared.step.Step.{Step}
-use Rattle.bank.specs.declared.step.Step.the-variants.{Order, Send, Take, Ack, All, Note, Halt}
+use Rattle.bank.specs.declared.step.Step.the-variants.{Order, Send, Take, Ack, All, Note, Halt, Back}
 
 -- ---- numbers of conditions
 
@@ -90,6 +92,7 @@ module _ (s : State) where
       earlier-lacks _ (first ((6, runs (s .bank) j) ∷ [])) (later-lacks t i (at i) (core.noteConditions t i (at i) j) tt)
       (first-lacks ((6, runs (s .bank) j) ∷ []) tt)
   own-lacks (Halt m) = first-lacks (haltConditions s m) tt
+  own-lacks (Back j) = first-lacks (backConditions s j) tt
 
   module _ (room : s .bank .count < capacity) (x : Step) where
     not-overfull : overfull s x ≡ false

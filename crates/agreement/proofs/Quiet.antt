@@ -24,8 +24,7 @@ use Rattle.bank.specs.RestSteps.{refuses, send-refused, ack-refused, all-refuse
 use Rattle.bank.specs.StandingLaws.{stands}
 use Rattle.agreement.proofs.Model.{Empty, Runs}
 use Rattle.agreement.proofs.Members.{absent}
-use Rattle.agreement.proofs.Move.{Idle}
-use Rattle.agreement.proofs.Rest.{Rest}
+use Rattle.agreement.proofs.Move.{Idle, Rest}
 use Rattle.agreement.proofs.Conditions.{Widths, widths, empty, none}
 use Rattle.agreement.proofs.View.{modelOf}
 

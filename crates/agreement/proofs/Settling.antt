@@ -1,4 +1,5 @@
--- Of the moves after a reached state, halts among them but no order, at most 9 N N - 5 N are no halts: each of those lowers the potential.
+-- Of the moves after a reached state, halts among them but neither an order nor a return, at most 9 N N - 5 N are no halts: each of those
+-- lowers the potential.
 -- Assumes nothing.
 use Prim.Native.Nat.{ℕ, zero, suc, _≤_, _<_}
 use native.Mathlib.Omega.{arith}
@@ -9,7 +10,7 @@ use Rattle.column.specs.Trees.{IsTree}
 use Rattle.column.specs.declared.tree.Tree.{Tree}
 use Rattle.agreement.specs.Dispatching.{stepsWithin}
 use Rattle.agreement.proofs.Model.{In, State, Runs, Becomes}
-use Rattle.agreement.proofs.Move.{serving, Event, orders, sends, takes, acknowledges, widens, notes, halts, Move, order, send-self, send-noted, send-message, take-acknowledgement, take-stale, take-equal, take-lower, take-left, take-higher, acknowledge, widen, note-awaited, note-other, halt}
+use Rattle.agreement.proofs.Move.{serving, Event, orders, sends, takes, acknowledges, widens, notes, halts, backs, Move, order, send-self, send-noted, send-message, take-acknowledgement, take-stale, take-equal, take-lower, take-left, take-higher, acknowledge, widen, note-awaited, note-other, halt, back}
 use Rattle.agreement.proofs.Invariant.{Invariant}
 use Rattle.agreement.proofs.Kept.{kept}
 use Rattle.agreement.proofs.Standing.{Standing, standing-kept}
@@ -28,6 +29,7 @@ settling (acknowledges a) = true
 settling (widens a) = true
 settling (notes a j) = true
 settling (halts a) = false
+settling (backs j l) = false
 
 -- what holds of every reached state
 pub record Good (t : Tree) (s : State) : Type 0 where
@@ -54,13 +56,14 @@ module _ (t : Tree) (tree : IsTree t) {s s' : State} (g : Good t s) where
   fall (note-awaited a j r l h m b) e = fall-note-awaited t tree a (g .invariant) r j l h m b
   fall (note-other a j r l h m new b) e = fall-note-other t tree a (g .invariant) r j l h new b
   fall (halt a r b) e = absurd (true≢false (sym e))
+  fall (back j l noted rest h n nr r k b) e = absurd (true≢false (sym e))
 
   pub halt-stays : {a : ℕ} → Move t s s' (halts a) → potential t s' ≤ potential t s
   halt-stays (halt a r b) = rise-halt t tree a (g .invariant) r b
 
 -- ---- lists of moves
 
--- moves from s to s', none of which is an order; n of them are no halts
+-- moves from s to s', none of which is an order or a return; n of them are no halts
 pub data Moves (t : Tree) (s' : State) : State → ℕ → Type 0 where
   none : Moves t s' s' zero
   settles : {s m : State} {e : Event} {n : ℕ} → Move t s m e → settling e ≡ true → Moves t s' m n → Moves t s' s (suc n)

@@ -3,24 +3,26 @@
 use Prim.Native.Nat.{ℕ, _^_, _<_}
 use native.Mathlib.Omega.{arith}
 use mathlib.Core.Path.{_≡_, refl, sym, subst, _∙_}
-use mathlib.Core.Logic.{_⊎_, ⊎-elim, inl, inr}
-use mathlib.Core.Bool.{true, false, true≢false}
-use mathlib.Core.List.{List}
+use mathlib.Core.Logic.{_≢_, _⊎_, ⊎-elim, inl, inr}
+use mathlib.Core.Bool.{Bool, true, false, true≢false}
+use mathlib.Core.List.{List, []}
 use lib.Pow.{pow-pos, pow-mono}
 use borrow.Author.Tests.{eq-eqb}
+use Rattle.column.specs.Cases.{equal-cases}
 use Rattle.column.specs.Sets.{has, single, join, insert, without}
 use Rattle.column.specs.SetLaws.{has-none, single-lt, join-lt, insert-lt, without-lt, member-lt}
 use Rattle.column.specs.Trees.{IsTree, children}
 use Rattle.column.specs.ChildLaws.{children-lt}
 use Rattle.column.specs.Columns.{fresh, stateRefusal}
 use Rattle.column.specs.Packets.{receiver}
+use Rattle.column.specs.Returns as core
 use Rattle.column.specs.StateLaws.{Acceptable, sound-passes}
 use Rattle.column.specs.declared.tree.Tree.{Tree}
 use Rattle.column.specs.declared.state.Column.{Column}
 use Rattle.column.specs.declared.packet.Packet.{Packet}
 use Rattle.column.specs.declared.packet.Packet.the-variants.{Message, Acknowledgement}
 use Rattle.agreement.proofs.Model.{In, State, Runs, post, Taken, Becomes}
-use Rattle.agreement.proofs.Move.{owing, Event, Move, order, send-self, send-noted, send-message, take-acknowledgement, take-stale, take-equal, take-lower, take-left, take-higher, acknowledge, widen, note-awaited, note-other, halt}
+use Rattle.agreement.proofs.Move.{owing, Remaining, Returns, Event, Move, order, send-self, send-noted, send-message, take-acknowledgement, take-stale, take-equal, take-lower, take-left, take-higher, acknowledge, widen, note-awaited, note-other, halt, back}
 use Rattle.agreement.proofs.Members.{absent, in-single, insert-cases, without-in}
 use Rattle.agreement.proofs.Network.{Holds, holds-none, taken-held, taken-back, post-cases, others-back, others-receiver}
 use Rattle.agreement.proofs.Invariant.{Invariant, Fresh}
@@ -150,6 +152,38 @@ module _ {t : Tree} {s : State} (tree : IsTree t) (inv : Invariant t s) (v : Sta
   taken-packets : {p : Packet} {l : List Packet} → Taken (s .network) p l → (x : Packet) → Holds l x → Holds (s .network) x ⊎ Deliverable t s x
   taken-packets taken x m = inl (taken-back taken m)
 
+  -- a column comes back
+  returned : {s' : State} (j l noted : ℕ) {whole : Bool} → j < t .columns → j ≢ t .root → Runs s l → Remaining t s j noted →
+      Returns t s s' j (core.rejoined (s .columns l) noted whole) → s .network ≡ [] → Standing t s'
+  returned {s'} j l noted {whole} h nr r k b gone = record {
+    each-stands = λ i hi. ⊎-elim
+        (λ e. subst (λ (x : ℕ). Stands t x (s' .columns x)) (sym e) (subst (Stands t j) (sym (b .mine)) mine))
+        (λ n. subst (Stands t i) (sym (b .strikes i n hi)) (other i hi)) (equal-cases i j);
+    packets = λ p m. absurd (holds-none (subst (λ (x : List Packet). Holds x p) (b .packets ∙ gone) m));
+  }
+    where
+      mine : Stands t j (core.rejoined (s .columns l) noted whole)
+      mine = record {
+        send = pow-pos (t .columns);
+        awaited = pow-pos (t .columns);
+        owed = pow-pos (t .columns);
+        noted = k .fits;
+        owes-others = has-none j;
+        root-whole = λ e. absurd (nr e);
+      }
+
+      other : (i : ℕ) → i < t .columns → Stands t i (core.struck (s .columns i) j)
+      other i hi =
+          let z = v .each-stands i hi in
+          record {
+            send = z .send;
+            awaited = z .awaited;
+            owed = z .owed;
+            noted = without-lt (t .columns) (s .columns i .noted) j (z .noted) h;
+            owes-others = z .owes-others;
+            root-whole = z .root-whole;
+          }
+
   pub standing-kept : {s' : State} {e : Event} → Move t s s' e → Standing t s'
   standing-kept (order d r idle b) =
       let w = before (t .root) r in
@@ -254,3 +288,4 @@ module _ {t : Tree} {s : State} (tree : IsTree t) (inv : Invariant t s) (v : Sta
         root-whole = w .root-whole;
       })
       (λ p m. inl (others-back a (s .network) m)) (λ p m e. absurd (others-receiver a (s .network) m e))
+  standing-kept (back j l noted rest h n nr r k b) = returned j l noted h nr r k b (rest .no-packet)

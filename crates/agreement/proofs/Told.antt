@@ -24,13 +24,15 @@ use Rattle.column.specs.declared.packet.Packet.the-variants.{Message, Acknowled
 use Rattle.bank.specs.Banks.{State, columnAt, runs, packetAt, bankRefusal}
 use Rattle.bank.specs.StandingLaws.{Stands, stands}
 use Rattle.bank.specs.Steps as bank
-use Rattle.bank.specs.Steps.{Outcome, accepted, refused, unless, perform}
+use Rattle.bank.specs.Steps.{accepted}
+use Rattle.bank.specs.Performs.{perform}
 use Rattle.bank.specs.declared.step.Step.{Step}
-use Rattle.bank.specs.declared.step.Step.the-variants.{Order, Send, Take, Ack, All, Note, Halt}
+use Rattle.bank.specs.declared.step.Step.the-variants.{Order, Send, Take, Ack, All, Note, Halt, Back}
 use Rattle.agreement.specs.History.{World, changed, rootOf, leaves, leftBy, heard, acknowledged, receivedAfter, awaitsAfter}
 use Rattle.agreement.proofs.Model as model
 use Rattle.agreement.proofs.Received as moves
 use Rattle.agreement.proofs.View.{modelOf, OneMove, event}
+use Rattle.agreement.proofs.Refining.{accepted-goes}
 
 -- ---- a message is left where its number is higher and someone is owed
 
@@ -121,20 +123,14 @@ module _ (w : World) where
   received-told (Order d) o s' e j = refl
   received-told (Send i) o s' e j = refl
   received-told (Take place) o s' e j =
-      let q = earlier-none (bankRefusal s) (first ((10, leb (s .bank .count) place) ∷ [])) (goes (bank.takeRefusal s place) _ e) in
+      let q = earlier-none (bankRefusal s) (first ((10, leb (s .bank .count) place) ∷ [])) (accepted-goes s s' (bank.takeRefusal s place) _ e .0) in
       let held = leb-false (s .bank .count) place (passed ((10, leb (s .bank .count) place) ∷ []) tt (q .1) .0) in
       heard-told (stands s (q .0)) place held (packetAt s place) refl j
-    where
-      goes : (n : ℕ) (o : Outcome State) → unless n s o ≡ accepted s' → n ≡ 0
-      goes n o h = go (eqb n 0) refl h
-        where
-          go : (b : Bool) → eqb n 0 ≡ b → cond b o (refused n s) ≡ accepted s' → n ≡ 0
-          go true z h = eqb-true n 0 z
-          go false z h = let z : _≡_ {A = ℕ} 0 1 = cc in absurd (omega arith)
   received-told (Ack i) o s' e j = refl
   received-told (All i) o s' e j = refl
   received-told (Note i x) o s' e j = refl
   received-told (Halt m) o s' e j = absurd o
+  received-told (Back i) o s' e j = refl
 
   pub awaits-told : (x : Step) (o : OneMove x) (q : ℕ) → awaitsAfter w x q ≡ moves.awaitsAfter (s .bank .tree) m (event s x o) (w .awaits) q
   awaits-told (Order d) o q = refl
@@ -151,3 +147,4 @@ module _ (w : World) where
       changed-at (eqb i (rootOf s)) (changed (w .awaits) j false) (w .awaits) q
       ∙ ap (λ (v : Bool). cond (eqb i (rootOf s)) v (w .awaits q)) (changed-false (w .awaits q) (eqb q j))
   awaits-told (Halt m) o q = absurd o
+  awaits-told (Back j) o q = refl

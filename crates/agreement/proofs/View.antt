@@ -11,8 +11,9 @@ use Rattle.column.specs.declared.state.Column.{Column}
 use Rattle.bank.specs.Words.{numbers}
 use Rattle.bank.specs.Banks.{State, columnAt, packetAt}
 use Rattle.bank.specs.NetworkLaws.{packetsOf, Whole}
+use Rattle.bank.specs.Returns.{lowestRunning}
 use Rattle.bank.specs.declared.step.Step.{Step}
-use Rattle.bank.specs.declared.step.Step.the-variants.{Order, Send, Take, Ack, All, Note, Halt}
+use Rattle.bank.specs.declared.step.Step.the-variants.{Order, Send, Take, Ack, All, Note, Halt, Back}
 use Rattle.agreement.proofs.Model as model
 use Rattle.agreement.proofs.Move as move
 
@@ -33,6 +34,7 @@ OneMove (Ack i) = Unit {0}
 OneMove (All i) = Unit {0}
 OneMove (Note i j) = Unit {0}
 OneMove (Halt m) = ⊥
+OneMove (Back j) = Unit {0}
 
 -- which move a step is
 abbrev pub event : State → (x : Step) → OneMove x → move.Event
@@ -43,6 +45,7 @@ event s (Ack i) o = move.acknowledges i
 event s (All i) o = move.widens i
 event s (Note i j) o = move.notes i j
 event s (Halt m) o = absurd o
+event s (Back j) o = move.backs j (lowestRunning (s .bank))
 
 -- all places are there, and the numbers are such as a packet's words hold
 pub record Formed (s : State) : Type 0 where

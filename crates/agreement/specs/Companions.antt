@@ -6,7 +6,8 @@ use lib.ListN.{length}
 use Rattle.column.specs.Trees.{treeRefusal}
 use Rattle.column.specs.declared.tree.Tree.{Tree}
 use Rattle.bank.specs.Banks.{State, columnAt, capacity, bankRefusal}
-use Rattle.bank.specs.Steps.{accepted, perform}
+use Rattle.bank.specs.Steps.{accepted}
+use Rattle.bank.specs.Performs.{perform}
 use Rattle.bank.specs.Rest.{Running, AtRest}
 use Rattle.bank.specs.declared.step.Step.the-variants.{Order}
 use Rattle.agreement.specs.History.{World, rootOf, Line, follow}

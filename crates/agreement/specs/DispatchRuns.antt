@@ -16,7 +16,8 @@ use Rattle.bank.specs.Words.{packetOf}
 use Rattle.bank.specs.Lists.{closedUp, keeping, padded}
 use Rattle.bank.specs.Banks.{capacity, places, freshPlace, bankRefusal}
 use Rattle.bank.specs.Networks.{put, puts, vanished}
-use Rattle.bank.specs.Steps.{perform, fitting, acted, delivered, stopping, halted, haltRefusal}
+use Rattle.bank.specs.Steps.{fitting, acted, delivered, rewriting, halted, haltRefusal}
+use Rattle.bank.specs.Performs.{perform}
 use Rattle.bank.specs.Rest.{AtRest}
 use Rattle.bank.specs.Dispatch.{offered, firstAccepted, turn, dispatched, dispatch}
 use Rattle.bank.specs.declared.step.Step.{Step}
@@ -59,7 +60,7 @@ Said = List Step × List Step × Bool × ℕ × ℕ
 pub dispatches-pass : (c : Case) → _≡_ {A = Said}
     (dispatched 12 (world c .state), dispatched 2 (world c .state), allSettling (toRest c) && allAccepted (world c) (toRest c), columnsOf (world c), treeRefusal twoColumns)
     (toRest c, firstTwo c, true, 2, 0)
-unfolding run told perform every closedUp keeping padded places freshPlace bankRefusal packetOf put puts vanished fitting acted delivered stopping halted haltRefusal climbsIn treeRefusal stateRefusal selected trailingZeros offered firstAccepted turn dispatched allSettling allAccepted core.orderRefusal core.sendRefusal core.packetRefusal core.takeRefusal core.ackRefusal core.allRefusal core.noteRefusal core.orderEffect core.sendEffect core.acknowledgementEffect core.receiveEffect core.messageEffect core.ackEffect core.allEffect core.noteEffect
+unfolding run told perform every closedUp keeping padded places freshPlace bankRefusal packetOf put puts vanished fitting acted delivered rewriting halted haltRefusal climbsIn treeRefusal stateRefusal selected trailingZeros offered firstAccepted turn dispatched allSettling allAccepted core.orderRefusal core.sendRefusal core.packetRefusal core.takeRefusal core.ackRefusal core.allRefusal core.noteRefusal core.orderEffect core.sendEffect core.acknowledgementEffect core.receiveEffect core.messageEffect core.ackEffect core.allEffect core.noteEffect
 dispatches-pass ordered = refl
 dispatches-pass rootHalted = refl
 

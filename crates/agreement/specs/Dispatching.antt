@@ -5,18 +5,18 @@ use mathlib.Core.Path.{_≡_}
 use mathlib.Core.Bool.{Bool, true, false, not, _&&_}
 use mathlib.Core.List.{List, [], _∷_}
 use lib.ListN.{length}
-use Rattle.bank.specs.Steps.{perform}
+use Rattle.bank.specs.Performs.{perform}
 use Rattle.bank.specs.Rest.{isRefused, AtRest}
 use Rattle.bank.specs.Dispatch.{dispatched, dispatch}
 use Rattle.bank.specs.declared.step.Step.{Step}
-use Rattle.bank.specs.declared.step.Step.the-variants.{Order, Send, Take, Ack, All, Note, Halt}
+use Rattle.bank.specs.declared.step.Step.the-variants.{Order, Send, Take, Ack, All, Note, Halt, Back}
 use Rattle.agreement.specs.History.{World, columnsOf, told, run}
 use Rattle.agreement.specs.Agreement.{AfterEveryList}
 
 abbrev pub stepsWithin : ℕ → ℕ
 stepsWithin n = 9 * (n * n) - 5 * n
 
--- a step that is neither an order nor a halt
+-- a step that is neither an order nor a halt nor a return
 abbrev pub isSettling : Step → Bool
 isSettling (Order doors) = false
 isSettling (Send i) = true
@@ -25,6 +25,7 @@ isSettling (Ack i) = true
 isSettling (All i) = true
 isSettling (Note i j) = true
 isSettling (Halt m) = false
+isSettling (Back j) = false
 
 unfoldable pub allSettling : List Step → Bool
 allSettling [] = true

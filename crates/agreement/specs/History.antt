@@ -12,17 +12,19 @@ use Rattle.column.specs.Steps as core
 use Rattle.column.specs.declared.packet.Packet.{Packet}
 use Rattle.column.specs.declared.packet.Packet.the-variants.{Message, Acknowledgement}
 use Rattle.bank.specs.Banks.{State, columnAt, packetAt}
-use Rattle.bank.specs.Steps.{Outcome, accepted, refused, perform}
+use Rattle.bank.specs.Steps.{Outcome, accepted, refused}
+use Rattle.bank.specs.Performs.{perform}
+use Rattle.bank.specs.Returns.{lowestRunning}
 use Rattle.bank.specs.Dispatch.{dispatched}
 use Rattle.bank.specs.declared.step.Step.{Step}
-use Rattle.bank.specs.declared.step.Step.the-variants.{Order, Send, Take, Ack, All, Note, Halt}
+use Rattle.bank.specs.declared.step.Step.the-variants.{Order, Send, Take, Ack, All, Note, Halt, Back}
 
 -- the state of a bank with its past
 pub record World : Type 0 where
   pub state : State
   -- the doors of the accepted orders, the newest first
   pub orders : List ℕ
-  -- the highest number that each column has received; "a fresh column has received 0"
+  -- the highest number that each column has received, since it came back where it did; "a fresh column has received 0"
   pub received : ℕ → ℕ
   -- the columns that the root awaits
   pub awaits : ℕ → Bool
@@ -46,7 +48,8 @@ ordersAfter orders (Take place) = orders
 ordersAfter orders (Ack i) = orders
 ordersAfter orders (All i) = orders
 ordersAfter orders (Note i j) = orders
-ordersAfter orders (Halt i) = orders
+ordersAfter orders (Halt m) = orders
+ordersAfter orders (Back j) = orders
 
 -- ---- received: "A column receives a number when an accepted order gives it to the root, or when an accepted take of a message to it,
 -- numbered above all that it has received, doesn't leave the packet in its place"
@@ -72,7 +75,10 @@ receivedAfter w (Send i) = w .received
 receivedAfter w (Ack i) = w .received
 receivedAfter w (All i) = w .received
 receivedAfter w (Note i j) = w .received
-receivedAfter w (Halt i) = w .received
+receivedAfter w (Halt m) = w .received
+-- "coming back counts as receiving that record's number, and what the column received before its halt counts no longer": that record is the
+-- one of the lowest running column, and its number what that column received last
+receivedAfter w (Back j) = changed (w .received) j (w .received (lowestRunning (w .state .bank)))
 
 -- ---- awaits: "It awaits a column from the accepted send that serves it while not noted, until the root takes an acknowledgement from
 -- it with the root's number or notes it."
@@ -95,7 +101,8 @@ awaitsAfter w (Note i j) = cond (eqb i (rootOf (w .state))) (changed (w .awaits)
 awaitsAfter w (Order doors) = w .awaits
 awaitsAfter w (Ack i) = w .awaits
 awaitsAfter w (All i) = w .awaits
-awaitsAfter w (Halt i) = w .awaits
+awaitsAfter w (Halt m) = w .awaits
+awaitsAfter w (Back j) = w .awaits
 
 -- ---- a list of steps: "Each step gets the bank and packets as the last left them", and only accepted steps make history
 

@@ -6,4 +6,6 @@ pub mod Runs
 pub mod Premises
 pub mod Limits
 pub mod Dispatching
+pub mod Returning
 pub mod DispatchRuns
+pub mod ReturnRuns

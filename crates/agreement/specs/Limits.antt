@@ -2,7 +2,8 @@
 use Prim.Native.Nat.{ℕ, _-_, _*_, _≤_}
 use mathlib.Core.Path.{_≡_}
 use Rattle.bank.specs.Banks.{State}
-use Rattle.bank.specs.Steps.{refused, perform}
+use Rattle.bank.specs.Steps.{refused}
+use Rattle.bank.specs.Performs.{perform}
 use Rattle.bank.specs.declared.step.Step.{Step}
 use Rattle.agreement.specs.History.{World, columnsOf}
 use Rattle.agreement.specs.Agreement.{AfterEveryList}

@@ -21,13 +21,14 @@ use Rattle.column.specs.declared.packet.Packet.the-variants.{Message, Acknowled
 use Rattle.bank.specs.Banks.{State, columnAt, runs, packetAt, capacity}
 use Rattle.bank.specs.StandingLaws.{Stands, stands}
 use Rattle.bank.specs.Steps as steps
-use Rattle.bank.specs.Steps.{Outcome, accepted, refused, perform}
+use Rattle.bank.specs.Steps.{Outcome, accepted, refused}
+use Rattle.bank.specs.Performs.{perform}
 use Rattle.bank.specs.Places.{tree-kept}
 use Rattle.bank.specs.Rest.{Running, AtRest}
 use Rattle.bank.specs.RestLaws.{rest-exact}
 use Rattle.bank.specs.Unchanged.{unchanged}
 use Rattle.bank.specs.declared.step.Step.{Step}
-use Rattle.bank.specs.declared.step.Step.the-variants.{Order, Send, Take, Ack, All, Note, Halt}
+use Rattle.bank.specs.declared.step.Step.the-variants.{Order, Send, Take, Ack, All, Note, Halt, Back}
 use Rattle.agreement.specs.History.{World, changed, rootOf, acknowledged, awaitsAfter, told, run, step, follow}
 use Rattle.agreement.specs.Agreement.{Holds, HighestReceived, NeitherSends, NorAwaits, Agreement, AfterEveryList, Agrees}
 use Rattle.agreement.specs.Companions.{Ordered, OrdersCount, HaltedRests}
@@ -69,7 +70,8 @@ module _ (q : ℕ) (far : 16 < q) where
   awaits-none w ok (Ack i) e = e
   awaits-none w ok (All i) e = e
   awaits-none w ok (Note i j) e = changed-none (eqb i (rootOf (w .state))) (w .awaits) j false (ended j) e
-  awaits-none w ok (Halt i) e = e
+  awaits-none w ok (Halt m) e = e
+  awaits-none w ok (Back j) e = e
 
   told-none : (w : World) → Good w → (x : Step) (o : Outcome State) → w .awaits q ≡ false → told w x o .awaits q ≡ false
   unfolding told

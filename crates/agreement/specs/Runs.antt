@@ -16,10 +16,12 @@ use Rattle.bank.specs.Lists.{closedUp, keeping, padded}
 use Rattle.bank.specs.Banks.{State, columnAt, runs, capacity, places, freshPlace, bankRefusal}
 use Rattle.bank.specs.Networks.{put, puts, vanished}
 use Rattle.bank.specs.Steps as bank
-use Rattle.bank.specs.Steps.{Outcome, perform, fitting, acted, delivered, stopping, halted, haltRefusal}
+use Rattle.bank.specs.Steps.{Outcome, fitting, acted, delivered, rewriting, halted, haltRefusal}
+use Rattle.bank.specs.Returns.{backRefusal, returned}
+use Rattle.bank.specs.Performs.{perform}
 use Rattle.bank.specs.Rest.{atRest}
 use Rattle.bank.specs.declared.step.Step.{Step}
-use Rattle.bank.specs.declared.step.Step.the-variants.{Order, Send, Take, Ack, All, Note, Halt}
+use Rattle.bank.specs.declared.step.Step.the-variants.{Order, Send, Take, Ack, All, Note, Halt, Back}
 use Rattle.agreement.specs.Orders.{given}
 use Rattle.agreement.specs.History.{World, rootOf, told, run}
 use Rattle.agreement.specs.Agreement.{begin}
@@ -137,6 +139,11 @@ pub data Case : Type 0 where
   everyoneHalted : Case
   stripGone : Case
   stripRefused : Case
+  backThenOrder : Case
+  backThenTakenOver : Case
+  backAfterTakenOver : Case
+  backAtLower : Case
+  backRefused : Case
 
 -- the halt of one column
 abbrev halting : ℕ → Step
@@ -150,6 +157,16 @@ serving = Send 0 ∷ Take 0 ∷ Send 1 ∷ Take 0 ∷ Ack 2 ∷ Take 0 ∷ Ack 1
 -- root's message, which is left.
 abbrev leaving : List Step
 leaving = Order 3 ∷ Send 0 ∷ halting 0 ∷ Note 2 0 ∷ All 2 ∷ Send 2 ∷ Send 2 ∷ Take 1 ∷ Take 0 ∷ []
+
+-- the root halts half way, and the two that run take over
+abbrev takingOver : List Step
+takingOver =
+    Order 513 ∷ Send 0 ∷ Take 0 ∷ halting 0 ∷ Send 1 ∷ Take 0 ∷ Ack 2 ∷ Take 0 ∷ Ack 1 ∷ Note 1 0 ∷ All 1 ∷ Send 1 ∷ Send 1
+    ∷ Note 2 0 ∷ All 2 ∷ Send 2 ∷ Send 2 ∷ Take 0 ∷ Ack 1 ∷ Take 0 ∷ []
+
+-- an order for everybody; then column 2 halts, is noted and comes back
+abbrev awayAndBack : List Step
+awayAndBack = Order 3 ∷ (serving ++ (halting 2 ∷ Note 0 2 ∷ Note 1 2 ∷ Back 2 ∷ []))
 
 abbrev idleRoot : Root
 idleRoot = record { awaits = 0; send = 6 ∷ []; order = [] }
@@ -168,12 +185,8 @@ row servedByRoot = rowOf chain (Order 3 ∷ serving) [] (3 ∷ []) (1 ∷ 1 ∷ 
 row secondOrder =
     rowOf chain (Order 3 ∷ (serving ++ (Send 0 ∷ Order 5 ∷ Order 6 ∷ Send 3 ∷ Note 0 1 ∷ Take 0 ∷ serving)))
     (6 ∷ 7 ∷ 4 ∷ 6 ∷ 10 ∷ []) (5 ∷ 3 ∷ []) (2 ∷ 2 ∷ 2 ∷ []) 7 2 0 true idleRoot
--- the root halts half way, and the two that run take over: number 1 everywhere
-row takenOver =
-    rowOf chain
-    (Order 513 ∷ Send 0 ∷ Take 0 ∷ halting 0 ∷ Send 1 ∷ Take 0 ∷ Ack 2 ∷ Take 0 ∷ Ack 1 ∷ Note 1 0 ∷ All 1 ∷ Send 1 ∷ Send 1
-    ∷ Note 2 0 ∷ All 2 ∷ Send 2 ∷ Send 2 ∷ Take 0 ∷ Ack 1 ∷ Take 0 ∷ [])
-    [] (513 ∷ []) (1 ∷ 1 ∷ 1 ∷ []) 6 1 0 true (haltedRoot 2)
+-- number 1 everywhere
+row takenOver = rowOf chain takingOver [] (513 ∷ []) (1 ∷ 1 ∷ 1 ∷ []) 6 1 0 true (haltedRoot 2)
 -- nobody that runs has received the order: number 0 everywhere
 row neverReceived =
     rowOf chain
@@ -207,9 +220,26 @@ row stripGone =
 -- "If any is 4 or 5, none halts": columns 1 and 3, and columns 0 and 2 after 2
 row stripRefused =
     rowOf chain (Halt 10 ∷ halting 2 ∷ Halt 5 ∷ Note 0 2 ∷ Note 1 2 ∷ []) (4 ∷ 5 ∷ []) [] (0 ∷ 0 ∷ 0 ∷ []) 3 0 0 true idleRoot
+-- a new order reaches the column that came back too
+row backThenOrder = rowOf chain (awayAndBack ++ (Order 5 ∷ serving)) [] (5 ∷ 3 ∷ []) (2 ∷ 2 ∷ 2 ∷ []) 7 2 0 true idleRoot
+-- the root halts in the middle of a new order, and the column that came back takes over as the other does
+row backThenTakenOver = rowOf chain (awayAndBack ++ takingOver) [] (513 ∷ 3 ∷ []) (2 ∷ 2 ∷ 2 ∷ []) 6 2 0 true (haltedRoot 2)
+-- after a takeover the goal of the column that comes back is the whole bank: it neither takes over nor sends
+row backAfterTakenOver =
+    rowOf chain (takingOver ++ (halting 2 ∷ Note 1 2 ∷ Back 2 ∷ All 2 ∷ Send 2 ∷ []))
+    (6 ∷ 6 ∷ []) (513 ∷ []) (1 ∷ 1 ∷ 1 ∷ []) 6 1 0 true (haltedRoot 2)
+-- column 1 alone received the order, and comes back at number 0: "what the column received before its halt counts no longer"
+row backAtLower =
+    rowOf chain
+    (Order 3 ∷ Send 0 ∷ Take 0 ∷ Halt 3 ∷ Note 2 0 ∷ Note 2 1 ∷ All 2 ∷ Send 2 ∷ Send 2 ∷ Send 2 ∷ Back 1 ∷ [])
+    [] (3 ∷ []) (1 ∷ 0 ∷ 0 ∷ []) 6 0 0 true (haltedRoot 2)
+-- a column that the bank has not, one that runs, the root where the bank is not at rest, another there, one where nobody runs, the root there
+row backRefused =
+    rowOf chain (Back 3 ∷ Back 1 ∷ Halt 5 ∷ Back 0 ∷ Back 2 ∷ halting 1 ∷ Back 2 ∷ Back 0 ∷ [])
+    (4 ∷ 6 ∷ 15 ∷ 14 ∷ 16 ∷ 15 ∷ []) [] (0 ∷ 0 ∷ 0 ∷ []) 0 0 0 true (haltedRoot 0)
 
 pub runs-pass : (c : Case) → computed (row c) ≡ (row c, 0, 0, true)
-unfolding refusals given run told perform atRest every closedUp keeping padded places freshPlace bankRefusal packetOf put puts vanished fitting acted delivered stopping halted haltRefusal climbsIn treeRefusal stateRefusal selected trailingZeros core.orderRefusal core.sendRefusal core.packetRefusal core.takeRefusal core.ackRefusal core.allRefusal core.noteRefusal core.orderEffect core.sendEffect core.acknowledgementEffect core.receiveEffect core.messageEffect core.ackEffect core.allEffect core.noteEffect
+unfolding refusals given run told perform atRest every closedUp keeping padded places freshPlace bankRefusal packetOf put puts vanished fitting acted delivered rewriting halted haltRefusal backRefusal returned climbsIn treeRefusal stateRefusal selected trailingZeros core.orderRefusal core.sendRefusal core.packetRefusal core.takeRefusal core.ackRefusal core.allRefusal core.noteRefusal core.orderEffect core.sendEffect core.acknowledgementEffect core.receiveEffect core.messageEffect core.ackEffect core.allEffect core.noteEffect
 runs-pass noStep = refl
 runs-pass servedByRoot = refl
 runs-pass secondOrder = refl
@@ -222,3 +252,8 @@ runs-pass aroundTheHalted = refl
 runs-pass everyoneHalted = refl
 runs-pass stripGone = refl
 runs-pass stripRefused = refl
+runs-pass backThenOrder = refl
+runs-pass backThenTakenOver = refl
+runs-pass backAfterTakenOver = refl
+runs-pass backAtLower = refl
+runs-pass backRefused = refl

@@ -6,6 +6,7 @@ use mathlib.Core.List.{List, [], _∷_, _++_}
 use lib.Dec.{eqb, leb, ltb}
 use lib.ListN.{getD, replicate}
 use Rattle.column.specs.Refusals.{first, earlier}
+use Rattle.column.specs.Sets.{selected}
 use Rattle.column.specs.Trees.{every, treeRefusal, columnRefusal}
 use Rattle.column.specs.Columns.{fresh, stateRefusal}
 use Rattle.column.specs.Packets.{receiver}
@@ -34,6 +35,14 @@ columnAt b i = getD (b .columns) i noColumn
 
 abbrev pub runs : Bank → ℕ → Bool
 runs b i = columnAt b i .running
+
+-- the columns that run
+abbrev pub runningOf : Bank → ℕ
+runningOf b = selected (runs b) (b .tree .columns)
+
+-- the columns that do not run
+abbrev pub haltedOf : Bank → ℕ
+haltedOf b = selected (λ j. not (runs b j)) (b .tree .columns)
 
 -- "oldest first, place 0 the oldest"
 abbrev pub packetAt : State → ℕ → Packet

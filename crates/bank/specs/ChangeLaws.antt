@@ -28,24 +28,24 @@ use Rattle.column.specs.declared.state.Column.{Column}
 use Rattle.column.specs.declared.packet.Packet.{Packet}
 use Rattle.bank.specs.Words.{receiverIn}
 use Rattle.bank.specs.ListLaws.{set-keeps}
-use Rattle.bank.specs.Banks.{State, state, columnAt, runs, packetAt, noColumn, capacity, bankRefusal, actingRefusal}
+use Rattle.bank.specs.Banks.{State, state, columnAt, runs, haltedOf, packetAt, noColumn, capacity, bankRefusal, actingRefusal}
 use Rattle.bank.specs.StandingLaws.{Stands, acting-passes}
 use Rattle.bank.specs.Networks.{counting, withPacket, put, puts, removed, Appended, ClosedUp}
-use Rattle.bank.specs.Steps.{Outcome, accepted, refused, answered, outcome, unless, withPlace, withColumn, fitting, settled, acted, noteRefusal, noted, delivered, perform}
+use Rattle.bank.specs.Steps.{Outcome, accepted, refused, answered, outcome, unless, withPlace, withColumn, fitting, settled, acted, noteRefusal, noted, delivered}
+use Rattle.bank.specs.Performs.{perform}
 use Rattle.bank.specs.StepLaws.{accepted-words, refused-words, fits, put-halted, put-running, put-full, put-count, takesOff, settled-off, acted-refused, acted-settled}
 use Rattle.bank.specs.Steady.{Steady, steady-cond, steady-send, steady-take, Aimed, aimed-unless, aimed-send, aimed-ack, aimed-take}
 use Rattle.bank.specs.Changes.{Becomes, stored, changed, changeBy, Stores, Lit, isOwn, coreStep}
 use Rattle.bank.specs.Rest.{isRefused}
 use Rattle.bank.specs.Offers.{isRefusal}
 use Rattle.bank.specs.Places.{acts}
-use Rattle.bank.specs.Quick.{haltedOf}
 use Rattle.bank.specs.declared.bank.Bank.{Bank}
 use Rattle.bank.specs.declared.bank.Answer.{Answer}
 use Rattle.bank.specs.declared.bank.Answer.the-variants.{Done, Refused}
 use Rattle.bank.specs.declared.bank.Result.{Result}
 use Rattle.bank.specs.declared.settling.Change.{Change}
 use Rattle.bank.specs.declared.step.Step.{Step}
-use Rattle.bank.specs.declared.step.Step.the-variants.{Order, Send, Take, Ack, All, Note, Halt}
+use Rattle.bank.specs.declared.step.Step.the-variants.{Order, Send, Take, Ack, All, Note, Halt, Back}
 
 -- ---- what a change says of a bank
 
@@ -190,6 +190,7 @@ module _ (s : State) (stood : Stands s) (i : ℕ) (below : i < s .bank .tree .co
     core-steady (All k) = steady-cond (eqb (core.allRefusal t i column) 0) column _ _ refl tt
     core-steady (Note k j) = steady-cond (eqb (earlier (core.noteRefusal t i column j) (first ((6, has running j) ∷ []))) 0) column _ _ refl tt
     core-steady (Halt m) = tt
+    core-steady (Back j) = tt
 
     pub core-aimed : (x : Step) → Aimed t (coreStep t running x i column)
     unfolding core.orderEffect core.allEffect core.noteEffect
@@ -200,6 +201,7 @@ module _ (s : State) (stood : Stands s) (i : ℕ) (below : i < s .bank .tree .co
     core-aimed (All k) = aimed-unless t (core.allRefusal t i column) column _ (λ e. tt)
     core-aimed (Note k j) = aimed-unless t (earlier (core.noteRefusal t i column j) (first ((6, has running j) ∷ []))) column _ (λ e. tt)
     core-aimed (Halt m) = tt
+    core-aimed (Back j) = tt
 
     module _ (lit : Lit running (s .bank)) where
       -- a j that the bank has not is refused before it is asked whether it runs
@@ -229,6 +231,7 @@ module _ (s : State) (stood : Stands s) (i : ℕ) (below : i < s .bank .tree .co
           go (All k) own e = ap (λ (k : ℕ). acted s k (core.all t k (columnAt (s .bank) k))) (eqb-true i k e)
           go (Note k j) own e = ap (acted s i) (noted-is j) ∙ ap (λ (k : ℕ). acted s k (noted (s .bank) k j)) (eqb-true i k e)
           go (Halt m) own e = absurd (true≢false (sym own))
+          go (Back j) own e = absurd (true≢false (sym own))
 
       -- what settles the core's step is the bank's
       pub own-done : (x : Step) → isOwn x ≡ true → acts s x i ≡ true → {m : core.Result} {o : Outcome State} → m ≡ coreStep t running x i column
@@ -253,6 +256,7 @@ own-refused s x i n own actor e some r k = go x own actor
     go (All j) own z = by (λ (j : ℕ). core.all (s .bank .tree) j (columnAt (s .bank) j)) j z
     go (Note j k) own z = by (λ (j : ℕ). noted (s .bank) j k) j z
     go (Halt m) own z = absurd (true≢false (sym own))
+    go (Back j) own z = absurd (true≢false (sym own))
 
 -- ---- a packet given to its receiver in a bank that stands
 

@@ -4,7 +4,8 @@ use Prim.Native.Nat.{ℕ, zero, suc}
 use mathlib.Core.Bool.{cond}
 use mathlib.Core.List.{List, [], _∷_, _++_}
 use Rattle.bank.specs.Banks.{State, runs, places, bankRefusal}
-use Rattle.bank.specs.Steps.{Outcome, accepted, refused, unless, perform}
+use Rattle.bank.specs.Steps.{Outcome, accepted, refused, unless}
+use Rattle.bank.specs.Performs.{perform}
 use Rattle.bank.specs.Rest.{isRefused}
 use Rattle.bank.specs.declared.step.Step.{Step}
 use Rattle.bank.specs.declared.step.Step.the-variants.{Send, Take, Ack, All, Note}

@@ -17,7 +17,8 @@ use Rattle.column.specs.Steps as core
 use Rattle.column.specs.declared.packet.Packet.{Packet}
 use Rattle.bank.specs.Banks.{State, columnAt, runs, places, packetAt, capacity, bankRefusal}
 use Rattle.bank.specs.StandingLaws.{Stands, stands-passes}
-use Rattle.bank.specs.Steps.{takeRefusal, perform, take, send, ack, all, note}
+use Rattle.bank.specs.Steps.{takeRefusal, take, send, ack, all, note}
+use Rattle.bank.specs.Performs.{perform}
 use Rattle.bank.specs.Rest.{isRefused, quiet, atRest}
 use Rattle.bank.specs.RestSteps.{refused-exactly}
 use Rattle.bank.specs.Exact.{raised, overfull}

@@ -20,13 +20,15 @@ use Rattle.column.specs.declared.tree.Tree.{Tree}
 use Rattle.column.specs.declared.state.Column.{Column}
 use Rattle.column.specs.declared.packet.Packet.{Packet}
 use Rattle.column.specs.declared.packet.Packet.the-variants.{Message, Acknowledgement}
-use Rattle.bank.specs.Banks.{State, columnAt, runs, packetAt, capacity, noColumn, bankRefusal, actingRefusal}
+use Rattle.bank.specs.Banks.{State, state, columnAt, runs, packetAt, capacity, noColumn, bankRefusal, actingRefusal}
 use Rattle.bank.specs.Networks.{put, puts, removed}
 use Rattle.bank.specs.StandingLaws.{Stands, stands, acting}
 use Rattle.bank.specs.StepLaws.{fits, put-halted, put-running, put-full, put-count, takes}
-use Rattle.bank.specs.Steps.{Outcome, accepted, refused, after, unless, withColumn, fitting, settled, acted, noted, noteRefusal, takeRefusal, delivered, halted, haltConditions, haltRefusal, halt, perform}
+use Rattle.bank.specs.Steps.{Outcome, accepted, refused, after, unless, withColumn, fitting, settled, acted, noted, noteRefusal, takeRefusal, delivered, halted, haltConditions, haltRefusal, halt}
+use Rattle.bank.specs.Returns.{backConditions, backRefusal, returned, back}
+use Rattle.bank.specs.Performs.{perform}
 use Rattle.bank.specs.Exact.{ownRefusal, raises, overfull, refusalOf, Exact}
-use Rattle.bank.specs.declared.step.Step.the-variants.{Order, Send, Take, Ack, All, Note, Halt}
+use Rattle.bank.specs.declared.step.Step.the-variants.{Order, Send, Take, Ack, All, Note, Halt, Back}
 
 -- ---- what the core does: at most one packet, and where it has one its column runs on as it did
 
@@ -196,6 +198,12 @@ module _ (s : State) where
       subst (λ k. Answered s k (halt s m)) (earlier-assoc (bankRefusal s) (first (haltConditions s m)) 0)
       (answered-unless s (haltRefusal s m) 0 (accepted (halted s (has m))) (λ e. refl))
 
+  exact-back : (j : ℕ) → Answered s (refusalOf s (Back j)) (perform s (Back j))
+  unfolding perform backRefusal
+  exact-back j =
+      subst (λ k. Answered s k (back s j)) (earlier-assoc (bankRefusal s) (first (backConditions s j)) 0)
+      (answered-unless s (backRefusal s j) 0 (accepted (state (returned (s .bank) j) (s .heads) (s .doors))) (λ e. refl))
+
   exact-take : (place : ℕ) → Answered s (refusalOf s (Take place)) (perform s (Take place))
   unfolding perform delivered
   exact-take place =
@@ -220,3 +228,4 @@ exact s (Ack i) = exact-ack s i
 exact s (All i) = exact-all s i
 exact s (Note i j) = exact-note s i j
 exact s (Halt m) = exact-halt s m
+exact s (Back j) = exact-back s j

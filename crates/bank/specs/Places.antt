@@ -1,15 +1,15 @@
--- A step rewrites the place of the column that acts, which runs, and no other: "unused ones never change", and a halted column keeps its
--- record and sets. Assumes nothing.
-use Prim.Native.Nat.{ℕ, _≤_}
+-- A step rewrites the places of the columns that act, and no other: "unused ones never change". They run, unless one comes back: so a halted
+-- column keeps what it holds until then, but for one that comes back meanwhile, which it strikes from those noted. Assumes nothing.
+use Prim.Native.Nat.{ℕ, _≤_, _<_}
 use mathlib.Core.Path.{_≡_, refl, sym, ap, subst, _∙_}
-use mathlib.Core.Bool.{Bool, true, false, not, cond, true≢false}
+use mathlib.Core.Bool.{Bool, true, false, not, _||_, cond, true≢false}
 use mathlib.Core.Logic.{⊎-elim}
 use mathlib.Core.List.{List, [], _∷_}
 use native.Mathlib.Omega.{arith}
 use lib.Dec.{eqb, leb, ltb}
-use lib.ListN.{getD}
+use lib.ListN.{length, getD}
 use lib.Seq.{getD-set-other}
-use borrow.Author.Tests.{eq-eqb, ne-eqb, eqb-true, eqb-false, not-false}
+use borrow.Author.Tests.{eq-eqb, ne-eqb, eqb-true, eqb-false, ltb-true, ltb-false, not-false}
 use Rattle.column.specs.Cases.{truth}
 use Rattle.column.specs.Sets.{has}
 use Rattle.column.specs.Refusals.{first, earlier}
@@ -17,22 +17,27 @@ use Rattle.column.specs.RefusalLaws.{passed, earlier-none}
 use Rattle.column.specs.Columns.{standing}
 use Rattle.column.specs.StateLaws.{standing-sound}
 use Rattle.column.specs.Packets.{receiver}
+use Rattle.column.specs.Returns.{struck}
 use Rattle.column.specs.Steps as core
 use Rattle.column.specs.declared.tree.Tree.{Tree}
 use Rattle.column.specs.declared.state.Column.{Column}
 use Rattle.column.specs.declared.packet.Packet.{Packet}
-use Rattle.bank.specs.Banks.{State, columnAt, runs, packetAt, capacity, noColumn, bankRefusal, actingRefusal}
+use Rattle.bank.specs.Banks.{State, state, columnAt, runs, packetAt, capacity, noColumn, bankRefusal, actingRefusal}
 use Rattle.bank.specs.Networks.{withPacket, put, puts, removed, vanished}
-use Rattle.bank.specs.Steps.{Outcome, accepted, refused, after, unless, fitting, withColumn, settled, acted, delivered, takeRefusal, halted, haltConditions, haltRefusal, perform}
+use Rattle.bank.specs.Steps.{Outcome, accepted, refused, after, unless, fitting, withColumn, settled, acted, delivered, takeRefusal, halted, haltConditions, haltRefusal}
+use Rattle.bank.specs.Returns.{backConditions, backRefusal, comeBack, returned}
+use Rattle.bank.specs.ReturnLaws.{returning, place-mine, place-struck, place-unused}
+use Rattle.bank.specs.Performs.{perform}
 use Rattle.bank.specs.Exact.{ownRefusal, refusalOf}
 use Rattle.bank.specs.ExactLaws.{exact}
 use Rattle.bank.specs.StripStates.{column-at}
 use Rattle.bank.specs.StripLaws.{halts}
 use Rattle.bank.specs.Rest.{Running}
 use Rattle.bank.specs.declared.step.Step.{Step}
-use Rattle.bank.specs.declared.step.Step.the-variants.{Order, Send, Take, Ack, All, Note, Halt}
+use Rattle.bank.specs.declared.step.Step.the-variants.{Order, Send, Take, Ack, All, Note, Halt, Back}
 
--- whose place a step may rewrite: "order: the root; note: the first"; of a take "the packet goes to its receiver"; a halt's members
+-- whose place a step may rewrite: "order: the root; note: the first"; of a take "the packet goes to its receiver"; a halt's members; of a
+-- return that column and "all others"
 abbrev pub acts : State → Step → ℕ → Bool
 acts s (Order doors) j = eqb j (s .bank .tree .root)
 acts s (Send i) j = eqb j i
@@ -41,8 +46,8 @@ acts s (Ack i) j = eqb j i
 acts s (All i) j = eqb j i
 acts s (Note i k) j = eqb j i
 acts s (Halt m) j = has m j
+acts s (Back i) j = ltb j (s .bank .tree .columns)
 
--- the only step of which more than one column may act
 abbrev pub isHalt : Step → Bool
 isHalt (Order doors) = false
 isHalt (Send i) = false
@@ -51,14 +56,30 @@ isHalt (Ack i) = false
 isHalt (All i) = false
 isHalt (Note i j) = false
 isHalt (Halt m) = true
+isHalt (Back j) = false
 
-pub one-acts : (s : State) (x : Step) (i j : ℕ) → isHalt x ≡ false → acts s x i ≡ true → (j ≡ i → ⊥) → acts s x j ≡ false
+-- the only step that rewrites the place of a column that does not run
+abbrev pub isBack : Step → Bool
+isBack (Order doors) = false
+isBack (Send i) = false
+isBack (Take place) = false
+isBack (Ack i) = false
+isBack (All i) = false
+isBack (Note i j) = false
+isBack (Halt m) = false
+isBack (Back j) = true
+
+-- the steps of which more than one column may act
+abbrev pub ofMany : Step → Bool
+ofMany x = isHalt x || isBack x
+
+pub one-acts : (s : State) (x : Step) (i j : ℕ) → ofMany x ≡ false → acts s x i ≡ true → (j ≡ i → ⊥) → acts s x j ≡ false
 one-acts s x i j = go x
   where
     one : (k : ℕ) → eqb i k ≡ true → (j ≡ i → ⊥) → eqb j k ≡ false
     one k h other = ne-eqb j k (λ e. other (e ∙ sym (eqb-true i k h)))
 
-    go : (x : Step) → isHalt x ≡ false → acts s x i ≡ true → (j ≡ i → ⊥) → acts s x j ≡ false
+    go : (x : Step) → ofMany x ≡ false → acts s x i ≡ true → (j ≡ i → ⊥) → acts s x j ≡ false
     go (Order doors) e = one (s .bank .tree .root)
     go (Send k) e = one k
     go (Take place) e = one (receiver (packetAt s place))
@@ -66,6 +87,7 @@ one-acts s x i j = go x
     go (All k) e = one k
     go (Note k l) e = one k
     go (Halt m) e = absurd (true≢false e)
+    go (Back k) e = absurd (true≢false e)
 
 -- ---- what a step keeps
 
@@ -132,6 +154,14 @@ kept-halted : (s : State) (m j : ℕ) → has m j ≡ false → (b : Bool)
 kept-halted s m j e true = column-at s (has m) j ∙ rw e
 kept-halted s m j e false = refl
 
+kept-returned : (s : State) (i j : ℕ) → ltb j (s .bank .tree .columns) ≡ false → (b : Bool) → eqb (backRefusal s i) 0 ≡ b
+    → columnAt (after (cond b (accepted (state (returned (s .bank) i) (s .heads) (s .doors))) (refused (backRefusal s i) s)) .bank) j ≡ columnAt (s .bank) j
+kept-returned s i j e true ok =
+    let high = ltb-false j (s .bank .tree .columns) e in
+    let below = returning s i (eqb-true (backRefusal s i) 0 ok) .below in
+    place-unused (s .bank) i j (λ z. omega (arith, high, below, z)) high
+kept-returned s i j e false ok = refl
+
 pub others-kept : (s : State) (x : Step) (j : ℕ) → acts s x j ≡ false → columnAt (after (perform s x) .bank) j ≡ columnAt (s .bank) j
 unfolding perform delivered
 others-kept s x j = go x
@@ -153,11 +183,12 @@ others-kept s x j = go x
     go (All i) e = one i e _
     go (Note i k) e = one i e _
     go (Halt m) e = kept-halted s m j e (eqb (haltRefusal s m) 0)
+    go (Back i) e = kept-returned s i j e (eqb (backRefusal s i) 0) refl
 
 -- ---- the tree
 
 pub tree-kept : (s : State) (x : Step) → after (perform s x) .bank .tree ≡ s .bank .tree
-unfolding perform delivered halted vanished
+unfolding perform delivered halted vanished returned
 tree-kept s x = go x
   where
     read : State → Tree
@@ -179,6 +210,7 @@ tree-kept s x = go x
     go (All i) = one i _
     go (Note i k) = one i _
     go (Halt m) = kept-unless read s (haltRefusal s m) _ refl
+    go (Back j) = kept-unless read s (backRefusal s j) _ refl
 
 -- ---- who acts
 
@@ -188,54 +220,78 @@ t s = s .bank .tree
 abbrev c : State → ℕ → Column
 c s i = columnAt (s .bank) i
 
-module _ (s : State) (i : ℕ) where
+-- a column of the bank, which runs unless one comes back
+abbrev pub Acting : State → Step → ℕ → Type 0
+Acting s x j = (j < s .bank .tree .columns) × (isBack x ≡ false → runs (s .bank) j ≡ true)
+
+module _ (s : State) (x : Step) (i : ℕ) where
   -- the core tests the column first, and among the step's own conditions that it runs
   runs-by : (m : ℕ) → (m ≡ 0 → not (c s i .running) ≡ false) → earlier (standing (t s) i (c s i)) m ≡ 0
-      → (j : ℕ) → eqb j i ≡ true → Running s j
+      → (j : ℕ) → eqb j i ≡ true → Acting s x j
   runs-by m five e j a =
       let q = earlier-none (standing (t s) i (c s i)) m e in
-      subst (Running s) (sym (eqb-true j i a))
-      (standing-sound (t s) i (c s i) (q .0) .below, not-false (c s i .running) (five (q .1)))
+      subst (Acting s x) (sym (eqb-true j i a))
+      (standing-sound (t s) i (c s i) (q .0) .below, λ _. not-false (c s i .running) (five (q .1)))
 
 members-run : (s : State) (m : ℕ) → bankRefusal s ≡ 0 → first (haltConditions s m) ≡ 0 → (j : ℕ) → has m j ≡ true → Running s j
 unfolding haltRefusal
 members-run s m b e j h = halts s m (rw (eq-eqb (bankRefusal s) 0 b) e) .2 j h
 
-own-runs : (s : State) (x : Step) → bankRefusal s ≡ 0 → ownRefusal s x ≡ 0 → (j : ℕ) → acts s x j ≡ true → Running s j
+own-acting : (s : State) (x : Step) → bankRefusal s ≡ 0 → ownRefusal s x ≡ 0 → (j : ℕ) → acts s x j ≡ true → Acting s x j
 unfolding core.orderRefusal core.sendRefusal core.takeRefusal core.ackRefusal core.allRefusal core.noteRefusal
-own-runs s (Order doors) b e = runs-by s (t s .root) _ (λ z. passed (core.orderConditions (t s) (t s .root) (c s (t s .root))) tt z .1 .0) e
-own-runs s (Send i) b e = runs-by s i _ (λ z. passed (core.sendConditions (t s) i (c s i)) tt z .0) e
-own-runs s (Take place) b e =
+own-acting s (Order doors) b e =
+    runs-by s (Order doors) (t s .root) _ (λ z. passed (core.orderConditions (t s) (t s .root) (c s (t s .root))) tt z .1 .0) e
+own-acting s (Send i) b e = runs-by s (Send i) i _ (λ z. passed (core.sendConditions (t s) i (c s i)) tt z .0) e
+own-acting s (Take place) b e =
     let p = packetAt s place in
     let l = core.takeConditions (t s) (receiver p) (c s (receiver p)) p in
-    runs-by s (receiver p) _ (λ z. passed l tt (earlier-none (core.packetRefusal (t s) p) (first l) z .1) .1 .0)
+    runs-by s (Take place) (receiver p) _ (λ z. passed l tt (earlier-none (core.packetRefusal (t s) p) (first l) z .1) .1 .0)
     (earlier-none (first ((10, leb (s .bank .count) place) ∷ [])) _ e .1)
-own-runs s (Ack i) b e = runs-by s i _ (λ z. passed (core.ackConditions (t s) i (c s i)) tt z .0) e
-own-runs s (All i) b e = runs-by s i _ (λ z. passed (core.allConditions (t s) i (c s i)) tt z .0) e
-own-runs s (Note i k) b e =
-    runs-by s i _ (λ z. passed (core.noteConditions (t s) i (c s i) k) tt z .1 .0) (earlier-none _ (first ((6, runs (s .bank) k) ∷ [])) e .0)
-own-runs s (Halt m) b e = members-run s m b e
+own-acting s (Ack i) b e = runs-by s (Ack i) i _ (λ z. passed (core.ackConditions (t s) i (c s i)) tt z .0) e
+own-acting s (All i) b e = runs-by s (All i) i _ (λ z. passed (core.allConditions (t s) i (c s i)) tt z .0) e
+own-acting s (Note i k) b e =
+    runs-by s (Note i k) i _ (λ z. passed (core.noteConditions (t s) i (c s i) k) tt z .1 .0) (earlier-none _ (first ((6, runs (s .bank) k) ∷ [])) e .0)
+own-acting s (Halt m) b e = λ j h. let r = members-run s m b e j h in (r .0, λ _. r .1)
+own-acting s (Back i) b e = λ j h. (ltb-true j (t s .columns) h, λ n. absurd (true≢false n))
 
--- a step that is not refused is one of columns that run
-pub acting-runs : (s : State) (x : Step) → refusalOf s x ≡ 0 → (j : ℕ) → acts s x j ≡ true → Running s j
-acting-runs s x e =
+-- a step that is not refused is one of columns of the bank
+pub acting-is : (s : State) (x : Step) → refusalOf s x ≡ 0 → (j : ℕ) → acts s x j ≡ true → Acting s x j
+acting-is s x e =
     let q = earlier-none (bankRefusal s) _ e in
-    own-runs s x (q .0) (earlier-none (ownRefusal s x) _ (q .1) .0)
+    own-acting s x (q .0) (earlier-none (ownRefusal s x) _ (q .1) .0)
 
 -- ---- who does not run, and what is unused
 
 module _ (s : State) (x : Step) (j : ℕ) where
-  idle-kept : (Running s j → ⊥) → columnAt (after (perform s x) .bank) j ≡ columnAt (s .bank) j
+  idle-kept : (Acting s x j → ⊥) → columnAt (after (perform s x) .bank) j ≡ columnAt (s .bank) j
   idle-kept idle = go (eqb (refusalOf s x) 0) refl
     where
       go : (b : Bool) → eqb (refusalOf s x) 0 ≡ b → columnAt (after (perform s x) .bank) j ≡ columnAt (s .bank) j
-      go true e = others-kept s x j (⊎-elim (λ a. absurd (idle (acting-runs s x (eqb-true (refusalOf s x) 0 e) j a))) (λ a. a) (truth (acts s x j)))
+      go true e = others-kept s x j (⊎-elim (λ a. absurd (idle (acting-is s x (eqb-true (refusalOf s x) 0 e) j a))) (λ a. a) (truth (acts s x j)))
       go false e = ap (λ (o : Outcome State). columnAt (after o .bank) j) (exact s x) ∙ rw e
 
-  -- "i stops for good": number, doors, sets, those noted and goal stay as they were
-  pub halted-kept : runs (s .bank) j ≡ false → columnAt (after (perform s x) .bank) j ≡ columnAt (s .bank) j
-  halted-kept h = idle-kept (λ r. true≢false (sym (r .1) ∙ h))
+  -- number, doors, sets, those noted and goal stay as they were, until a column comes back
+  pub halted-kept : isBack x ≡ false → runs (s .bank) j ≡ false → columnAt (after (perform s x) .bank) j ≡ columnAt (s .bank) j
+  halted-kept none h = idle-kept (λ a. true≢false (sym (a .1 none) ∙ h))
 
   -- "All sixteen places are held, whatever the count; unused ones never change."
   pub unused-kept : s .bank .tree .columns ≤ j → columnAt (after (perform s x) .bank) j ≡ columnAt (s .bank) j
-  unused-kept h = idle-kept (λ r. omega (arith, h, r .0))
+  unused-kept h = idle-kept (λ a. omega (arith, h, a .0))
+
+-- ---- a return
+
+module _ (s : State) (j : ℕ) (ok : refusalOf s (Back j) ≡ 0) where
+  goes : after (perform s (Back j)) ≡ state (returned (s .bank) j) (s .heads) (s .doors)
+  unfolding perform backRefusal
+  goes =
+      let q = earlier-none (bankRefusal s) _ ok in
+      rw (eq-eqb (bankRefusal s) 0 (q .0), eq-eqb (first (backConditions s j)) 0 (earlier-none (first (backConditions s j)) 0 (q .1) .0))
+
+  -- "all others strike it from those noted", halted ones too, and keep all else that they hold
+  pub others-struck : (k : ℕ) → (k ≡ j → ⊥) → k < s .bank .tree .columns
+      → columnAt (after (perform s (Back j)) .bank) k ≡ struck (columnAt (s .bank) k) j
+  others-struck k other h = ap (λ (u : State). columnAt (u .bank) k) goes ∙ place-struck (s .bank) j k other h
+
+  -- "The column runs with the record of the lowest running column .."
+  pub comes-back : j < length (s .bank .columns) → columnAt (after (perform s (Back j)) .bank) j ≡ comeBack (s .bank) j
+  comes-back h = ap (λ (u : State). columnAt (u .bank) j) goes ∙ place-mine (s .bank) j h

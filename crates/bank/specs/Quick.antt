@@ -3,16 +3,16 @@ use Prim.Native.Nat.{ℕ, zero, suc}
 use mathlib.Core.Bool.{Bool, not, _&&_, _||_, cond}
 use lib.Bits.{bitXor}
 use lib.Dec.{eqb, ltb}
-use Rattle.column.specs.Sets.{has, join, lowest, selected}
+use Rattle.column.specs.Sets.{has, join, lowest}
 use Rattle.column.specs.Trees.{choose}
 use Rattle.column.specs.Columns.{idle}
 use Rattle.column.specs.declared.tree.Tree.{Tree}
 use Rattle.column.specs.declared.state.Column.{Column}
 use Rattle.bank.specs.Words.{receiverIn}
-use Rattle.bank.specs.Banks.{columnAt, runs, capacity}
+use Rattle.bank.specs.Banks.{columnAt, haltedOf, capacity}
 use Rattle.bank.specs.declared.bank.Bank.{Bank}
 use Rattle.bank.specs.declared.step.Step.{Step}
-use Rattle.bank.specs.declared.step.Step.the-variants.{Order, Send, Take, Ack, All, Note, Halt}
+use Rattle.bank.specs.declared.step.Step.the-variants.{Order, Send, Take, Ack, All, Note, Halt, Back}
 
 -- the members of a that are none of b
 abbrev pub minus : ℕ → ℕ → ℕ
@@ -51,10 +51,6 @@ stepFrom b full halted i (suc k) = stepOf (b .tree) full halted i (columnAt b i)
 abbrev pub isFull : Bank → Bool
 isFull b = not (ltb (b .count) capacity)
 
--- the columns that do not run
-abbrev pub haltedOf : Bank → ℕ
-haltedOf b = selected (λ j. not (runs b j)) (b .tree .columns)
-
 abbrev pub quickTurn : Bank → Step
 quickTurn b = stepFrom b (isFull b) (haltedOf b) 0 (b .tree .columns)
 
@@ -67,3 +63,4 @@ actingIn (Note i j) oldest = i
 actingIn (Take place) oldest = receiverIn oldest
 actingIn (Order doors) oldest = receiverIn oldest
 actingIn (Halt m) oldest = receiverIn oldest
+actingIn (Back j) oldest = receiverIn oldest

@@ -25,15 +25,16 @@ use Rattle.column.specs.Steps as core
 use Rattle.column.specs.declared.tree.Tree.{Tree}
 use Rattle.column.specs.declared.state.Column.{Column}
 use Rattle.column.specs.declared.packet.Packet.the-variants.{Message}
-use Rattle.bank.specs.Banks.{State, columnAt, runs, capacity}
+use Rattle.bank.specs.Banks.{State, columnAt, runs, haltedOf, capacity}
 use Rattle.bank.specs.StandingLaws.{Stands, stands-passes}
-use Rattle.bank.specs.Steps.{accepted, perform, send, ack, all, note}
+use Rattle.bank.specs.Steps.{accepted, send, ack, all, note}
+use Rattle.bank.specs.Performs.{perform}
 use Rattle.bank.specs.Rest.{isRefused}
 use Rattle.bank.specs.RestSteps.{refuses, refused-exactly, then-refuses}
 use Rattle.bank.specs.Exact.{ownRefusal, raises, raised, overfull}
 use Rattle.bank.specs.declared.step.Step.{Step}
 use Rattle.bank.specs.declared.step.Step.the-variants.{Send, Ack, All, Note}
-use Rattle.bank.specs.Quick.{minus, fits, canSend, canAck, canTakeOver, isFull, haltedOf}
+use Rattle.bank.specs.Quick.{minus, fits, canSend, canAck, canTakeOver, isFull}
 use Rattle.bank.specs.declared.bank.Bank.{Bank}
 
 -- ---- sets

@@ -4,22 +4,23 @@ use Prim.Native.Nat.{ℕ, zero, suc, _+_, _-_, _≤_, _<_}
 use native.Mathlib.Omega.{arith}
 use mathlib.Core.Path.{_≡_, refl, sym, ap, subst, _∙_}
 use mathlib.Core.Bool.{Bool, true, false, cond, true≢false}
-use mathlib.Core.List.{List, [], _∷_}
+use mathlib.Core.List.{List}
 use lib.Dec.{eqb}
 use lib.ListN.{length, getD}
-use borrow.Author.Tests.{eq-eqb, eqb-true}
+use borrow.Author.Tests.{eqb-true}
 use Rattle.column.specs.TreeLaws.{tree-sixteen}
 use Rattle.column.specs.declared.tree.Tree.{Tree}
 use Rattle.bank.specs.Banks.{State, state, runs, bankRefusal}
 use Rattle.bank.specs.Standing.{stillStands}
 use Rattle.bank.specs.StandingLaws.{stands}
 use Rattle.bank.specs.StandingOn.{room-on, tree-on, runs-on, actor-on, stands-on}
-use Rattle.bank.specs.Steps.{Outcome, accepted, refused, answered, perform}
+use Rattle.bank.specs.Steps.{Outcome, accepted, refused, answered}
+use Rattle.bank.specs.Performs.{perform}
 use Rattle.bank.specs.Unchanged.{unchanged}
 use Rattle.bank.specs.Rest.{isRefused}
 use Rattle.bank.specs.RestSteps.{broken-refused}
 use Rattle.bank.specs.Places.{acts}
-use Rattle.bank.specs.Dispatch.{turn, onward, dispatched, dispatch}
+use Rattle.bank.specs.Dispatch.{turn, dispatched, dispatch}
 use Rattle.bank.specs.Quick.{quickTurn, actingIn}
 use Rattle.bank.specs.QuickTurn.{quick-turn}
 use Rattle.bank.specs.TurnLaws.{Turning, turning}

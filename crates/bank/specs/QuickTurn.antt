@@ -18,12 +18,13 @@ use Rattle.column.specs.Columns.{stateConditions, stateRefusal}
 use Rattle.column.specs.RefusalLaws.{passed}
 use Rattle.column.specs.declared.tree.Tree.{Tree}
 use Rattle.column.specs.declared.state.Column.{Column}
-use Rattle.bank.specs.Banks.{State, columnAt, runs, places}
+use Rattle.bank.specs.Banks.{State, columnAt, runs, haltedOf, places}
 use Rattle.bank.specs.StandingLaws.{Stands}
-use Rattle.bank.specs.Steps.{perform, send, ack, all}
+use Rattle.bank.specs.Steps.{send, ack, all}
+use Rattle.bank.specs.Performs.{perform}
 use Rattle.bank.specs.Rest.{isRefused}
 use Rattle.bank.specs.Dispatch.{offers, offered, firstAccepted, turn}
-use Rattle.bank.specs.Quick.{minus, canSend, canAck, canTakeOver, stepOf, stepFrom, isFull, haltedOf, quickTurn}
+use Rattle.bank.specs.Quick.{minus, canSend, canAck, canTakeOver, stepOf, stepFrom, isFull, quickTurn}
 use Rattle.bank.specs.declared.bank.Bank.{Bank}
 use Rattle.bank.specs.declared.step.Step.{Step}
 use Rattle.bank.specs.declared.step.Step.the-variants.{Send, Take, Ack, All, Note}

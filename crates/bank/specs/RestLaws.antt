@@ -17,7 +17,8 @@ use Rattle.column.specs.Steps.{sendConditions, ackConditions, allConditions, se
 use Rattle.column.specs.declared.tree.Tree.{Tree}
 use Rattle.column.specs.declared.state.Column.{Column}
 use Rattle.bank.specs.Banks.{State, state, columnAt, runs, freshBank, bankRefusal}
-use Rattle.bank.specs.Steps.{send, ack, all, note, perform}
+use Rattle.bank.specs.Steps.{send, ack, all, note}
+use Rattle.bank.specs.Performs.{perform}
 use Rattle.bank.specs.StandingLaws.{stands-passes, every-same}
 use Rattle.bank.specs.FreshLaws.{fresh-at, fresh-stands}
 use Rattle.bank.specs.Rest.{isRefused, Refused, Running, AtRest, quiet, atRest}

@@ -15,7 +15,8 @@ use Rattle.column.specs.Columns.{standing}
 use Rattle.column.specs.Steps as core
 use Rattle.column.specs.declared.state.Column.{Column}
 use Rattle.bank.specs.Banks.{State, columnAt, runs, capacity, bankRefusal}
-use Rattle.bank.specs.Steps.{accepted, refused, after, perform, send, ack, all, note, noteRefusal}
+use Rattle.bank.specs.Steps.{accepted, refused, after, send, ack, all, note, noteRefusal}
+use Rattle.bank.specs.Performs.{perform}
 use Rattle.bank.specs.Exact.{ownRefusal, raised, overfull, refusalOf}
 use Rattle.bank.specs.ExactLaws.{exact}
 use Rattle.bank.specs.Rest.{isRefused, Refused}

@@ -1,4 +1,4 @@
--- A bank that stands and takes a step that is no halt stands after it exactly where the column that acted does, and the newest packet:
+-- A bank that stands and takes a step of one column stands after it exactly where the column that acted does, and the newest packet:
 -- no other column is rewritten, every other packet was held before, and who runs is the same. Assumes nothing.
 use Prim.Native.Nat.{ℕ, _+_, _-_, _≤_, _<_}
 use mathlib.Core.Path.{_≡_, refl, sym, ap, ap₂, subst, _∙_}
@@ -10,7 +10,7 @@ use lib.Dec.{eqb, ltb}
 use lib.ListN.{getD}
 use lib.Seq.{getD-set-other}
 use borrow.Author.Tests.{eq-eqb, ne-eqb, eqb-true, eqb-false, ltb-true, ltb-false, not-false}
-use Rattle.column.specs.Cases.{truth, equal-cases, and-left, and-right, same-truth}
+use Rattle.column.specs.Cases.{truth, equal-cases, and-left, and-right, or-none, same-truth}
 use Rattle.column.specs.Sets.{has}
 use Rattle.column.specs.Packets.{receiver}
 use Rattle.column.specs.Columns.{stateRefusal}
@@ -28,13 +28,14 @@ use Rattle.bank.specs.Banks.{State, columnAt, runs, packetAt, columnStan
 use Rattle.bank.specs.Standing.{newestStands, stillStands}
 use Rattle.bank.specs.StandingLaws.{Stands, stands, stands-passes}
 use Rattle.bank.specs.Networks.{withPacket, put, puts, removed}
-use Rattle.bank.specs.Steps.{Outcome, accepted, refused, after, unless, withColumn, fitting, settled, acted, delivered, noteRefusal, takeRefusal, perform}
+use Rattle.bank.specs.Steps.{Outcome, accepted, refused, after, unless, withColumn, fitting, settled, acted, delivered, noteRefusal, takeRefusal}
+use Rattle.bank.specs.Performs.{perform}
 use Rattle.bank.specs.Exact.{refusalOf}
 use Rattle.bank.specs.Rest.{isRefused}
 use Rattle.bank.specs.RestSteps.{refused-exactly}
-use Rattle.bank.specs.Places.{acts, isHalt, one-acts, tree-kept, others-kept, acting-runs}
+use Rattle.bank.specs.Places.{acts, isHalt, isBack, ofMany, one-acts, tree-kept, others-kept, acting-is}
 use Rattle.bank.specs.declared.step.Step.{Step}
-use Rattle.bank.specs.declared.step.Step.the-variants.{Order, Send, Take, Ack, All, Note, Halt}
+use Rattle.bank.specs.declared.step.Step.the-variants.{Order, Send, Take, Ack, All, Note, Halt, Back}
 
 -- ---- what a step carries over: who runs, and the packets but for the newest
 
@@ -86,7 +87,7 @@ module _ (s u : State) (carried : Carried 0 s u) where
       go true = record { running = carried .running; older = held }
       go false = carried-none
 
--- ---- every step but a halt
+-- ---- every step of one column
 
 -- what is known after a step, where it is accepted
 abbrev Known : State → Outcome State → Type 0
@@ -133,7 +134,7 @@ module _ (s : State) where
   known-acted i n effect h =
       known-unless (actingRefusal s i) _ (known-settled s (carried-same s) i (core.unless n (at i) effect) (steady-cond (eqb n 0) (at i) effect (core.refused n (at i)) h tt))
 
-  known : (x : Step) → isHalt x ≡ false → Known s (perform s x)
+  known : (x : Step) → ofMany x ≡ false → Known s (perform s x)
   unfolding perform delivered core.orderEffect core.ackEffect core.allEffect core.noteEffect
   known (Order doors) e = let i = tree .root in known-acted i (core.orderRefusal tree i (at i)) (core.orderEffect tree i (at i) doors) refl
   known (Send i) e = known-acted i (core.sendRefusal tree i (at i)) (core.sendEffect tree i (at i)) (steady-send tree i (at i))
@@ -147,6 +148,7 @@ module _ (s : State) where
   known (All i) e = known-acted i (core.allRefusal tree i (at i)) (core.allEffect tree (at i)) refl
   known (Note i j) e = known-acted i (noteRefusal (s .bank) i j) (core.noteEffect tree (at i) j) refl
   known (Halt m) e = absurd (true≢false e)
+  known (Back j) e = absurd (true≢false e)
 
 -- ---- the test is enough, and no more than is needed
 
@@ -160,7 +162,7 @@ stands-still s i w h = ap₂ _&&_ (eq-eqb _ 0 (w .columns i h)) (go (eqb (s .ban
     go true e = refl
     go false e = let some = eqb-false (s .bank .count) 0 e in packet-stands s w (s .bank .count - 1) (omega (arith, some))
 
-module _ (s : State) (x : Step) (s' : State) (i : ℕ) (moves : isHalt x ≡ false) (good : bankRefusal s ≡ 0) (done : perform s x ≡ accepted s')
+module _ (s : State) (x : Step) (s' : State) (i : ℕ) (moves : ofMany x ≡ false) (good : bankRefusal s ≡ 0) (done : perform s x ≡ accepted s')
     (actor : acts s x i ≡ true) where
   before : Stands s
   before = stands s good
@@ -185,7 +187,8 @@ module _ (s : State) (x : Step) (s' : State) (i : ℕ) (moves : isHalt x ≡ fal
   pub actor-on : (i < s .bank .tree .columns) × (runs (s .bank) i ≡ true)
   actor-on =
       let none : refusalOf s x ≡ 0 = eqb-true (refusalOf s x) 0 (not-false (eqb (refusalOf s x) 0) (sym (refused-exactly s x) ∙ ap isRefused done)) in
-      acting-runs s x none i actor
+      let z = acting-is s x none i actor in
+      (z .0, z .1 (or-none (isHalt x) (isBack x) moves))
 
   actor-below : i < s' .bank .tree .columns
   actor-below = subst (λ (t : Tree). i < t .columns) (sym tree-on) (actor-on .0)

@@ -17,7 +17,8 @@ use Rattle.bank.specs.Banks.{State, state, capacity, places, freshPlace,
 use Rattle.bank.specs.StandingLaws.{Stands, stands}
 use Rattle.bank.specs.Networks.{counting, withPacket, put, puts}
 use Rattle.bank.specs.NetworkLaws.{packetsOf, put-meant}
-use Rattle.bank.specs.Steps.{refused, after, withColumn, perform, fitting, acted}
+use Rattle.bank.specs.Steps.{refused, after, withColumn, fitting, acted}
+use Rattle.bank.specs.Performs.{perform}
 use Rattle.bank.specs.declared.step.Step.the-variants.{Send}
 
 abbrev message : Packet

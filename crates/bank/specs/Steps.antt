@@ -19,8 +19,6 @@ use Rattle.bank.specs.declared.bank.Bank.{Bank}
 use Rattle.bank.specs.declared.bank.Answer.{Answer}
 use Rattle.bank.specs.declared.bank.Answer.the-variants.{Done, Refused}
 use Rattle.bank.specs.declared.bank.Result.{Result}
-use Rattle.bank.specs.declared.step.Step.{Step}
-use Rattle.bank.specs.declared.step.Step.the-variants.{Order, Send, Take, Ack, All, Note, Halt}
 
 -- ---- what a call gives
 
@@ -112,13 +110,16 @@ delivered s place p =
 abbrev pub take : State → ℕ → Outcome State
 take s place = unless (takeRefusal s place) s (delivered s place (packetAt s place))
 
--- the places from k on, with every member stopped
-unfoldable pub stopping : (ℕ → Bool) → ℕ → List Column → List Column
-stopping member k [] = []
-stopping member k (c ∷ l) = cond (member k) (stopped c) c ∷ stopping member (suc k) l
+-- the places from k on, with every member's column rewritten
+unfoldable pub rewriting : (Column → Column) → (ℕ → Bool) → ℕ → List Column → List Column
+rewriting f member k [] = []
+rewriting f member k (c ∷ l) = cond (member k) (f c) c ∷ rewriting f member (suc k) l
+
+abbrev pub withRewritten : (Column → Column) → Bank → (ℕ → Bool) → Bank
+withRewritten f b member = record { tree = b .tree; columns = rewriting f member 0 (b .columns); count = b .count }
 
 abbrev pub withStopped : Bank → (ℕ → Bool) → Bank
-withStopped b member = record { tree = b .tree; columns = stopping member 0 (b .columns); count = b .count }
+withStopped = withRewritten stopped
 
 unfoldable pub halted : State → (ℕ → Bool) → State
 halted s member =
@@ -142,13 +143,3 @@ haltRefusal s m = earlier (bankRefusal s) (first (haltConditions s m))
 -- "`halt=` takes a list of one or more columns .., and all of them halt in the same step": the set of them
 abbrev pub halt : State → ℕ → Outcome State
 halt s m = unless (haltRefusal s m) s (accepted (halted s (has m)))
-
--- one step, whichever it is
-unfoldable pub perform : State → Step → Outcome State
-perform s (Order doors) = order s doors
-perform s (Send i) = send s i
-perform s (Take place) = take s place
-perform s (Ack i) = ack s i
-perform s (All i) = all s i
-perform s (Note i j) = note s i j
-perform s (Halt m) = halt s m

@@ -21,8 +21,8 @@ use Rattle.bank.specs.Banks.{State, state, columnAt, runs, packetAt}
 use Rattle.bank.specs.Networks.{only, elsewhere, vanished, counting}
 use Rattle.bank.specs.NetworkLaws.{Whole, vanished-whole}
 use Rattle.bank.specs.StandingLaws.{Stands}
-use Rattle.bank.specs.Steps.{stopping, halted, withColumn}
-use Rattle.bank.specs.Stopping.{stopping-twice, stopping-none, stopping-one, stopping-at}
+use Rattle.bank.specs.Steps.{rewriting, halted, withColumn}
+use Rattle.bank.specs.Rewriting.{rewriting-twice, rewriting-none, rewriting-one, rewriting-at}
 
 module _ (s : State) (w : Whole s) where
   abbrev count : ℕ
@@ -81,7 +81,7 @@ module _ (s : State) (w : Whole s) where
     unfolding halted vanished
     halted-twice = λ t.
         let v = vanished-twice t in
-        state (record { tree = s .bank .tree; columns = stopping-twice p q 0 (s .bank .columns) t; count = v .bank .count }) (v .heads) (v .doors)
+        state (record { tree = s .bank .tree; columns = rewriting-twice stopped p q (λ j c h k. refl) 0 (s .bank .columns) t; count = v .bank .count }) (v .heads) (v .doors)
 
   pub vanished-none : count ≤ 512 → vanished s (λ j. false) ≡ s
   unfolding vanished
@@ -99,7 +99,7 @@ module _ (s : State) (w : Whole s) where
   unfolding halted vanished
   halted-none l = λ t.
       let v = vanished-none l t in
-      state (record { tree = s .bank .tree; columns = stopping-none 0 (s .bank .columns) t; count = v .bank .count }) (v .heads) (v .doors)
+      state (record { tree = s .bank .tree; columns = rewriting-none stopped 0 (s .bank .columns) t; count = v .bank .count }) (v .heads) (v .doors)
 
 -- one member is the core's column in its place
 pub halted-one : (s : State) (i : ℕ) → halted s (only i) ≡ withColumn (vanished s (only i)) i (stopped (columnAt (s .bank) i))
@@ -107,7 +107,7 @@ unfolding halted vanished
 halted-one s i = λ t.
     let e : i ≡ 0 + i = omega arith in
     let v = vanished s (only i) in
-    state (record { tree = s .bank .tree; columns = (ap (λ n. stopping (only n) 0 (s .bank .columns)) e ∙ stopping-one i 0 (s .bank .columns)) t; count = v .bank .count }) (v .heads) (v .doors)
+    state (record { tree = s .bank .tree; columns = (ap (λ n. rewriting stopped (only n) 0 (s .bank .columns)) e ∙ rewriting-one stopped i 0 (s .bank .columns)) t; count = v .bank .count }) (v .heads) (v .doors)
 
 -- ---- a bank that stands still stands with members stopped
 
@@ -145,7 +145,7 @@ module _ (s : State) (p : ℕ → Bool) where
   column-at j =
       let e : 0 + j ≡ j = omega arith in
       let c = columnAt (s .bank) j in
-      stopping-at p 0 (s .bank .columns) j ∙ ap (λ n. cond (p n) (stopped c) c) e
+      rewriting-at stopped refl p 0 (s .bank .columns) j ∙ ap (λ n. cond (p n) (stopped c) c) e
 
   pub still-runs : (j : ℕ) → p j ≡ false → runs (halted s p .bank) j ≡ runs (s .bank) j
   still-runs j e =

@@ -12,7 +12,7 @@ use Rattle.bank.specs.Networks.{only, vanished}
 use Rattle.bank.specs.NetworkLaws.{Whole}
 use Rattle.bank.specs.Steps.{Outcome, accepted, refused, unless, settled, haltRefusal, halt}
 
--- "i stops for good; packets to it vanish": one column, by the core
+-- "i stops ..; packets to it vanish": one column, by the core
 abbrev pub haltOne : State → ℕ → Outcome State
 haltOne s i =
     unless (actingRefusal s i) s (settled s (vanished s (only i)) i (core.halt (s .bank .tree) i (columnAt (s .bank) i)))

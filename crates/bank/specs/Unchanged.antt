@@ -7,7 +7,8 @@ use native.Mathlib.Omega.{arith}
 use lib.Dec.{eqb}
 use borrow.Author.Tests.{ne-eqb}
 use Rattle.bank.specs.Banks.{State, bankRefusal}
-use Rattle.bank.specs.Steps.{accepted, refused, after, perform}
+use Rattle.bank.specs.Steps.{accepted, refused, after}
+use Rattle.bank.specs.Performs.{perform}
 use Rattle.bank.specs.Exact.{refusalOf}
 use Rattle.bank.specs.ExactLaws.{exact}
 use Rattle.bank.specs.declared.step.Step.{Step}

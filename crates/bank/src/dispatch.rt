@@ -2,12 +2,13 @@
 use crate::bank::Answer;
 use crate::bank::Bank;
 use crate::bank::CAPACITY;
+use crate::running::halted;
+use crate::running::running;
 use crate::settling::Change;
 use crate::settling::column_at;
 use crate::settling::settle;
 use crate::settling::unchanged;
 use crate::standing::bank_refusal;
-use crate::standing::running;
 use crate::standing::still_stands;
 use crate::step::Step;
 use crate::step::core_step;
@@ -20,10 +21,10 @@ use column::state::Column;
 use column::tree::Tree;
 ghost use mathlib.Core.Path.{_≡_};
 ghost use Prim.Native.Nat.{_≤_, _<_};
-ghost use Rattle.bank.specs.Banks.{state, bankRefusal};
+ghost use Rattle.bank.specs.Banks.{state, haltedOf, bankRefusal};
 ghost use Rattle.bank.specs.Dispatch.{dispatch, dispatchOutcome};
 ghost use Rattle.bank.specs.Steps.{accepted};
-ghost use Rattle.bank.specs.Quick.{fits, canSend, canAck, canTakeOver, haltedOf, quickTurn, actingIn};
+ghost use Rattle.bank.specs.Quick.{fits, canSend, canAck, canTakeOver, quickTurn, actingIn};
 ghost use Rattle.bank.specs.Turns.{isTake, TakesTurn};
 ghost use Rattle.bank.specs.Offers.{Offers, isRefusal};
 ghost use Rattle.bank.specs.Dispatches.{Dispatches, Ended};
@@ -38,25 +39,6 @@ pub struct Dispatched {
     pub answer: Answer,
     pub bank: Bank,
     pub steps: usize,
-}
-
-// The set of columns that do not run.
-fn halted(b: Bank) -> u16
-    requires { ⌜ b .tree .columns ≤ 16 ⌝ }
-    ensures { λ r. ⌜ r ≡ haltedOf b ⌝ }
-{
-    let t = b.tree;
-    let n = t.columns;
-    let mut set: u16 = 0;
-    let mut i: usize = 0;
-    while i < n {
-        let c = b.columns[i];
-        if !c.running {
-            set = set | (1u16 << i);
-        }
-        i += 1;
-    }
-    set
 }
 
 fn fits(full: bool, halted: u16, j: usize) -> bool
@@ -161,6 +143,7 @@ fn acting(x: Step, oldest: u64) -> usize
         Step::Take(_) => to,
         Step::Order(_) => to,
         Step::Halt(_) => to,
+        Step::Back(_) => to,
     }
 }
 
@@ -185,6 +168,7 @@ fn is_take(x: Step) -> bool
         Step::All(_) => false,
         Step::Note(_, _) => false,
         Step::Halt(_) => false,
+        Step::Back(_) => false,
     }
 }
 

@@ -3,6 +3,8 @@ pub mod bank;
 pub mod dispatch;
 mod network;
 pub mod rest;
+mod returning;
+mod running;
 mod settling;
 pub mod standing;
 pub mod step;

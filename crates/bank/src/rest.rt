@@ -44,7 +44,8 @@ fn column_rests(b: Bank, i: usize) -> bool
         & all_noted(b, i, c)
 }
 
-fn columns_rest(b: Bank) -> bool
+// Nobody can do anything, where the bank stands and no packet is under way.
+pub(crate) fn columns_rest(b: Bank) -> bool
     requires { ⌜ b .tree .columns ≤ 16 ⌝ }
     ensures { λ r. ⌜ r ≡ columnsRest b ⌝ }
 {

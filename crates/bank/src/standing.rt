@@ -1,6 +1,7 @@
 // What every step tests first: the tree, then row 4 of every column and of every packet.
 use crate::bank::Bank;
 use crate::bank::CAPACITY;
+use crate::running::running;
 use crate::words::ACKNOWLEDGING;
 use crate::words::receiver_in;
 use crate::words::sender_in;
@@ -12,9 +13,8 @@ use column::tree::tree_refusal;
 ghost use mathlib.Core.Path.{_≡_};
 ghost use Prim.Native.Nat.{ℕ, _≤_};
 ghost use lib.ListN.{getD};
-ghost use Rattle.column.specs.Sets.{selected};
 ghost use Rattle.column.specs.Trees.{every};
-ghost use Rattle.bank.specs.Banks.{runs, columnsStand};
+ghost use Rattle.bank.specs.Banks.{columnsStand};
 ghost use Rattle.bank.specs.Standing.{headStands, RefusesBank, RefusesActing};
 ghost use Rattle.bank.specs.Changes.{TellsNewest, TellsStill};
 
@@ -32,25 +32,6 @@ fn columns_stand(b: Bank) -> bool
         i += 1;
     }
     stand
-}
-
-// The set of columns that run.
-pub(crate) fn running(b: Bank) -> u16
-    requires { ⌜ b .tree .columns ≤ 16 ⌝ }
-    ensures { λ r. ⌜ r ≡ selected (runs b) (b .tree .columns) ⌝ }
-{
-    let t = b.tree;
-    let n = t.columns;
-    let mut set: u16 = 0;
-    let mut i: usize = 0;
-    while i < n {
-        let c = b.columns[i];
-        if c.running {
-            set = set | (1u16 << i);
-        }
-        i += 1;
-    }
-    set
 }
 
 // Row 4 of a packet, by its head.

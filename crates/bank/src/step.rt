@@ -2,6 +2,8 @@
 use crate::bank::Bank;
 use crate::bank::Result;
 use crate::network::vanish;
+use crate::returning::bring_back;
+use crate::running::running;
 use crate::settling::Change;
 use crate::settling::column_at;
 use crate::settling::done;
@@ -10,7 +12,6 @@ use crate::settling::settle;
 use crate::settling::settle_taken;
 use crate::settling::store;
 use crate::standing::bank_refusal;
-use crate::standing::running;
 use crate::strip::halt_refusal;
 use crate::strip::stop;
 use crate::words::packet;
@@ -30,8 +31,10 @@ ghost use Prim.Native.Nat.{_≤_, _<_};
 ghost use Rattle.column.specs.Steps.{meant, refused};
 ghost use Rattle.bank.specs.Banks.{state, bankRefusal};
 ghost use Rattle.bank.specs.Changes.{isOwn, StepsCore, Takes};
+ghost use Rattle.bank.specs.Performs.{perform};
 ghost use Rattle.bank.specs.Places.{acts};
-ghost use Rattle.bank.specs.Steps.{outcome, order, send, take, ack, all, note, halt, perform};
+ghost use Rattle.bank.specs.Returns.{back};
+ghost use Rattle.bank.specs.Steps.{outcome, order, send, take, ack, all, note, halt};
 ghost use Rattle.bank.specs.declared.step.Step.the-variants.{Note};
 
 pub enum Step {
@@ -42,6 +45,7 @@ pub enum Step {
     All(usize),
     Note(usize, usize),
     Halt(u32),
+    Back(usize),
 }
 
 // The core believes that the column to note is halted; the bank tests it.
@@ -80,6 +84,7 @@ pub(crate) fn core_step(t: Tree, running: u16, x: Step, i: usize, c: Column) -> 
         Step::Note(_, j) => noted(t, running, i, c, j),
         Step::Take(_) => no_step(c),
         Step::Halt(_) => no_step(c),
+        Step::Back(_) => no_step(c),
     }
 }
 
@@ -159,7 +164,7 @@ fn halt_columns(b: Bank, n: u8, m: u32, heads: &mut [u64; 512], doors: &mut [u64
     done(stop(vanish(b, m, heads, doors), m))
 }
 
-// The bank after any of the seven steps.
+// The bank after any of the eight steps.
 pub fn perform(b: Bank, x: Step, heads: &mut [u64; 512], doors: &mut [u64; 512]) -> Result
     ensures { λ r. ⌜ outcome r (now (heads .exit)) (now (doors .exit)) ≡ perform (state b (now (heads .entry)) (now (doors .entry))) x ⌝ }
 {
@@ -173,6 +178,7 @@ pub fn perform(b: Bank, x: Step, heads: &mut [u64; 512], doors: &mut [u64; 512])
         Step::All(i) => act(b, n, x, i, heads, doors),
         Step::Note(i, _) => act(b, n, x, i, heads, doors),
         Step::Halt(m) => halt_columns(b, n, m, heads, doors),
+        Step::Back(j) => bring_back(b, n, j),
     }
 }
 
@@ -223,4 +229,11 @@ pub fn halt(b: Bank, m: u32, heads: &mut [u64; 512], doors: &mut [u64; 512]) -> 
     ensures { λ r. ⌜ outcome r (now (heads .exit)) (now (doors .exit)) ≡ halt (state b (now (heads .entry)) (now (doors .entry))) m ⌝ }
 {
     perform(b, Step::Halt(m), heads, doors)
+}
+
+// The bank with halted column j running again.
+pub fn back(b: Bank, j: usize, heads: &[u64; 512], doors: &[u64; 512]) -> Result
+    ensures { λ r. ⌜ outcome r (now (heads .entry)) (now (doors .entry)) ≡ back (state b (now (heads .entry)) (now (doors .entry))) j ⌝ }
+{
+    bring_back(b, bank_refusal(b, heads), j)
 }

@@ -18,7 +18,8 @@ use Rattle.bank.specs.Lists.{closedUp}
 use Rattle.bank.specs.Banks.{State, state, columnAt, packetAt, capacity, places, freshPlace, freshBank, bankRefusal}
 use Rattle.bank.specs.Networks.{put, puts, withPacket}
 use Rattle.bank.specs.Steps as bank
-use Rattle.bank.specs.Steps.{Outcome, accepted, after, withColumn, perform, fitting, acted, delivered}
+use Rattle.bank.specs.Steps.{Outcome, accepted, after, withColumn, fitting, acted, delivered}
+use Rattle.bank.specs.Performs.{perform}
 use Rattle.bank.specs.Rest.{AtRest}
 use Rattle.bank.specs.RestLaws.{fresh-rests}
 use Rattle.bank.specs.declared.step.Step.the-variants.{Order, Take}

@@ -3,7 +3,7 @@ use Prim.Native.String.{String}
 use mathlib.Core.Path.{_≡_, refl}
 use mathlib.Core.List.{List, [], _∷_, map}
 use Rattle.column.specs.Packets.{lowValue}
-use Rattle.bank.specs.declared.step.Step.the-variants.{Order, Send, Take, Ack, All, Note, Halt}
+use Rattle.bank.specs.declared.step.Step.the-variants.{Order, Send, Take, Ack, All, Note, Halt, Back}
 use Rattle.closing.specs.Text.{bytes, Reading, read, unread, allDigits, valueFrom, leadingZero, numeral, startsWith, afterKey}
 use Rattle.closing.specs.Tables.{longer, pieces, withNumber, numerals, numeralIn}
 use Rattle.closing.specs.Lines.{Command, perform, list, dispatch, allHexadecimal, hexadecimalBytes, doorsIn, asking, noteOf, noteOfPieces, noteIn, withMembers, haltAfter, haltIn, orElse, commandOf}
@@ -24,11 +24,13 @@ lines =
     ∷ ("ack=15", read (perform (Ack 15)))
     ∷ ("all=3", read (perform (All 3)))
     ∷ ("halt=0", read (perform (Halt 1)))
+    ∷ ("back=2", read (perform (Back 2)))
     ∷ ("list=0", read (list 0))
     ∷ ("send=100", unread)
     ∷ ("send=01", unread)
     ∷ ("send= 0", unread)
     ∷ ("send=", unread)
+    ∷ ("back=1,2", unread)
     ∷ ("SEND=0", unread)
     -- "a list of one or more columns divided by commas": the set of them, 65536 for numbers that no bank has
     ∷ ("halt=1,2", read (perform (Halt 6)))

@@ -15,8 +15,8 @@ use Rattle.column.specs.Cases.{truth, none-and}
 use Rattle.column.specs.Sets.{has, insert}
 use Rattle.column.specs.SetLaws.{has-none, has-insert}
 use Rattle.bank.specs.Strips.{among}
-use Rattle.bank.specs.declared.step.Step.the-variants.{Send, Take, Ack, All, Halt}
-use Rattle.closing.specs.Text.{orderKey, sendKey, takeKey, ackKey, allKey, noteKey, haltKey, listKey, runKey, comma, Reading, read, unread, isDigit, allDigits, valueFrom, leadingZero, numeral, startsWith, afterKey}
+use Rattle.bank.specs.declared.step.Step.the-variants.{Send, Take, Ack, All, Halt, Back}
+use Rattle.closing.specs.Text.{orderKey, sendKey, takeKey, ackKey, allKey, noteKey, haltKey, backKey, listKey, runKey, comma, Reading, read, unread, isDigit, allDigits, valueFrom, leadingZero, numeral, startsWith, afterKey}
 use Rattle.closing.specs.Tables.{pieces, withNumber, numerals, numeralIn, keyed}
 use Rattle.closing.specs.Lines.{Command, perform, list, dispatch, asking, doorsIn, noteOf, noteOfPieces, noteIn, memberOf, withMembers, haltAfter, haltIn, orElse, commandOf}
 use Rattle.closing.specs.Readings.{starts-length, rest-of}
@@ -30,6 +30,7 @@ asked asked-is.Send n = perform (Send n)
 asked asked-is.Take n = perform (Take n)
 asked asked-is.Ack n = perform (Ack n)
 asked asked-is.All n = perform (All n)
+asked asked-is.Back n = perform (Back n)
 asked asked-is.List n = list n
 asked asked-is.Run n = dispatch n
 
@@ -59,15 +60,16 @@ module _ (l : List ℕ) where
     starts-few allKey l (omega arith),
     starts-few noteKey l (omega arith),
     starts-few haltKey l (omega arith),
+    starts-few backKey l (omega arith),
     starts-few listKey l (omega arith),
     starts-few runKey l (omega arith),
   )
 
   pub other-line : (getD l 0 0 ≡ 111 → ⊥) → (getD l 0 0 ≡ 115 → ⊥) → (getD l 0 0 ≡ 116 → ⊥) → (getD l 0 0 ≡ 97 → ⊥)
-      → (getD l 0 0 ≡ 110 → ⊥) → (getD l 0 0 ≡ 104 → ⊥) → (getD l 0 0 ≡ 108 → ⊥) → (getD l 0 0 ≡ 114 → ⊥)
+      → (getD l 0 0 ≡ 110 → ⊥) → (getD l 0 0 ≡ 104 → ⊥) → (getD l 0 0 ≡ 98 → ⊥) → (getD l 0 0 ≡ 108 → ⊥) → (getD l 0 0 ≡ 114 → ⊥)
       → commandOf l ≡ unread
   unfolding commandOf afterKey asking doorsIn noteIn haltIn orElse numeralIn
-  other-line o s t a n h i r = rw (
+  other-line o s t a n h b i r = rw (
     starts-not 111 (drop 1 orderKey) l o,
     starts-not 115 (drop 1 sendKey) l s,
     starts-not 116 (drop 1 takeKey) l t,
@@ -75,6 +77,7 @@ module _ (l : List ℕ) where
     starts-not 97 (drop 1 allKey) l a,
     starts-not 110 (drop 1 noteKey) l n,
     starts-not 104 (drop 1 haltKey) l h,
+    starts-not 98 (drop 1 backKey) l b,
     starts-not 108 (drop 1 listKey) l i,
     starts-not 114 (drop 1 runKey) l r,
   )
@@ -115,6 +118,10 @@ note-line = first-byte 110 _ (omega arith) (λ l. or-unread _)
 pub halt-line : (l : List ℕ) → getD l 0 0 ≡ 104 → commandOf l ≡ haltIn (afterKey haltKey l)
 unfolding commandOf startsWith afterKey asking doorsIn noteIn haltIn orElse numeralIn
 halt-line = first-byte 104 _ (omega arith) (λ l. or-unread _)
+
+pub back-line : (l : List ℕ) → getD l 0 0 ≡ 98 → commandOf l ≡ asking (asked asked-is.Back) (keyed backKey 2 l)
+unfolding commandOf startsWith afterKey asking doorsIn noteIn haltIn orElse numeralIn
+back-line = first-byte 98 _ (omega arith) (λ l. or-unread _)
 
 pub list-line : (l : List ℕ) → getD l 0 0 ≡ 108 → commandOf l ≡ asking (asked asked-is.List) (keyed listKey 2 l)
 unfolding commandOf startsWith afterKey asking doorsIn noteIn haltIn orElse numeralIn

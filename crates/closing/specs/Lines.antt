@@ -7,8 +7,8 @@ use lib.ListN.{length}
 use Rattle.column.specs.Sets.{insert}
 use Rattle.column.specs.Packets.{lowValue}
 use Rattle.bank.specs.declared.step.Step.{Step}
-use Rattle.bank.specs.declared.step.Step.the-variants.{Order, Send, Take, Ack, All, Note, Halt}
-use Rattle.closing.specs.Text.{orderKey, sendKey, takeKey, ackKey, allKey, noteKey, haltKey, listKey, runKey, Reading, read, unread, isDigit, numeral, afterKey}
+use Rattle.bank.specs.declared.step.Step.the-variants.{Order, Send, Take, Ack, All, Note, Halt, Back}
+use Rattle.closing.specs.Text.{orderKey, sendKey, takeKey, ackKey, allKey, noteKey, haltKey, backKey, listKey, runKey, Reading, read, unread, isDigit, numeral, afterKey}
 use Rattle.closing.specs.Tables.{pieces, numerals, keyed}
 use Rattle.closing.specs.declared.line.Line as line
 use Rattle.closing.specs.declared.line.Line.the-variants as line-is
@@ -49,8 +49,8 @@ doorsIn (read l) =
     cond (eqb (length l) 16 && allHexadecimal l) (read (perform (Order (lowValue (hexadecimalBytes l))))) unread
 doorsIn unread = unread
 
--- ---- "with a column", "`note=` with two divided by a comma", "`take=` with a place of one to three digits"; of `run=` "The limit numeral has
--- up to four digits, no leading zero."
+-- ---- "with a column", and document 02's "`back=` with a column"; "`note=` with two divided by a comma", "`take=` with a place of one to three
+-- digits"; of `run=` "The limit numeral has up to four digits, no leading zero."
 
 unfoldable pub asking : (ℕ → Command) → Reading ℕ → Reading Command
 asking command (read n) = read (command n)
@@ -106,5 +106,6 @@ commandOf l =
     (orElse (asking (λ i. perform (All i)) (keyed allKey 2 l))
     (orElse (noteIn (afterKey noteKey l))
     (orElse (haltIn (afterKey haltKey l))
+    (orElse (asking (λ j. perform (Back j)) (keyed backKey 2 l))
     (orElse (asking list (keyed listKey 2 l))
-    (asking dispatch (keyed runKey 4 l)))))))))
+    (asking dispatch (keyed runKey 4 l))))))))))

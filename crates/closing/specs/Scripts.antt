@@ -5,7 +5,8 @@ use mathlib.Core.List.{List, [], _∷_, _++_}
 use lib.Dec.{eqb, ltb}
 use lib.ListN.{length, drop, replicate}
 use Rattle.bank.specs.Banks.{State, state, columnAt, capacity, freshBank}
-use Rattle.bank.specs.Steps.{Outcome, accepted, refused, after, perform}
+use Rattle.bank.specs.Steps.{Outcome, accepted, refused, after}
+use Rattle.bank.specs.Performs.{perform}
 use Rattle.bank.specs.Rest.{atRest}
 use Rattle.bank.specs.Dispatch.{dispatched, dispatchOutcome}
 use Rattle.closing.specs.Text.{stepsKey, refusedKey, tableOk, stepOk, restYes, restNo, field, Reading, read, unread}

@@ -60,6 +60,9 @@ noteKey = bytes "note="
 abbrev pub haltKey : List ℕ
 haltKey = bytes "halt="
 
+abbrev pub backKey : List ℕ
+backKey = bytes "back="
+
 abbrev pub listKey : List ℕ
 listKey = bytes "list="
 

@@ -31,6 +31,7 @@ enum Asked {
     Take,
     Ack,
     All,
+    Back,
     List,
     Run,
 }
@@ -43,6 +44,7 @@ fn command(kind: Asked, n: usize) -> Line
         Asked::Take => Line::Perform(Step::Take(n)),
         Asked::Ack => Line::Perform(Step::Ack(n)),
         Asked::All => Line::Perform(Step::All(n)),
+        Asked::Back => Line::Perform(Step::Back(n)),
         Asked::List => Line::List(n),
         Asked::Run => Line::Dispatch(n),
     }
@@ -144,6 +146,7 @@ pub fn parse(line: &[u8]) -> Line
         },
         b'n' => note(line),
         b'h' => halt(line),
+        b'b' => numbered(line, b"back=", 2, Asked::Back),
         b'l' => numbered(line, b"list=", 2, Asked::List),
         b'r' => numbered(line, b"run=", 4, Asked::Run),
         _ => Line::Unread,

@@ -22,7 +22,7 @@ ghost use Prim.Native.Nat.{_≤_, _<_};
 ghost use mathlib.Core.Path.{_≡_};
 ghost use lib.ListN.{length};
 ghost use Rattle.bank.specs.Banks.{state};
-ghost use Rattle.bank.specs.Steps.{perform};
+ghost use Rattle.bank.specs.Performs.{perform};
 ghost use Rattle.closing.specs.Lines.{commandOf};
 ghost use Rattle.closing.specs.Scripts.{refusedText, stepsText, restText, answered};
 ghost use Rattle.closing.specs.Advances.{progressOf, startRun, Advanced, laterAdvance, advance};

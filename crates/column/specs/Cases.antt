@@ -37,6 +37,10 @@ pub or-cases : (a b : Bool) → (a || b) ≡ true → (a ≡ true) ⊎ (b ≡ tr
 or-cases true b e = inl refl
 or-cases false b e = inr e
 
+pub or-none : (a b : Bool) → (a || b) ≡ false → b ≡ false
+or-none true b e = absurd (true≢false e)
+or-none false b e = e
+
 pub and-left : (a b : Bool) → (a && b) ≡ true → a ≡ true
 and-left true b e = refl
 and-left false b e = e

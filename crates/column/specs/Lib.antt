@@ -15,6 +15,7 @@ pub mod Descents
 pub mod SubtreeLaws
 pub mod TreeExamples
 pub mod Columns
+pub mod Returns
 pub mod Packets
 pub mod PacketLaws
 pub mod PacketExamples

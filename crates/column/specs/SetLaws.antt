@@ -2,14 +2,14 @@
 -- Assumes nothing.
 use Prim.Native.Nat.{ℕ, zero, suc, _+_, _/_, _%_, _^_, _≤_, _<_, max}
 use mathlib.Core.Path.{_≡_, refl, sym, ap, ap₂, _∙_}
-use mathlib.Core.Bool.{Bool, true, false, not, _&&_, _||_, cond, and-true, and-false, or-false, and-or-distrib-left}
+use mathlib.Core.Bool.{Bool, true, false, not, _&&_, _||_, cond, and-true, and-false, or-true, or-false, and-or-distrib-left}
 use mathlib.Core.Logic.{_⊎_, inl, inr}
-use native.Mathlib.Nat.{pow-suc, div-lt-iff-lt-mul, div-eq-of-lt, le-refl}
+use native.Mathlib.Nat.{pow-suc, div-lt-iff-lt-mul, div-eq-of-lt, le-refl, lt-of-lt-of-le}
 use native.Mathlib.Omega.{arith}
 use lib.Dec.{eqb}
 use lib.Bits.{bitAnd, bitOr, and-le-l, and-le-r, bitXor, differ, or-lt, xor-lt, or-zero-l, or-zero-r, xor-zero-r, or-add-and, or-shr}
 use lib.Count.{trailingZeros, under, ones, ones-step}
-use lib.Pow.{pow-pos, pow-lt}
+use lib.Pow.{pow-pos, pow-lt, pow-mono}
 use borrow.Author.Tests.{eq-eqb, ne-eqb, eqb-true}
 use Rattle.column.specs.Cases.{compare-cases, equal-cases}
 use Rattle.column.specs.Sets.{digit, has, single, join, insert, without, lowestIn, within, selected}
@@ -136,6 +136,28 @@ same-members k a b ha hb e = same-digits k a b ha hb (λ i l. go i l (digit-case
 
 pub no-members : (k m : ℕ) → m < 2 ^ k → ((i : ℕ) → i < k → has m i ≡ false) → m ≡ 0
 no-members k m h e = same-members k m 0 h (pow-pos k) (λ i l. e i l ∙ sym (has-none i))
+
+-- striking out one that is no member changes nothing
+pub without-none : (k m i : ℕ) → m < 2 ^ k → has m i ≡ false → without m i ≡ m
+without-none k m i h e =
+    let wide = k + i + 1 in
+    let below : k ≤ wide = omega arith in
+    let l : m < 2 ^ wide = lt-of-lt-of-le h (pow-mono below) in
+    same-members wide (without m i) m (without-lt wide m i l (omega arith)) l (λ j _. go j (equal-cases j i))
+  where
+    go : (j : ℕ) → (j ≡ i) ⊎ (j ≡ i → ⊥) → has (without m i) j ≡ has m j
+    go j (inl z) = ap (has (without m i)) z ∙ has-without-self m i ∙ sym (ap (has m) z ∙ e)
+    go j (inr z) = has-without-other m i j z
+
+-- a member that is struck out and comes in again
+pub insert-without : (k m i : ℕ) → m < 2 ^ k → i < k → has m i ≡ true → insert (without m i) i ≡ m
+insert-without k m i h l e =
+    same-members k (insert (without m i) i) m (insert-lt k (without m i) i (without-lt k m i h l) l) h (λ j _. has-insert (without m i) i j ∙ go j (equal-cases j i))
+  where
+    go : (j : ℕ) → (j ≡ i) ⊎ (j ≡ i → ⊥) → (has (without m i) j || eqb j i) ≡ has m j
+    go j (inl z) =
+        ap (λ (b : Bool). has (without m i) j || b) (eq-eqb j i z) ∙ or-true (has (without m i) j) ∙ sym (ap (has m) z ∙ e)
+    go j (inr z) = ap (λ (b : Bool). has (without m i) j || b) (ne-eqb j i z) ∙ or-false (has (without m i) j) ∙ has-without-other m i j z
 
 -- what is below a width and has its members below a smaller one is below that
 pub members-lt : (k n m : ℕ) → m < 2 ^ k → ((i : ℕ) → has m i ≡ true → i < n) → m < 2 ^ n

@@ -261,7 +261,7 @@ noteEffect t c j =
 abbrev pub note : Tree → ℕ → Column → ℕ → Result
 note t i c j = unless (noteRefusal t i c j) c (noteEffect t c j)
 
--- ---- halt (i): "i stops for good"
+-- ---- halt (i): "i stops"
 
 abbrev pub haltConditions : Tree → ℕ → Column → List (ℕ × Bool)
 haltConditions t i c =

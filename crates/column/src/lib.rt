@@ -9,6 +9,7 @@ mod number_bytes;
 pub mod packet;
 pub mod precedence;
 pub mod refusal;
+pub mod returning;
 mod sets;
 pub mod state;
 pub mod step;

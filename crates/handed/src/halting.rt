@@ -1,4 +1,4 @@
-// "i stops for good; packets to it vanish, packets from it remain", and of several "all of them halt in the same step": which ones, in which order, and the words behind them.
+// "packets to it vanish, packets from it remain", and of several "all of them halt in the same step": which ones, in which order, and the words behind them.
 use crate::case::answer;
 use crate::case::effect_at;
 use crate::case::stepped;

@@ -11,6 +11,7 @@ mod overlaps;
 mod packets;
 mod print;
 mod resting;
+mod returning;
 mod same;
 mod state;
 
@@ -24,4 +25,5 @@ fn main() {
     halting::cases();
     resting::cases();
     dispatching::cases();
+    returning::cases();
 }

@@ -26,6 +26,7 @@ pub fn print_step(x: Step) {
             print_number(b" ", j as u64);
         }
         Step::Halt(set) => print_set(b"halt ", set),
+        Step::Back(j) => print_number(b"back ", j as u64),
     }
 }
 

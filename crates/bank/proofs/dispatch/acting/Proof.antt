@@ -26,6 +26,9 @@ enum-told-2 c = search needs
 enum-told-3 : tie.Need-enum-told-3
 enum-told-3 c = search needs
 
+enum-told-4 : tie.Need-enum-told-4
+enum-told-4 c = search needs
+
 returns : tie.Need-returns
 returns c = rw (c .enum-told .given .1) (c .before .before .receiver-in .ensures)
 
@@ -36,7 +39,7 @@ returns-3 : tie.Need-returns-3
 returns-3 c = rw (c .enum-told3 .given .1) (c .before .before .receiver-in .ensures)
 
 returns-4 : tie.Need-returns-4
-returns-4 c = search needs
+returns-4 c = rw (c .enum-told4 .given .1) (c .before .before .receiver-in .ensures)
 
 returns-5 : tie.Need-returns-5
 returns-5 c = search needs
@@ -46,6 +49,9 @@ returns-6 c = search needs
 
 returns-7 : tie.Need-returns-7
 returns-7 c = search needs
+
+returns-8 : tie.Need-returns-8
+returns-8 c = search needs
 
 pub acting-spec : {M : Type 1} → statement M
 acting-spec =
@@ -59,10 +65,12 @@ acting-spec =
     enum-told
     enum-told-2
     enum-told-3
+    enum-told-4
     returns
     returns-2
     returns-3
     returns-4
     returns-5
     returns-6
-    returns-7)
+    returns-7
+    returns-8)

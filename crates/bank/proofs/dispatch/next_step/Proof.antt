@@ -3,7 +3,7 @@ use borrow.Author.Needs.{needs}
 use Prim.Native.Nat.{_≤_, _-_}
 use native.Mathlib.Omega.{arith}
 use mathlib.Core.Path.{_≡_, sym, ap, ap₂, _∙_}
-use Rattle.bank.specs.Quick.{isFull, haltedOf, stepFrom, quickTurn}
+use Rattle.bank.specs.Quick.{isFull, stepFrom, quickTurn}
 use Rattle.bank.specs.Offers.{from-offer, from-next}
 use Rattle.bank.proofs.dispatch.next_step.Statement.{statement}
 use Rattle.bank.proofs.dispatch.next_step.Tie as tie

@@ -10,9 +10,8 @@ use Rattle.column.specs.TreeLaws.{tree-sixteen}
 use Rattle.column.specs.declared.tree.Tree.{Tree}
 use Rattle.bank.specs.StandingLaws.{stands}
 use Rattle.bank.specs.Standing.{stillStands}
-use Rattle.bank.specs.Banks.{State, state, runs, bankRefusal}
-use Rattle.bank.specs.Steps.{perform}
-use Rattle.bank.specs.Quick.{haltedOf}
+use Rattle.bank.specs.Banks.{State, state, runs, haltedOf, bankRefusal}
+use Rattle.bank.specs.Performs.{perform}
 use Rattle.bank.specs.Changes.{stored, changed, Lit}
 use Rattle.bank.specs.ChangeLaws.{changed-refused, changed-done, lit-running, stored-at, lit-on, halted-on}
 use Rattle.bank.specs.QuickSteps.{Going, over, going-start, going-ends, going-broken, going-stops, going-on, turned-within, turned-runs, turned-actor, turned-stands}

@@ -46,6 +46,12 @@ enum-told-5 c = search needs
 no-step-requires-2 : tie.Need-no-step-requires-2
 no-step-requires-2 c κs = search needs
 
+enum-told-6 : tie.Need-enum-told-6
+enum-told-6 c = search needs
+
+no-step-requires-3 : tie.Need-no-step-requires-3
+no-step-requires-3 c κs = search needs
+
 returns : tie.Need-returns
 returns c =
     λ good.
@@ -83,6 +89,9 @@ returns-6 c = λ good. rw (c .before .enum-told4 .given .1) (c .no-step .ensures
 returns-7 : tie.Need-returns-7
 returns-7 c = λ good. rw (c .before .enum-told5 .given .1) (c .no-step2 .ensures)
 
+returns-8 : tie.Need-returns-8
+returns-8 c = λ good. rw (c .before .enum-told6 .given .1) (c .no-step3 .ensures)
+
 pub core-step-spec : {M : Type 1} → statement M
 core-step-spec =
     tie.close
@@ -101,10 +110,13 @@ core-step-spec =
     no-step-requires
     enum-told-5
     no-step-requires-2
+    enum-told-6
+    no-step-requires-3
     returns
     returns-2
     returns-3
     returns-4
     returns-5
     returns-6
-    returns-7)
+    returns-7
+    returns-8)

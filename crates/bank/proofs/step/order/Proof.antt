@@ -1,5 +1,5 @@
 use borrow.Author.Needs.{needs}
-use Rattle.bank.specs.Steps.{perform}
+use Rattle.bank.specs.Performs.{perform}
 use Rattle.bank.proofs.step.order.Statement.{statement}
 use Rattle.bank.proofs.step.order.Tie as tie
 

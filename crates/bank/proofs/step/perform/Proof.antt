@@ -2,8 +2,11 @@ use borrow.Author.Needs.{needs}
 use mathlib.Core.Path.{_≡_, refl, sym, ap, _∙_}
 use borrow.Author.Tests.{eq-eqb}
 use Rattle.bank.specs.Banks.{state, bankRefusal}
-use Rattle.bank.specs.Steps.{perform}
+use Rattle.bank.specs.Performs.{perform}
 use Rattle.bank.specs.Changes.{isOwn}
+use Rattle.bank.specs.StandingLaws.{stands}
+use Rattle.bank.specs.ReturnLaws.{brought-back}
+use Rattle.column.specs.TreeLaws.{tree-sixteen}
 use mathlib.Core.Path.{subst}
 use mathlib.Core.Bool.{true}
 use Rattle.bank.specs.Places.{acts}
@@ -77,6 +80,14 @@ enum-known-x-6 c = search needs
 halt-columns-requires : tie.Need-halt-columns-requires
 halt-columns-requires c κs = refusal (c .before .before .before .before .before .before)
 
+enum-known-x-7 : tie.Need-enum-known-x-7
+enum-known-x-7 c = search needs
+
+bring-back-requires : tie.Need-bring-back-requires
+bring-back-requires c κs z =
+    let r = c .before .before .before .before in
+    tree-sixteen _ (stands _ (sym (refusal r) ∙ z) .tree)
+
 returns : tie.Need-returns
 returns c = c .act .ensures
 
@@ -100,6 +111,15 @@ returns-7 : tie.Need-returns-7
 unfolding perform
 returns-7 c = c .halt-columns .ensures ∙ rw (c .before .before .before .before .x6 .given .1)
 
+returns-8 : tie.Need-returns-8
+unfolding perform
+returns-8 c =
+    let k = c .before .before in
+    let r = k .before .before .before in
+    let a = r .before .before .args in
+    let s = state (a .b) (a .heads .now) (a .doors .now) in
+    c .bring-back .ensures (s .heads) (s .doors) ∙ brought-back s _ (refusal r) ∙ rw (k .x7 .given .1)
+
 pub perform-spec : {M : Type 1} → statement M
 perform-spec =
     tie.close
@@ -119,10 +139,13 @@ perform-spec =
     act-requires-5
     enum-known-x-6
     halt-columns-requires
+    enum-known-x-7
+    bring-back-requires
     returns
     returns-2
     returns-3
     returns-4
     returns-5
     returns-6
-    returns-7)
+    returns-7
+    returns-8)

@@ -1,17 +1,16 @@
 use borrow.Author.Needs.{needs}
 use Prim.Native.Nat.{ℕ, _≤_, _-_}
-use mathlib.Core.Path.{_≡_, refl, sym, ap, _∙_}
+use mathlib.Core.Path.{_≡_, sym, ap, _∙_}
 use mathlib.Core.Logic.{⊎-elim}
 use mathlib.Core.List.{List}
 use native.Mathlib.Omega.{arith}
-use lib.ListN.{length, getD, set}
+use lib.ListN.{getD, set}
 use Rattle.column.specs.Sets.{has}
 use Rattle.column.specs.declared.state.Column.{Column}
-use Rattle.bank.specs.Lists.{length-mapped}
 use Rattle.bank.specs.Banks.{noColumn}
-use Rattle.bank.specs.Steps.{stopping, withStopped}
+use Rattle.bank.specs.Steps.{withStopped}
 use Rattle.column.specs.Columns.{stopped}
-use Rattle.bank.specs.Stopping.{upto, stop-start, stop-yes, stop-no, stop-end}
+use Rattle.bank.specs.Rewriting.{upto, rewrite-start, rewrite-yes, rewrite-no, rewrite-end}
 use Rattle.bank.specs.declared.bank.Bank.{Bank}
 use Rattle.bank.proofs.strip.stop.Statement.{statement}
 use Rattle.bank.proofs.strip.stop.Tie as tie
@@ -26,7 +25,7 @@ abbrev placed : Bank → List Column → Bank
 placed b l = record { tree = b .tree; columns = l; count = b .count }
 
 loop-holds : tie.Need-loop-holds Inv-loop μ-loop
-loop-holds c = let a = c .args in (omega arith, ap (placed (a .b)) (sym (stop-start (has (a .m)) (a .b .columns))))
+loop-holds c = let a = c .args in (omega arith, ap (placed (a .b)) (sym (rewrite-start stopped (has (a .m)) (a .b .columns))))
 
 member-requires : tie.Need-member-requires Inv-loop μ-loop
 member-requires c κs = search needs
@@ -65,9 +64,9 @@ loop-again c =
           w .3
           ∙ ap (λ (x : Column). placed (l .loop .d) (set (l .loop .d .columns) j x)) (w .2 .ensures)
           ∙ ap (λ (x : Bank). placed x (set (x .columns) j (stopped (getD (x .columns) j noColumn)))) (v .1)
-          ∙ ap (placed (a .b)) (stop-yes (has (a .m)) j (a .b .columns) (sym (k .member .ensures) ∙ w .0 .taken)))
+          ∙ ap (placed (a .b)) (rewrite-yes (has (a .m)) j stopped (a .b .columns) (sym (k .member .ensures) ∙ w .0 .taken)))
           (λ w.
-          w .1 ∙ v .1 ∙ ap (placed (a .b)) (stop-no (has (a .m)) j (a .b .columns) (sym (k .member .ensures) ∙ w .0 .left)))
+          w .1 ∙ v .1 ∙ ap (placed (a .b)) (rewrite-no (has (a .m)) j stopped (a .b .columns) (sym (k .member .ensures) ∙ w .0 .left)))
           (c .if1 .came),
     )
 
@@ -77,7 +76,7 @@ returns c =
     let a = l .before .args in
     let e : l .loop .j ≡ 16 = omega arith in
     l .loop .inv .1 ∙ ap (λ (n : ℕ). withStopped (a .b) (upto (has (a .m)) n)) e
-    ∙ ap (placed (a .b)) (stop-end 16 (a .m) (l .before .pre) (a .b .columns))
+    ∙ ap (placed (a .b)) (rewrite-end stopped 16 (a .m) (l .before .pre) (a .b .columns))
 
 pub stop-spec : {M : Type 1} → statement M
 stop-spec =

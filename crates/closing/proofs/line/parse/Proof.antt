@@ -1,7 +1,7 @@
 -- `line::parse` meets its contract: each arm has the only key that its first bytes allow.
 -- Assumes nothing.
 use mathlib.Core.Path.{sym, _∙_}
-use Rattle.closing.specs.LineLaws.{short-line, order-line, send-line, take-line, ack-line, all-line, note-line, halt-line, list-line, run-line, other-line}
+use Rattle.closing.specs.LineLaws.{short-line, order-line, send-line, take-line, ack-line, all-line, note-line, halt-line, back-line, list-line, run-line, other-line}
 use borrow.Author.Needs.{needs}
 use Rattle.closing.proofs.line.parse.Statement.{statement}
 use Rattle.closing.proofs.line.parse.Tie as tie
@@ -60,6 +60,12 @@ slice-aggregate-numbered-6 c = search needs
 numbered-requires-6 : tie.Need-numbered-requires-6
 numbered-requires-6 c κs = search needs
 
+slice-aggregate-numbered-7 : tie.Need-slice-aggregate-numbered-7
+slice-aggregate-numbered-7 c = search needs
+
+numbered-requires-7 : tie.Need-numbered-requires-7
+numbered-requires-7 c κs = search needs
+
 returns-2 : tie.Need-returns-2
 returns-2 c = c .order .ensures ∙ sym (order-line _ (c .before .match .keys1))
 
@@ -86,21 +92,25 @@ returns-8 : tie.Need-returns-8
 returns-8 c = c .halt .ensures ∙ sym (halt-line _ (c .before .match .keys6))
 
 returns-9 : tie.Need-returns-9
-returns-9 c = c .numbered5 .ensures ∙ sym (list-line _ (c .before .before .match .keys7))
+returns-9 c = c .numbered5 .ensures ∙ sym (back-line _ (c .before .before .match .keys7))
 
 returns-10 : tie.Need-returns-10
-returns-10 c = c .numbered6 .ensures ∙ sym (run-line _ (c .before .before .match .keys8))
+returns-10 c = c .numbered6 .ensures ∙ sym (list-line _ (c .before .before .match .keys8))
 
 returns-11 : tie.Need-returns-11
-returns-11 c =
+returns-11 c = c .numbered7 .ensures ∙ sym (run-line _ (c .before .before .match .keys9))
+
+returns-12 : tie.Need-returns-12
+returns-12 c =
     let run = c .match .rest in
     let list = run .0 in
-    let halt = list .0 in
+    let back = list .0 in
+    let halt = back .0 in
     let note = halt .0 in
     let ack = note .0 in
     let take = ack .0 in
     let send = take .0 in
-    sym (other-line _ (send .0 .1) (send .1) (take .1) (ack .1) (note .1) (halt .1) (list .1) (run .1))
+    sym (other-line _ (send .0 .1) (send .1) (take .1) (ack .1) (note .1) (halt .1) (back .1) (list .1) (run .1))
 
 pub parse-spec : {M : Type 1} → statement M
 parse-spec =
@@ -124,6 +134,8 @@ parse-spec =
     numbered-requires-5
     slice-aggregate-numbered-6
     numbered-requires-6
+    slice-aggregate-numbered-7
+    numbered-requires-7
     returns-2
     returns-3
     returns-4
@@ -133,4 +145,5 @@ parse-spec =
     returns-8
     returns-9
     returns-10
-    returns-11)
+    returns-11
+    returns-12)

@@ -1,6 +1,6 @@
 use borrow.Author.Needs.{needs}
 use Rattle.bank.specs.Banks.{state}
-use Rattle.bank.specs.Steps.{perform}
+use Rattle.bank.specs.Performs.{perform}
 use Rattle.closing.specs.ScriptLaws.{step-advanced}
 use Rattle.closing.proofs.script.perform_line.Statement.{statement}
 use Rattle.closing.proofs.script.perform_line.Tie as tie

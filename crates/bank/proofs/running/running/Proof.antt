@@ -1,7 +1,6 @@
--- The set so far is that of the columns below i that do not run.
+-- The set so far is that of the columns below i that run.
 use borrow.Author.Needs.{needs}
-use Prim.Native.Nat.{ℕ, _<_, _≤_, _-_, _*_, _^_}
-use mathlib.Core.Bool.{not}
+use Prim.Native.Nat.{_<_, _≤_, _-_, _*_, _^_}
 use mathlib.Core.Logic.{⊎-elim}
 use mathlib.Core.Path.{_≡_, refl, ap, _∙_}
 use native.Mathlib.Nat.{mod-eq-of-lt}
@@ -10,11 +9,11 @@ use native.Mathlib.Omega.{arith}
 use lib.Pow.{pow-lt}
 use Rattle.column.specs.Sets.{selected}
 use Rattle.bank.specs.Banks.{runs}
-use Rattle.bank.proofs.dispatch.halted.Statement.{statement}
-use Rattle.bank.proofs.dispatch.halted.Tie as tie
+use Rattle.bank.proofs.running.running.Statement.{statement}
+use Rattle.bank.proofs.running.running.Tie as tie
 
 abbrev Inv-loop : tie.InvT-loop
-Inv-loop b n set₀ i₀ set i = (i ≤ n) × (set ≡ selected (λ (j : ℕ). not (runs b j)) i)
+Inv-loop b n set₀ i₀ set i = (i ≤ n) × (set ≡ selected (runs b) i)
 
 abbrev μ-loop : tie.MeasureT-loop
 μ-loop b n set₀ i₀ set i = n - i
@@ -44,7 +43,7 @@ loop-less c = search needs
 loop-again : tie.Need-loop-again Inv-loop μ-loop
 unfolding selected
 loop-again c =
-    let l = c .before .before .before .before in
+    let l = c .before .before .before in
     let i = l .loop .i in
     let inv = l .loop .inv .1 in
     let one : 1 * 2 ^ i ≡ 2 ^ i = omega arith in
@@ -59,10 +58,10 @@ loop-again c =
 returns : tie.Need-returns Inv-loop μ-loop
 returns c =
     let b = c .before .before .before .args .t1 in
-    c .before .loop .inv .1 ∙ ap (selected (λ (j : ℕ). not (runs b j))) (omega arith)
+    c .before .loop .inv .1 ∙ ap (selected (runs b)) (omega arith)
 
-pub halted-spec : {M : Type 1} → statement M
-halted-spec =
+pub running-spec : {M : Type 1} → statement M
+running-spec =
     tie.close
     (tie.spec
     Inv-loop

@@ -1,0 +1,164 @@
+-- Document 02, Point 7: the theorems. Assumes nothing.
+use Prim.Native.Nat.{ℕ, _<_}
+use native.Mathlib.Nat.{lt-of-lt-of-le}
+use native.Mathlib.Omega.{arith}
+use mathlib.Core.Path.{_≡_, refl, sym, ap, subst, _∙_}
+use mathlib.Core.Logic.{⊎-elim}
+use mathlib.Core.Bool.{Bool, true, false, cond, true≢false}
+use mathlib.Core.List.{List, _∷_, map}
+use lib.Dec.{ltb}
+use lib.Pow.{pow-mono}
+use borrow.Author.Tests.{eq-eqb, ne-eqb}
+use Rattle.column.specs.Cases.{truth, and-right}
+use Rattle.column.specs.Sets.{has, single}
+use Rattle.column.specs.SetLaws.{has-single}
+use Rattle.column.specs.TreeLaws.{check-exact, tree-sixteen}
+use Rattle.column.specs.Columns.{stopped}
+use Rattle.column.specs.Returns.{struck}
+use Rattle.column.specs.declared.state.Column.{Column}
+use Rattle.bank.specs.Banks.{State, state, columnAt, runs}
+use Rattle.bank.specs.Networks.{vanished}
+use Rattle.bank.specs.Steps.{Outcome, accepted, halted}
+use Rattle.bank.specs.Performs.{perform}
+use Rattle.bank.specs.Rest.{Running, AtRest}
+use Rattle.bank.specs.Returns.{backRefusal, returned}
+use Rattle.bank.specs.ReturnLaws.{Returning, returning, place-mine, place-struck}
+use Rattle.bank.specs.StripStates.{column-at}
+use Rattle.bank.specs.Strips.{among, Distinct}
+use Rattle.bank.specs.declared.bank.Bank.{Bank}
+use Rattle.bank.specs.declared.step.Step.the-variants.{Note, Halt, Back}
+use Rattle.agreement.specs.History.{World, told, run}
+use Rattle.agreement.specs.Dispatching.{allAccepted}
+use Rattle.agreement.specs.Returning.{StillRests, RestsAfter, Restored, Undone, Restores}
+use Rattle.agreement.proofs.Members.{absent}
+use Rattle.agreement.proofs.Rest.{none-awaited}
+use Rattle.agreement.proofs.Conditions.{not-member, widths}
+use Rattle.agreement.proofs.Quiet.{quiet-rest}
+use Rattle.agreement.proofs.Refining.{accepted-goes}
+use Rattle.agreement.proofs.Refine.{model-runs}
+use Rattle.agreement.proofs.RefineBack.{rests-after}
+use Rattle.agreement.proofs.RestQuiet.{rest-quiet}
+use Rattle.agreement.proofs.Away.{stepped, halts-alone, Held, each-notes}
+use Rattle.agreement.proofs.Reached.{Reached, after-every, reached-stands, reached-passes}
+
+-- ---- "The bank is at rest afterwards."
+
+module _ (w : World) (r : Reached w) (j : ℕ) where
+  abbrev back-state : State
+  back-state = state (returned (w .state .bank) j) (w .state .heads) (w .state .doors)
+
+  -- what an accepted return leaves, and what it asked
+  came-back : (s : State) → perform (w .state) (Back j) ≡ accepted s → Returning (w .state) j × (back-state ≡ s)
+  unfolding perform
+  came-back s e =
+      let g = accepted-goes (w .state) s (backRefusal (w .state) j) (accepted back-state) e in
+      (returning (w .state) j (g .0), let same : accepted back-state ≡ accepted s = g .1 in cc)
+
+  rested : (s : State) → perform (w .state) (Back j) ≡ accepted s → AtRest s
+  unfolding told returned
+  rested s e =
+      let k = came-back s e in
+      let e' : perform (w .state) (Back j) ≡ accepted back-state = e ∙ sym (ap accepted (k .1)) in
+      subst AtRest (k .1)
+      (rest-quiet back-state (w .orders) (k .0 .at-rest .no-packet) (reached-passes (told w (Back j) (accepted back-state)) (stepped w (Back j) back-state r e'))
+      (rests-after (w .state) (r .formed) (w .orders) j (k .0) (r .invariant)))
+
+pub rests-after-back : RestsAfter
+rests-after-back = after-every StillRests rested
+
+-- ---- back, halt, notes
+
+module _ (w : World) (r : Reached w) (j : ℕ) (s1 : State) (e1 : perform (w .state) (Back j) ≡ accepted s1) (noters : List ℕ)
+    (running : (i : ℕ) → among noters i ≡ true → Running (w .state) i) where
+  abbrev b : Bank
+  b = w .state .bank
+
+  known : Returning (w .state) j
+  known = came-back w r j s1 e1 .0
+
+  abbrev back-there : State
+  back-there = back-state w r j
+
+  comes : perform (w .state) (Back j) ≡ accepted back-there
+  comes = e1 ∙ sym (ap accepted (came-back w r j s1 e1 .1))
+
+  abbrev w1 : World
+  w1 = told w (Back j) (accepted back-there)
+
+  r1 : Reached w1
+  r1 = stepped w (Back j) back-there r comes
+
+  place : j < 16
+  place = omega (arith, known .below, tree-sixteen (b .tree) (r .tree))
+
+  apart-from : (i : ℕ) → Running (w .state) i → i ≡ j → ⊥
+  apart-from i h e = true≢false (sym (h .1) ∙ ap (λ (k : ℕ). runs b k) e ∙ known .halted)
+
+  abbrev s2 : State
+  s2 = halted back-there (has (single j))
+
+  goes-away : perform back-there (Halt (single j)) ≡ accepted s2
+  unfolding told returned
+  goes-away = halts-alone back-there (reached-passes w1 r1) j (known .below)
+      (ap (λ (c : Column). c .running) (place-mine b j (omega (arith, r .formed .places, place))))
+
+  abbrev w2 : World
+  w2 = told w1 (Halt (single j)) (accepted s2)
+
+  r2 : Reached w2
+  unfolding told
+  r2 = stepped w1 (Halt (single j)) s2 r1 goes-away
+
+  -- who ran before has j struck out, and all else as it was
+  ran-before : (i : ℕ) → Running (w .state) i → columnAt (s2 .bank) i ≡ struck (columnAt b i) j
+  ran-before i h =
+      column-at back-there (has (single j)) i
+      ∙ ap (λ (x : Bool). cond x (stopped (columnAt (back-there .bank) i)) (columnAt (back-there .bank) i)) (has-single j i ∙ ne-eqb i j (apart-from i h))
+      ∙ place-struck b j i (apart-from i h) (h .0)
+
+  gone : runs (s2 .bank) j ≡ false
+  gone =
+      ap (λ (c : Column). c .running) (column-at back-there (has (single j)) j
+      ∙ ap (λ (x : Bool). cond x (stopped (columnAt (back-there .bank) j)) (columnAt (back-there .bank) j)) (has-single j j ∙ eq-eqb j j refl))
+
+  still-below : (i : ℕ) → i < b .tree .columns → i < s2 .bank .tree .columns
+  unfolding halted vanished returned
+  still-below i h = h
+
+  -- at rest everybody has noted who is halted, and nobody awaits anybody
+  held-before : (i : ℕ) → Running (w .state) i → Held 16 j (columnAt b) i
+  held-before i h =
+      let t = b .tree in
+      let tree = check-exact t .0 (r .tree) in
+      let st = reached-stands w r in
+      let rest = quiet-rest (w .state) (w .orders) (reached-passes w r) (known .at-rest) in
+      let there = model-runs (w .state) st i (h .0) (w .orders) (h .1) in
+      record {
+        fits-in = lt-of-lt-of-le (widths t i (columnAt b i) (st .columns i (h .0)) .noted) (pow-mono (tree-sixteen t (r .tree)));
+        noted-it = ⊎-elim (λ e. e)
+            (λ e. absurd (rest .no-note i j there (known .below) (λ q. true≢false (sym (and-right (ltb j (t .columns)) _ q) ∙ known .halted))
+            (λ z. apart-from i h (sym z)) (not-member e)))
+            (truth (has (columnAt b i .noted) j));
+        unawaited = absent (columnAt b i .awaited) j (none-awaited t tree (r .invariant) rest i there j);
+      }
+
+  restored : Distinct noters → Restored w j noters
+  unfolding allAccepted run told
+  restored distinct =
+      let z = each-notes 16 j place (columnAt b) noters distinct (λ i m. held-before i (running i m)) w2 (record {
+        reached = r2;
+        below = still-below j (known .below);
+        away = gone;
+        running = λ i m. let h = running i m in (still-below i (h .0), ap (λ (c : Column). c .running) (ran-before i h) ∙ h .1);
+        struck-out = λ i m. ran-before i (running i m);
+      }) in
+      record {
+        none-refused = rw (comes, goes-away) (z .0);
+        as-before = λ i m.
+            ap (λ (o : Outcome State). columnAt (run (told w (Back j) o) (Halt (single j) ∷ map (λ (q : ℕ). Note q j) noters) .state .bank) i) comes
+            ∙ ap (λ (o : Outcome State). columnAt (run (told w1 (Halt (single j)) o) (map (λ (q : ℕ). Note q j) noters) .state .bank) i) goes-away
+            ∙ z .1 i ∙ ap (λ (x : Bool). cond x (columnAt b i) (columnAt (s2 .bank) i)) m;
+      }
+
+pub restores : Restores
+restores = after-every Undone (λ w r j s e noters distinct running. restored w r j s e noters running distinct)

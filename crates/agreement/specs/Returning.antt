@@ -1,0 +1,39 @@
+-- Document 02, Point 7: what a return leaves, after every list of lines from fresh.
+use Prim.Native.Nat.{ℕ}
+use mathlib.Core.Path.{_≡_}
+use mathlib.Core.Bool.{true}
+use mathlib.Core.List.{List, _∷_, map}
+use Rattle.column.specs.Sets.{single}
+use Rattle.bank.specs.Banks.{State, columnAt}
+use Rattle.bank.specs.Steps.{accepted}
+use Rattle.bank.specs.Performs.{perform}
+use Rattle.bank.specs.Rest.{Running, AtRest}
+use Rattle.bank.specs.Strips.{among, Distinct}
+use Rattle.bank.specs.declared.step.Step.{Step}
+use Rattle.bank.specs.declared.step.Step.the-variants.{Note, Halt, Back}
+use Rattle.agreement.specs.History.{World, run}
+use Rattle.agreement.specs.Agreement.{AfterEveryList}
+use Rattle.agreement.specs.Dispatching.{allAccepted}
+
+-- "The bank is at rest afterwards."
+abbrev pub StillRests : World → Type 0
+StillRests w = (j : ℕ) (s : State) → perform (w .state) (Back j) ≡ accepted s → AtRest s
+
+abbrev pub RestsAfter : Type 0
+RestsAfter = AfterEveryList StillRests
+
+-- "a back, then a halt of the same column and a note of it by each running one", in whichever sequence these follow each other
+abbrev pub awayAgain : ℕ → List ℕ → List Step
+awayAgain j noters = Back j ∷ Halt (single j) ∷ map (λ i. Note i j) noters
+
+-- "leave those columns' records, sets, noted halts and goals as before the back": each column whole
+pub record Restored (w : World) (j : ℕ) (noters : List ℕ) : Type 0 where
+  pub none-refused : allAccepted w (awayAgain j noters) ≡ true
+  pub as-before : (i : ℕ) → among noters i ≡ true → columnAt (run w (awayAgain j noters) .state .bank) i ≡ columnAt (w .state .bank) i
+
+abbrev pub Undone : World → Type 0
+Undone w = (j : ℕ) (s : State) → perform (w .state) (Back j) ≡ accepted s
+    → (noters : List ℕ) → Distinct noters → ((i : ℕ) → among noters i ≡ true → Running (w .state) i) → Restored w j noters
+
+abbrev pub Restores : Type 0
+Restores = AfterEveryList Undone

@@ -1,0 +1,16 @@
+-- One step, whichever it is. A return asks for rest, which is defined by the other steps.
+use Rattle.bank.specs.Banks.{State}
+use Rattle.bank.specs.Steps.{Outcome, order, send, take, ack, all, note, halt}
+use Rattle.bank.specs.Returns.{back}
+use Rattle.bank.specs.declared.step.Step.{Step}
+use Rattle.bank.specs.declared.step.Step.the-variants.{Order, Send, Take, Ack, All, Note, Halt, Back}
+
+unfoldable pub perform : State → Step → Outcome State
+perform s (Order doors) = order s doors
+perform s (Send i) = send s i
+perform s (Take place) = take s place
+perform s (Ack i) = ack s i
+perform s (All i) = all s i
+perform s (Note i j) = note s i j
+perform s (Halt m) = halt s m
+perform s (Back j) = back s j
