@@ -7,6 +7,7 @@ import sys
 import unittest
 
 import model
+from test_fastest import answer
 from test_scripts import PROGRAM, ROOT, run
 
 sys.path.insert(0, os.path.join(ROOT, "bench"))
@@ -14,9 +15,10 @@ from scripts import SCRIPTS
 from stack import ROUNDS, runs_in
 
 CITING = ("SPECIFICATION.md", "REPORT.md", "PROOFS.md")
-SHORT = re.compile(r"^(column|bank|figure|agreement|closing|edges|handed)/(proofs/)?([A-Za-z_]+)(\.rt)?$")
+SHORT = re.compile(r"^(column|fastest|bank|figure|agreement|closing|edges|handed)/(proofs/)?([A-Za-z_]+)(\.rt)?$")
 WHOLE = re.compile(r"^(crates/.+|tests/.+|docs/.+|examples/.+|crates\.txt|README\.md)$")
 BLOCK = re.compile(r"```\n(.*?)```", re.S)
+REQUEST = ("columns=5", "delay=2", "gap=1")
 QUOTED = re.compile(r'"(?:[^"]|"(?:send|await|exactly)")*"')
 
 
@@ -98,7 +100,7 @@ class Documents(Citations):
     def test_the_layers_are_the_crates_and_their_modules(self):
         layers = section(read("docs", "PROOFS.md"), "Layers")
         self.assertEqual(set(re.findall(r"crates/(\w+)", layers)), set(re.findall(r"^(\w+):", read("crates.txt"), re.M)))
-        libraries = ("column", "bank", "closing")
+        libraries = ("column", "fastest", "bank", "closing")
         modules = {os.path.relpath(path, ROOT) for crate in libraries for path in glob.glob(os.path.join(ROOT, "crates", crate, "src", "*.rt"))}
         named = {file_of(word) for word in spans(layers)} - {None}
         self.assertEqual(named, {path for path in modules if not path.endswith("lib.rt")})
@@ -132,11 +134,12 @@ class Readme(Citations):
         self.assertEqual(printed[-1:], shown[-1][1])
 
     def test_every_refusal_is_met_by_its_example(self):
-        refusals = [(int(row[0]), row[2]) for row in self.rows("The sixteen refusals")]
-        self.assertEqual([number for number, _ in refusals], list(range(1, 17)))
+        refusals = [(int(row[0]), row[2]) for row in self.rows("The refusals")]
+        self.assertEqual([number for number, _ in refusals], list(range(1, 18)))
         told = {number: cell for number, cell in refusals if not any("=" in line for line in spans(cell))}
         self.assertEqual(set(told), {8, 9, 11, 12})
-        for number, cell in refusals:
+        self.assertEqual(answer(self.in_place(REQUEST, spans(refusals[-1][1])).encode()), "refused=17\n")
+        for number, cell in refusals[:-1]:
             if number not in told:
                 self.refused(number, spans(cell))
         for number, cell in told.items():
@@ -148,12 +151,16 @@ class Readme(Citations):
                 if os.path.exists(os.path.join(ROOT, printed)):
                     self.assertRegex(read(printed), rf"(?m): refused {number}\b")
 
+    def in_place(self, first, lines):
+        """A line with a key of the first ones stands in the place of its line; the others follow."""
+        own = {line.split("=")[0]: line for line in first}
+        own.update((line.split("=")[0], line) for line in lines if line.split("=")[0] in own)
+        return "".join(f"{line}\n" for line in [*own.values(), *(line for line in lines if line not in own.values())])
+
     def refused(self, number, lines):
-        """A line with a key of the table stands in the place of its line; the others follow."""
         keys = [line.split("=")[0] for line in self.table]
-        tables = {line.split("=")[0]: line for line in self.table + lines}
         steps = [line for line in lines if line.split("=")[0] not in keys]
-        printed = run("".join(f"{line}\n" for line in [tables[key] for key in keys] + steps).encode()).decode().splitlines()
+        printed = run(self.in_place(self.table, lines).encode()).decode().splitlines()
         accepted = ["table=ok"] + ["step=ok"] * (len(steps) - 1) if steps else []
         self.assertEqual(printed[: len(accepted) + 1], accepted + [f"refused={number}"], lines)
 

@@ -4,45 +4,32 @@ use Prim.Native.Nat.{ℕ, zero, suc, _+_, _-_, _*_, _/_, _^_, _≤_, _<_}
 use mathlib.Core.Path.{_≡_, refl, sym, ap, _∙_}
 use mathlib.Core.Logic.{_⊎_, inl, inr, ⊎-elim, _↔_}
 use mathlib.Core.Bool.{Bool, true, false, cond, true≢false}
-use mathlib.Core.List.{List, [], _∷_, _++_, append-assoc, append-nil}
+use mathlib.Core.List.{List, [], _∷_, _++_, append-nil}
 use native.Mathlib.Nat.{add-zero, div-one, div-eq-of-lt}
 use native.Mathlib.Numerals.{add-one, sub-one}
 use native.Mathlib.Omega.{arith}
 use lib.Count.{ones, ones-step, ones-le}
-use lib.Dec.{eqb, ltb, eqb·suc-zero}
+use lib.Dec.{eqb, ltb}
 use lib.ListN.{length, length-append}
 use lib.Pow.{shr-shr}
-use borrow.Author.Tests.{eq-eqb, ne-eqb, eqb-true, eqb-false, ltb-true, ltb-false}
+use borrow.Author.Tests.{eqb-true, eqb-false, ltb-true, ltb-false}
 use Rattle.column.specs.Cases.{truth, equal-cases}
 use Rattle.column.specs.Sets.{has}
 use Rattle.column.specs.Digits.{true-has, false-has}
 use Rattle.closing.specs.Text.{comma, decimal}
-use Rattle.closing.specs.DecimalLaws.{decimal-length, decimal-some}
-use Rattle.closing.specs.Closing.{doorsUpTo, moreDivided, divided}
+use Rattle.closing.specs.DecimalLaws.{decimal-length}
+use Rattle.closing.specs.Closing.{doorsUpTo, divided}
+use Rattle.closing.specs.DividedLaws.{nextText, divided-last}
 
 -- ---- the text of the doors, door by door
 
--- what door n + 1 adds: nothing where it is not occupied, else its number, after a comma unless it is the first
+-- what door n + 1 adds: nothing where it is not occupied
 unfoldable pub doorText : Bool → ℕ → ℕ → List ℕ
-doorText first doors n = cond (has doors n) (cond first (decimal (n + 1)) (comma ∷ decimal (n + 1))) []
+doorText first doors n = cond (has doors n) (nextText first (n + 1)) []
 
 -- nothing is written before the first
 abbrev pub noneBefore : ℕ → ℕ → Bool
 noneBefore doors n = eqb (length (divided (doorsUpTo n doors))) 0
-
-more-last : (l : List ℕ) (d : ℕ) → moreDivided (l ++ (d ∷ [])) ≡ moreDivided l ++ (comma ∷ decimal d)
-unfolding moreDivided
-more-last [] d = ap (λ w. comma ∷ w) (append-nil (decimal d))
-more-last (e ∷ l) d = rw (more-last l d) (ap (λ w. comma ∷ w) (sym (append-assoc (decimal e) (moreDivided l) (comma ∷ decimal d))))
-
-divided-last : (l : List ℕ) (d : ℕ)
-    → divided (l ++ (d ∷ [])) ≡ divided l ++ cond (eqb (length (divided l)) 0) (decimal d) (comma ∷ decimal d)
-unfolding divided moreDivided
-divided-last [] d = append-nil (decimal d)
-divided-last (e ∷ l) d =
-    let some : length (decimal e ++ moreDivided l) ≡ 0 → ⊥ = λ z. omega (arith, decimal-some e, length-append (decimal e) (moreDivided l)) in
-    rw (ne-eqb (length (decimal e ++ moreDivided l)) 0 some, more-last l d)
-    (sym (append-assoc (decimal e) (moreDivided l) (comma ∷ decimal d)))
 
 pub doors-none : (doors : ℕ) → divided (doorsUpTo 0 doors) ≡ []
 unfolding divided doorsUpTo
@@ -65,13 +52,9 @@ pub door-clear : (first : Bool) (doors n : ℕ) → has doors n ≡ false → do
 unfolding doorText
 door-clear first doors n e = rw e
 
-pub door-first : (doors n : ℕ) → has doors n ≡ true → doorText true doors n ≡ decimal (n + 1)
+pub door-taken : (first : Bool) (doors n : ℕ) → has doors n ≡ true → doorText first doors n ≡ nextText first (n + 1)
 unfolding doorText
-door-first doors n e = rw e
-
-pub door-next : (doors n : ℕ) → has doors n ≡ true → doorText false doors n ≡ (comma ∷ []) ++ decimal (n + 1)
-unfolding doorText
-door-next doors n e = rw e
+door-taken first doors n e = rw e
 
 -- ---- how long the text is
 
@@ -128,11 +111,6 @@ doors-length doors (suc n) h = go (truth (ltb n 9)) (doors-length doors n (omega
         → length (divided (doorsUpTo (suc n) doors)) ≤ most (suc n)
     go (inl e) ih = door-step doors n 0 (omega (arith, ltb-true n 9 e)) (omega (arith, ltb-true n 9 e)) ih
     go (inr e) ih = door-step doors n 1 (omega (arith, h)) (omega (arith, ltb-false n 9 e)) ih
-
--- whether a place moved on is whether something was written
-pub moved : (at n : ℕ) → eqb (at + n) at ≡ eqb n 0
-moved at zero = eq-eqb (at + 0) at (add-zero at)
-moved at (suc n) = ne-eqb (at + suc n) at (λ e. omega arith) ∙ sym (eqb·suc-zero n)
 
 -- ---- which doors are listed
 

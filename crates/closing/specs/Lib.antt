@@ -2,6 +2,7 @@ pub mod Text
 pub mod Writing
 pub mod DecimalLaws
 pub mod Closing
+pub mod DividedLaws
 pub mod DoorLaws
 pub mod ClosingLaws
 pub mod Tables
@@ -19,3 +20,9 @@ pub mod Advances
 pub mod AdvanceLaws
 pub mod ScriptLaws
 pub mod Edges
+pub mod Requests
+pub mod RequestLaws
+pub mod TableTexts
+pub mod AnswerLaws
+pub mod LongRequests
+pub mod RequestExamples

@@ -1,4 +1,4 @@
--- Text as bytes: the keys of tables, scripts and lists, numerals, and bytes written over a buffer.
+-- Text as bytes: the keys of tables, requests, scripts and lists, numerals, and bytes written over a buffer.
 use Prim.Native.Nat.{ℕ, zero, suc, _+_, _-_, _*_, _/_, _%_}
 use Prim.Native.Char.{code}
 use Prim.Native.String.{String}
@@ -26,6 +26,12 @@ upKey = bytes "up="
 
 abbrev pub firstKey : List ℕ
 firstKey = bytes "first="
+
+abbrev pub delayKey : List ℕ
+delayKey = bytes "delay="
+
+abbrev pub gapKey : List ℕ
+gapKey = bytes "gap="
 
 abbrev pub columnKey : List ℕ
 columnKey = bytes "column="

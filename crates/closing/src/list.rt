@@ -1,7 +1,7 @@
 // The closing list of a column, written into a lent buffer.
 use crate::text::put_all;
 use crate::text::put_field;
-use crate::text::put_number;
+use crate::text::put_next;
 use bank::bank::Bank;
 use bank::standing::acting_refusal;
 use column::state::Column;
@@ -29,11 +29,7 @@ fn put_door(out: &mut [u8], start: usize, at: usize, doors: u64, d: u64) -> usiz
     if (doors >> d) % 2 != 1 {
         return at;
     }
-    if at == start {
-        return put_number(out, at, d + 1);
-    }
-    let number = put_all(out, at, b",");
-    put_number(out, number, d + 1)
+    put_next(out, start, at, d + 1)
 }
 
 fn put_doors(out: &mut [u8], at: usize, doors: u64) -> usize

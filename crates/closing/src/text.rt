@@ -1,7 +1,9 @@
 // Writers: each puts bytes into a lent buffer from a place on and answers the place after them.
 ghost use Prim.Native.Nat.{_+_, _≤_};
+ghost use lib.Dec.{eqb};
 ghost use lib.ListN.{length};
 ghost use Rattle.closing.specs.Text.{decimal as Text·decimal, field};
+ghost use Rattle.closing.specs.DividedLaws.{nextText};
 ghost use Rattle.closing.specs.Writing.{Writes};
 use io::decimal;
 
@@ -24,6 +26,18 @@ pub fn put_number(out: &mut [u8], at: usize, n: u64) -> usize
     let mut text = [0u8; 20];
     let k = decimal(n, &mut text);
     put_all(out, at, &text[..k])
+}
+
+// A number of a line that divides them by commas; the first of them stands at `start`.
+pub fn put_next(out: &mut [u8], start: usize, at: usize, n: u64) -> usize
+    requires { ⌜ at + length (nextText (eqb at start) n) ≤ length (now out) ⌝ }
+    ensures { λ r. ⌜ Writes r (now (out .exit)) (now (out .entry)) at (nextText (eqb at start) n) ⌝ }
+{
+    if at == start {
+        return put_number(out, at, n);
+    }
+    let number = put_all(out, at, b",");
+    put_number(out, number, n)
 }
 
 pub fn put_field(out: &mut [u8], at: usize, key: &[u8], n: u64) -> usize

@@ -13,8 +13,9 @@ use lib.Pow.{pow-mono}
 use Rattle.column.specs.Cases.{compare-cases, equal-cases}
 use Rattle.column.specs.Sets.{has, lowestIn, lowest}
 use Rattle.column.specs.SetLaws.{has-none, lowest-lt, lowest-member, lowest-none}
-use Rattle.column.specs.Trees.{risingFrom, ascending, listedAt, IsTree, earliestFrom, places, choose, treeRefusal}
+use Rattle.column.specs.Trees.{ascending, listedAt, IsTree, earliestFrom, places, choose, treeRefusal}
 use Rattle.column.specs.TreeLaws.{check-exact}
+use Rattle.column.specs.SequenceLaws.{ascending-at}
 use Rattle.column.specs.declared.tree.Tree.{Tree}
 
 -- "the member that stands earliest in that list"
@@ -99,16 +100,11 @@ module _ (t : Tree) (ok : treeRefusal t ≡ 0) where
     pub choose-lt : choose t m < t .columns
     choose-lt = let e = choose-earliest in omega (arith, e .stands, tree .listed-below (e .place) (e .counts))
 
-  -- "Without it, ascending numbers": there the member that stands earliest is the lowest
-  rising-at : (n k j : ℕ) → j < k → getD (risingFrom n k) j 0 ≡ n + j
-  rising-at n zero j h = absurd (omega arith)
-  rising-at n (suc k) zero h = omega arith
-  rising-at n (suc k) (suc j) h = rising-at (suc n) k j (omega arith) ∙ omega arith
-
   lowest-empty : lowest 0 ≡ 16
   unfolding trailingZeros
   lowest-empty = refl
 
+  -- "Without it, ascending numbers": there the member that stands earliest is the lowest
   pub choose-ascending : t .first ≡ ascending → (m : ℕ) → m < 2 ^ t .columns → choose t m ≡ lowest m
   choose-ascending e zero h = from-none t 0 0 (places t) (λ j. has-none (listedAt t j)) ∙ sym lowest-empty
   choose-ascending e (suc m) h =
@@ -116,7 +112,7 @@ module _ (t : Tree) (ok : treeRefusal t ≡ 0) where
       go c (at (c .place) (omega (arith, c .counts, tree .sixteen))) (compare-cases (choose t (suc m)) (lowest (suc m)))
     where
       at : (k : ℕ) → k < 16 → listedAt t k ≡ k
-      at k l = ap (λ (s : List ℕ). getD s k 0) e ∙ rising-at 0 16 k l ∙ omega arith
+      at k l = ap (λ (s : List ℕ). getD s k 0) e ∙ ascending-at k l
 
       go : (c : Earliest t (suc m) (choose t (suc m))) → listedAt t (c .place) ≡ c .place
           → (choose t (suc m) < lowest (suc m)) ⊎ ((choose t (suc m) ≡ lowest (suc m)) ⊎ (lowest (suc m) < choose t (suc m)))

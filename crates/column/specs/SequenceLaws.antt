@@ -1,5 +1,5 @@
 -- The owner's sequence: a list of as many columns as there are that misses none repeats none. Assumes nothing.
-use Prim.Native.Nat.{ℕ, zero, suc, _-_, _/_, _^_, _<_}
+use Prim.Native.Nat.{ℕ, zero, suc, _+_, _-_, _/_, _^_, _<_}
 use mathlib.Core.Path.{_≡_, sym, ap, _∙_}
 use mathlib.Core.Bool.{Bool, true, false, _||_, cond, or-true, or-false, true≢false}
 use mathlib.Core.Logic.{_⊎_, inl, inr}
@@ -15,7 +15,17 @@ use Rattle.column.specs.Sets.{has, whole}
 use Rattle.column.specs.Digits.{digit-zero, digit-suc, has-true}
 use Rattle.column.specs.SetLaws.{has-none, has-insert, insert-lt, same-members}
 use Rattle.column.specs.Pigeonhole.{onto-once}
-use Rattle.column.specs.Trees.{listedIn}
+use Rattle.column.specs.Trees.{risingFrom, ascending, listedIn}
+
+-- ---- ascending numbers
+
+rising-at : (n k j : ℕ) → j < k → getD (risingFrom n k) j 0 ≡ n + j
+rising-at n zero j h = absurd (omega arith)
+rising-at n (suc k) zero h = omega arith
+rising-at n (suc k) (suc j) h = rising-at (suc n) k j (omega arith) ∙ omega arith
+
+pub ascending-at : (k : ℕ) → k < 16 → getD ascending k 0 ≡ k
+ascending-at k h = rising-at 0 16 k h ∙ omega arith
 
 -- ---- all columns below n
 

@@ -7,7 +7,8 @@ use lib.Dec.{eqb}
 use lib.ListN.{length}
 use Rattle.closing.specs.Closing.{doorsUpTo, divided}
 use Rattle.closing.specs.Writing.{Writes, writes-none, room-rest, writes-more}
-use Rattle.closing.specs.DoorLaws.{doorText, noneBefore, doors-none, doors-more, doors-grow, moved}
+use Rattle.closing.specs.DoorLaws.{doorText, noneBefore, doors-none, doors-more, doors-grow}
+use Rattle.closing.specs.DividedLaws.{moved}
 use Rattle.closing.proofs.list.put_doors.Statement.{statement}
 use Rattle.closing.proofs.list.put_doors.Tie as tie
 

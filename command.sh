@@ -1,0 +1,45 @@
+# What ./lockers and ./fastest share, read by both: it builds the program of a crate where it must, hands it a file or standard input, and tells by
+# its status whether all was read and written, since the program has no exit status of its own. Each sets before it reads this: `folder`, that of
+# the repository; `name`, its own; `crates`, those that the program rests on, the program's the last; `given`, what it is given, in a word; `most`,
+# as many bytes as the program reads; and `help`, which prints how it is called.
+crate=${crates[-1]}
+program=$folder/target/bin/$crate
+log=$folder/target/log/$crate-build.out
+
+fail() {
+    echo "$name: $1" >&2
+    exit 1
+}
+
+is_built() {
+    [ -x "$program" ] && [ -z "$(cd "$folder" && find crates.txt "${crates[@]/#/crates/}" -newer "$program")" ]
+}
+
+build() {
+    command -v rt >/dev/null || fail "$program is missing or older than its sources, and rt, which builds it, is not found"
+    local began
+    began=$(date +@%s.%N)
+    mkdir -p "$(dirname "$log")"
+    (cd "$folder" && rt check "$crate" </dev/null 2>&1) | tee "$log" | sed -u -n '/^rt: [a-z_]* \(NOT PROVED\|proved\)/p' >&2 \
+        || fail "the build failed; its log is $log"
+    [ -x "$program" ] || fail "rt had nothing to prove, and there is no $program: remove $folder/target and run again"
+    # So that a source changed during the build is newer, and one that rt found unchanged is not.
+    touch -d "$began" "$program"
+}
+
+[ $# -le 1 ] || fail "more than one $given; see ./$name --help"
+if [ "${1-}" = --help ]; then
+    help
+    exit
+fi
+if [ $# -eq 1 ]; then
+    { [ ! -d "$1" ] && exec <"$1"; } 2>/dev/null || fail "cannot read $1"
+fi
+is_built || build
+
+# No more than the program reads, so that it always reads all that head writes.
+head -c "$most" | "$program" | cat
+ended=("${PIPESTATUS[@]}")
+[ "${ended[2]}" -eq 0 ] || fail "output was lost"
+[ "${ended[1]}" -eq 0 ] || fail "the program ended with status ${ended[1]}"
+[ "${ended[0]}" -eq 0 ] || fail "the $given could not be read to its end"

@@ -1,0 +1,60 @@
+-- A request for a fastest tree as text, and the text that answers it, after document 02, Point 8.
+use Prim.Native.Nat.{ℕ}
+use mathlib.Core.Bool.{cond}
+use mathlib.Core.List.{List, [], _∷_, _++_}
+use lib.Dec.{eqb}
+use lib.ListN.{length, take}
+use Rattle.column.specs.declared.tree.Tree.{Tree}
+use Rattle.fastest.specs.Strategy.{fastestRefusal, fastestTree}
+use Rattle.closing.specs.Text.{columnsKey, rootKey, upKey, delayKey, gapKey, newline, field, Reading, read, unread}
+use Rattle.closing.specs.Closing.{divided}
+use Rattle.closing.specs.Tables.{Cut, ended, unended, cut, keyed}
+use Rattle.closing.specs.Scripts.{refusedText}
+
+-- ---- what is asked
+
+pub record Request : Type 0 where
+  pub columns : ℕ
+  pub delay : ℕ
+  pub gap : ℕ
+
+unfoldable pub asked : Reading ℕ → Reading ℕ → Reading ℕ → Reading Request
+asked (read columns) (read delay) (read gap) = read (record { columns = columns; delay = delay; gap = gap })
+asked (read columns) (read delay) unread = unread
+asked (read columns) unread gap = unread
+asked unread delay gap = unread
+
+-- "three lines, `columns=`, `delay=` and `gap=`, the last two with one to three digits"; nothing follows them
+unfoldable pub thirdAsked : List ℕ → List ℕ → Cut → Reading Request
+thirdAsked one two (ended three rest) =
+    cond (eqb (length rest) 0) (asked (keyed columnsKey 2 one) (keyed delayKey 3 two) (keyed gapKey 3 three)) unread
+thirdAsked one two unended = unread
+
+unfoldable pub secondAsked : List ℕ → Cut → Reading Request
+secondAsked one (ended two rest) = thirdAsked one two (cut rest)
+secondAsked one unended = unread
+
+unfoldable pub firstAsked : Cut → Reading Request
+firstAsked (ended one rest) = secondAsked one (cut rest)
+firstAsked unended = unread
+
+abbrev pub requestOf : List ℕ → Reading Request
+requestOf input = firstAsked (cut input)
+
+-- ---- what is answered
+
+-- "It writes the three table lines"
+unfoldable pub tableText : Tree → List ℕ
+tableText t =
+    field columnsKey (t .columns)
+    ++ (field rootKey (t .root) ++ (upKey ++ (divided (take (t .columns) (t .up)) ++ (newline ∷ []))))
+
+-- "or a refusal as the script program does"; "another form being 1"
+unfoldable pub answerText : Reading Request → List ℕ
+answerText (read r) =
+    let n = fastestRefusal (r .columns) (r .delay) (r .gap) in
+    cond (eqb n 0) (tableText (fastestTree (r .columns) (r .delay) (r .gap))) (refusedText n)
+answerText unread = refusedText 1
+
+abbrev pub requestText : List ℕ → List ℕ
+requestText input = answerText (requestOf input)

@@ -1,0 +1,54 @@
+use borrow.Author.Needs.{needs}
+use Rattle.column.specs.RefusalLaws.{in-turn}
+use Rattle.fastest.specs.Strategy.{fastestConditions, fastestRefusal}
+use Rattle.fastest.proofs.strategy.fastest_refusal.Statement.{statement}
+use Rattle.fastest.proofs.strategy.fastest_refusal.Tie as tie
+
+refuse-if-requires : tie.Need-refuse-if-requires
+refuse-if-requires c κs = search needs
+
+refuse-if-requires-2 : tie.Need-refuse-if-requires-2
+refuse-if-requires-2 c κs = search needs
+
+refuse-if-requires-3 : tie.Need-refuse-if-requires-3
+refuse-if-requires-3 c κs = search needs
+
+refuse-if-requires-4 : tie.Need-refuse-if-requires-4
+refuse-if-requires-4 c κs = search needs
+
+refuse-if-requires-5 : tie.Need-refuse-if-requires-5
+refuse-if-requires-5 c κs = search needs
+
+refuse-if-requires-6 : tie.Need-refuse-if-requires-6
+refuse-if-requires-6 c κs = search needs
+
+returns : tie.Need-returns
+unfolding fastestRefusal
+returns c =
+    let gap-none = c .before in
+    let delay-above = gap-none .before in
+    let delay-none = delay-above .before in
+    let above = delay-none .before in
+    let none = above .before in
+    let a = none .before .args in
+    rw (
+      c .refuse-if6 .ensures,
+      gap-none .refuse-if5 .ensures,
+      delay-above .refuse-if4 .ensures,
+      delay-none .refuse-if3 .ensures,
+      above .refuse-if2 .ensures,
+      none .refuse-if .ensures,
+    )
+    (in-turn 0 (fastestConditions (a .columns) (a .delay) (a .gap)) tt)
+
+pub fastest-refusal-spec : {M : Type 1} → statement M
+fastest-refusal-spec =
+    tie.close
+    (tie.spec
+    refuse-if-requires
+    refuse-if-requires-2
+    refuse-if-requires-3
+    refuse-if-requires-4
+    refuse-if-requires-5
+    refuse-if-requires-6
+    returns)

@@ -1,0 +1,17 @@
+pub mod Counts
+pub mod Schedules
+pub mod Strategy
+pub mod Formula
+pub mod Fastest
+pub mod Timing
+pub mod ScheduleLaws
+pub mod Growing
+pub mod Joining
+pub mod StrategyLaws
+pub mod FastestLaws
+pub mod FormulaLaws
+pub mod ArrivalLaws
+pub mod UniqueLaws
+pub mod FinerTimes
+pub mod Premises
+pub mod Examples
