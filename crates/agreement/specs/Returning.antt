@@ -22,7 +22,7 @@ StillRests w = (j : ℕ) (s : State) → perform (w .state) (Back j) ≡ accepte
 abbrev pub RestsAfter : Type 0
 RestsAfter = AfterEveryList StillRests
 
--- "a back, then a halt of the same column and a note of it by each running one", in whichever sequence these follow each other
+-- "a back, then a halt of the same column and a note of it by each running one", the notes in whichever sequence
 abbrev pub awayAgain : ℕ → List ℕ → List Step
 awayAgain j noters = Back j ∷ Halt (single j) ∷ map (λ i. Note i j) noters
 
