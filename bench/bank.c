@@ -3,9 +3,9 @@
 #include <string.h>
 
 static bool packets_stand(const struct bank *b, uint16_t running) {
-    size_t n = b->tree.columns, root = b->tree.root, count = b->count;
+    size_t count = b->count;
     for (size_t k = 0; k < count; k++)
-        if (!packet_stands(n, root, running, &b->packets[k]))
+        if (!packet_stands(&b->tree, running, &b->packets[k]))
             return false;
     return true;
 }
@@ -36,7 +36,7 @@ uint8_t acting_refusal(const struct bank *b, size_t i) {
 void bank_fresh(struct bank *b, const struct tree *t) {
     *b = (struct bank){.tree = *t};
     for (size_t i = 0; i < t->columns; i++)
-        b->columns[i] = (struct column){.running = true, .whole = i == t->root};
+        b->columns[i] = (struct column){.running = true, .whole = i == t->root, .sender = (uint8_t)t->root};
 }
 
 uint8_t bank_order(struct bank *b, uint64_t doors) {
@@ -44,7 +44,7 @@ uint8_t bank_order(struct bank *b, uint64_t doors) {
     if (refusal)
         return refusal;
     struct column *c = &b->columns[b->tree.root];
-    refusal = order_refusal(c);
+    refusal = order_refusal(&b->tree, c);
     if (!refusal)
         order_effect(&b->tree, c, doors);
     return refusal;
@@ -105,7 +105,7 @@ uint8_t bank_ack(struct bank *b, size_t i) {
     if (refusal)
         return refusal;
     struct column *c = &b->columns[i];
-    if (!may_ack(c))
+    if (!may_ack(&b->tree, i, c))
         return 6;
     struct column before = *c;
     return settle(b, c, &before, ack_effect(i, c));
@@ -171,7 +171,7 @@ bool bank_at_rest(const struct bank *b) {
     uint16_t halted = halted_columns(b);
     for (size_t i = 0; i < b->tree.columns; i++) {
         const struct column *c = &b->columns[i];
-        if (c->running && (c->send || may_ack(c) || may_all(&b->tree, i, c) || (halted & ~c->noted)))
+        if (c->running && (c->send || may_ack(&b->tree, i, c) || may_all(&b->tree, i, c) || (halted & ~c->noted)))
             return false;
     }
     return true;
@@ -196,7 +196,8 @@ uint8_t bank_back(struct bank *b, size_t j) {
         return 16;
     const struct column *copied = &b->columns[__builtin_ctz(running)];
     struct column back = {.running = true, .number = copied->number, .doors = copied->doors,
-                          .noted = (uint16_t)(halted & ~(1u << j)), .whole = !b->columns[b->tree.root].running};
+                          .noted = (uint16_t)(halted & ~(1u << j)), .whole = !b->columns[b->tree.root].running,
+                          .sender = (uint8_t)__builtin_ctz(running)};
     for (size_t i = 0; i < columns; i++)
         b->columns[i].noted &= (uint16_t)~(1u << j);
     b->columns[j] = back;

@@ -38,8 +38,8 @@ bool bank_at_rest(const struct bank *b);
 /* What the dispatcher shares with the steps. */
 uint16_t halted_columns(const struct bank *b);
 
-static inline bool packet_stands(size_t columns, size_t root, uint16_t running, const struct packet *p) {
-    return p->from < columns && p->to < columns && p->from != p->to && (p->kind != 1 || p->to != root) && (running >> p->to & 1);
+static inline bool packet_stands(const struct tree *t, uint16_t running, const struct packet *p) {
+    return p->from < t->columns && p->to < t->columns && p->from != p->to && (p->kind != 1 || p->to != t->root || t->watch) && (running >> p->to & 1);
 }
 
 /* The packet of a column's step; where it has no place the column is again as it was. */

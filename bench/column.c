@@ -62,7 +62,7 @@ struct answer order(const struct tree *t, size_t i, struct column *c, uint64_t d
         return refused(refusal);
     if (i != t->root)
         return refused(4);
-    refusal = order_refusal(c);
+    refusal = order_refusal(t, c);
     if (!refusal)
         order_effect(t, c, doors);
     return refused(refusal);
@@ -117,7 +117,8 @@ struct answer take_effect(const struct tree *t, size_t i, struct column *c, stru
     c->send = children(t, i);
     c->awaited = 0;
     c->owed = 1u << p.from;
-    c->whole = false;
+    c->whole = i == t->root;
+    c->sender = p.from;
     return refused(0);
 }
 
@@ -125,7 +126,7 @@ struct answer take(const struct tree *t, size_t i, struct column *c, struct pack
     uint8_t refusal = standing(t, i, c);
     if (refusal)
         return refused(refusal);
-    if (p.from >= t->columns || p.to >= t->columns || p.from == p.to || (p.kind == 1 && p.to == t->root) || p.to != i)
+    if (p.from >= t->columns || p.to >= t->columns || p.from == p.to || (p.kind == 1 && p.to == t->root && !t->watch) || p.to != i)
         return refused(4);
     if (!c->running)
         return refused(5);
@@ -138,7 +139,7 @@ struct answer ack(const struct tree *t, size_t i, struct column *c) {
         return refused(refusal);
     if (!c->running)
         return refused(5);
-    if (!may_ack(c))
+    if (!may_ack(t, i, c))
         return refused(6);
     return (struct answer){.put = ack_effect(i, c)};
 }

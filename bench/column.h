@@ -10,6 +10,7 @@ struct tree {
     size_t root;
     size_t up[16];
     size_t first[16];
+    bool watch; /* true: columns watch who sent their record */
 };
 
 #define ASCENDING {0, 1, 2, 3, 4, 5, 6, 7, 8, 9, 10, 11, 12, 13, 14, 15}
@@ -20,6 +21,7 @@ struct column {
     uint16_t number;
     bool running;
     bool whole;
+    uint8_t sender;
 };
 
 struct packet {
@@ -58,21 +60,23 @@ static inline bool within(uint16_t set, size_t n) { return n >= 16 || set >> n =
 
 static inline bool stands(const struct tree *t, size_t i, const struct column *c) {
     return i < t->columns && within(c->send | c->awaited | c->owed | c->noted, t->columns) && !has(c->owed, i)
-        && (i != t->root || c->whole);
+        && (i != t->root || c->whole) && c->sender < t->columns;
 }
 
 static inline bool idle(const struct column *c) { return !c->send && !c->awaited; }
 
-static inline bool may_ack(const struct column *c) { return c->owed && (c->whole || idle(c)); }
-
-static inline bool may_all(const struct tree *t, size_t i, const struct column *c) {
-    return i != t->root && has(c->noted, t->root) && !c->whole && idle(c);
+static inline bool may_ack(const struct tree *t, size_t i, const struct column *c) {
+    return c->owed && ((c->whole && !(t->watch && i == t->root)) || idle(c));
 }
 
-static inline uint8_t order_refusal(const struct column *c) {
+static inline bool may_all(const struct tree *t, size_t i, const struct column *c) {
+    return i != t->root && has(c->noted, t->watch ? c->sender : t->root) && !c->whole && idle(c);
+}
+
+static inline uint8_t order_refusal(const struct tree *t, const struct column *c) {
     if (!c->running)
         return 5;
-    if (!idle(c))
+    if (!idle(c) || (t->watch && c->owed))
         return 7;
     return c->number == 65535 ? 8 : 0;
 }

@@ -18,8 +18,8 @@ static bool can_send(const struct bank *b, uint16_t halted, size_t i, const stru
     return k == i || has(c->noted, k) || fits(b, halted, k);
 }
 
-static bool can_ack(const struct bank *b, uint16_t halted, const struct column *c) {
-    return may_ack(c) && fits(b, halted, (size_t)__builtin_ctz(c->owed));
+static bool can_ack(const struct bank *b, uint16_t halted, size_t i, const struct column *c) {
+    return may_ack(&b->tree, i, c) && fits(b, halted, (size_t)__builtin_ctz(c->owed));
 }
 
 /* The first step that would be accepted, or the take of the oldest packet. */
@@ -33,7 +33,7 @@ static struct step next_step(const struct bank *b, uint16_t halted) {
             return (struct step){NOTE, i, (size_t)__builtin_ctz(new)};
         if (can_send(b, halted, i, c))
             return (struct step){SEND, i, 0};
-        if (can_ack(b, halted, c))
+        if (can_ack(b, halted, i, c))
             return (struct step){ACK, i, 0};
         if (may_all(&b->tree, i, c))
             return (struct step){ALL, i, 0};
@@ -66,7 +66,7 @@ static uint8_t perform_standing(struct bank *b, struct step x) {
 static bool still_stands(const struct bank *b, uint16_t halted, size_t i) {
     if (!stands(&b->tree, i, &b->columns[i]))
         return false;
-    return !b->count || packet_stands(b->tree.columns, b->tree.root, (uint16_t)~halted, &b->packets[b->count - 1]);
+    return !b->count || packet_stands(&b->tree, (uint16_t)~halted, &b->packets[b->count - 1]);
 }
 
 uint8_t bank_dispatch(struct bank *b, size_t limit, bool thorough, size_t *steps) {

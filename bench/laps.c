@@ -16,7 +16,7 @@ static struct column column(uint64_t lap, bool whole) {
 }
 
 static struct column column_lap(char letter, uint64_t lap) {
-    struct tree t = {16, 0, {0, 0, 0, 1, 1, 2, 2, 3, 3, 4, 4, 5, 5, 6, 6, 6 + lap % 2}, ASCENDING};
+    struct tree t = {16, 0, {0, 0, 0, 1, 1, 2, 2, 3, 3, 4, 4, 5, 5, 6, 6, 6 + lap % 2}, ASCENDING, false};
     struct column c = column(lap, letter == 'o' || letter == 's' || letter == 'e' || letter == 'n' || letter == 'r');
     switch (letter) {
     case 'o': order(&t, 0, &c, lap); break;
@@ -138,7 +138,7 @@ static void taken_over(bool first) {
 static void prepare(char letter) {
     if (letter != 'D')
         memset(bank.tree.up, 0, sizeof bank.tree.up);
-    struct tree t = {16, 0, {0}, ASCENDING};
+    struct tree t = {16, 0, {0}, ASCENDING, false};
     memcpy(t.up, bank.tree.up, sizeof t.up);
     bank_fresh(&bank, &t);
     bank_order(&bank, 513);

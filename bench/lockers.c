@@ -136,6 +136,8 @@ static uint8_t table(struct cursor *c) {
     bool named = literal(c, "first=");
     if (named && !numbers(c, t.first, &listed))
         return 1;
+    if (literal(c, "watch=") && !literal(c, "root\n") && !(t.watch = literal(c, "sender\n")))
+        return 1;
     if (t.columns == 0 || t.columns > 16)
         return 2;
     uint8_t refusal = parents == t.columns && (!named || listed == t.columns) ? tree_refusal(&t) : 3;

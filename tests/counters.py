@@ -9,25 +9,27 @@ import script_walks
 
 LEAST = 20
 REFUSALS = {
-    "order": ["5: halted", "7: the root sends", "7: the root awaits"],
+    "order": ["5: halted", "7: the root sends", "7: the root awaits", "7: the root owes"],
     "send": ["4: no such column", "5: halted", "6: nobody to send to"],
     "take": ["10: no such place"],
-    "ack": ["4: no such column", "5: halted", "6: nobody is owed", "6: own goal, sends", "6: own goal, awaits"],
-    "all": ["4: no such column", "5: halted", "6: the root", "6: the root is not noted", "6: goal whole", "6: sends", "6: awaits"],
+    "ack": ["4: no such column", "5: halted", "6: nobody is owed", "6: own goal, sends", "6: own goal, awaits", "6: the root sends", "6: the root awaits"],
+    "all": ["4: no such column", "5: halted", "6: the root", "6: the root is not noted", "6: the sender is not noted", "6: goal whole", "6: sends", "6: awaits"],
     "note": ["4: no such column", "4: no such second column", "5: halted", "6: itself", "6: it runs", "6: noted before"],
     "back": ["4: no such column", "6: it runs", "14: not at rest", "15: the root", "16: no column runs"],
     "halt": ["4: no such column", "4: no such later column", "5: halted", "5: a later one halted"],
     "list": ["4: no such column", "5: halted"],
     "line": ["13: no such form", "13: unended"],
-    "input": ["1: another form", "1: another form of the sequence", "2: no column", "2: more than 16 columns", "3: root not below columns", "3: parent not below columns",
+    "input": ["1: another form", "1: another form of the sequence", "1: another form of the watch", "2: no column", "2: more than 16 columns", "3: root not below columns", "3: parent not below columns",
               "3: another length", "3: root not its own parent", "3: a climb that misses the root", "3: a sequence of another length",
               "3: a sequence that exceeds a column", "3: a sequence that repeats a column", "13: past the limit"],
 }
 # The model knows more words, and they fail the run where it tells them: an acknowledgement of a higher number (it has the number of a message that its
-# receiver sent, and numbers rise), 8 (65,535 orders do not fit into a script), 9 (no network fills, `never-nine` of
-# crates/agreement), and a run until a refused step, which only 9 could bring about.
+# receiver sent, and numbers rise), 8 (65,535 orders do not fit into a script), 9 (no network fills where the root is watched, `never-nine` of
+# crates/agreement, and none of these where senders are), and a run until a refused step, which only 9 could bring about.
 BRANCHES = [
-    "table with a sequence", "table without a sequence", "send to the earliest, not the lowest",
+    "table with a sequence", "table without a sequence", "table without a watch", "table with watch=root", "table with watch=sender",
+    "takeover, the noted sender the root", "takeover, the noted sender another", "takeover while the root runs", "a message taken by a running root",
+    "send to the earliest, not the lowest",
     "ack, the lowest owed not the earliest", "left take, the lowest owed not the earliest",
     "the first order", "a further order after rest", "a further order before rest",
     "send to itself", "send to a noted column, whose children join", "send to a noted column without children", "send to a running column",
@@ -84,7 +86,7 @@ class Counters:
     def __init__(self):
         self.met = collections.Counter()
         self.lines = 0
-        # The most packets under way at once and the longest run, by the columns of the bank.
+        # The most packets under way at once and the longest run, by the columns of the bank and whom it watches.
         self.most_packets = collections.Counter()
         self.most_steps = collections.Counter()
         self.agreed = True
@@ -100,7 +102,7 @@ class Counters:
             if bank:
                 self.lines += 1
                 self.agreed = self.agreed and bank.agrees()
-                self.measure(text, len(bank.columns), len(bank.network))
+                self.measure(text, (len(bank.columns), bank.watch), len(bank.network))
         text = data.decode("latin-1")
         if bank:
             self.tell(rest(bank))
@@ -110,14 +112,14 @@ class Counters:
         self.met["input at the limit"] += len(data) == model.LIMIT
         return "".join(texts)
 
-    def measure(self, text, columns, packets):
-        self.most_packets[columns] = max(self.most_packets[columns], packets)
+    def measure(self, text, kind, packets):
+        self.most_packets[kind] = max(self.most_packets[kind], packets)
         run = re.match("steps=([0-9]+)", text)
         if run:
-            self.most_steps[columns] = max(self.most_steps[columns], int(run[1]))
+            self.most_steps[kind] = max(self.most_steps[kind], int(run[1]))
 
     def faults(self):
-        """What was met too seldom, what was told that nobody wants, and what is above its limit."""
+        """What was met too seldom, what was told that nobody wants, and what is above its limit, which is one for watch=root alone."""
         return [*(f"{name}: {self.met[name]}" for name in WANTED if self.met[name] < LEAST), *(name for name in self.met if name not in WANTED),
-                *(f"{most} steps of {columns} columns" for columns, most in self.most_steps.items() if most > step_limit(columns)),
-                *(f"{most} packets of {columns} columns" for columns, most in self.most_packets.items() if most > packet_limit(columns))]
+                *(f"{most} steps of {columns} columns" for (columns, watch), most in self.most_steps.items() if watch == "root" and most > step_limit(columns)),
+                *(f"{most} packets of {columns} columns" for (columns, watch), most in self.most_packets.items() if watch == "root" and most > packet_limit(columns))]

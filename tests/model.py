@@ -1,5 +1,5 @@
 #!/usr/bin/env python3
-"""The script program of document 01, with Points 1, 2, 6 and 7 of document 02, written from the papers: sets as sets, packets as tuples, text by patterns. Beside the bank stand the words of
+"""The script program of document 01, with Points 1, 2, 6, 7 and 9 of document 02, written from the papers: sets as sets, packets as tuples, text by patterns. Beside the bank stand the words of
 demand 3 (received, awaits), tracked from the steps and their answers. `tell` is told in words which condition or branch each line met.
 
     python3 tests/model.py < script
@@ -34,20 +34,21 @@ def refuse(number, words):
 class Column:
     """What a column holds."""
 
-    def __init__(self, whole):
+    def __init__(self, whole, sender):
         self.running = True
         self.number = 0
         self.doors = bytes(8)
         self.send, self.awaited, self.owed, self.noted = set(), set(), set(), set()
         self.whole = whole
+        self.sender = sender
 
 
 class Bank:
     """A bank with its network, and beside it the words of demand 3."""
 
-    def __init__(self, columns, root, up, first, tell):
-        self.root, self.up, self.first, self.tell = root, up, first, tell
-        self.columns = [Column(i == root) for i in range(columns)]
+    def __init__(self, columns, root, up, first, watch, tell):
+        self.root, self.up, self.first, self.watch, self.tell = root, up, first, watch, tell
+        self.columns = [Column(i == root, root) for i in range(columns)]
         self.network = []
         self.orders = []
         self.received = [0] * columns
@@ -83,6 +84,8 @@ class Bank:
         column = self.columns[i]
         if not column.owed:
             return "nobody is owed"
+        if self.watch == "sender" and i == self.root:
+            return "the root sends" if column.send else column.awaited and "the root awaits"
         if not column.whole and column.send:
             return "own goal, sends"
         return not column.whole and column.awaited and "own goal, awaits"
@@ -91,8 +94,10 @@ class Bank:
         column = self.columns[i]
         if i == self.root:
             return "the root"
-        if self.root not in column.noted:
+        if self.watch == "root" and self.root not in column.noted:
             return "the root is not noted"
+        if self.watch == "sender" and column.sender not in column.noted:
+            return "the sender is not noted"
         if column.whole:
             return "goal whole"
         if column.send:
@@ -112,6 +117,7 @@ class Bank:
         root = self.acting(self.root)
         refuse(7, root.send and "the root sends")
         refuse(7, root.awaited and "the root awaits")
+        refuse(7, self.watch == "sender" and root.owed and "the root owes")
         refuse(8, root.number == HIGHEST and "the highest number")
         if self.came_back:
             self.tell("an order after a return")
@@ -159,6 +165,8 @@ class Bank:
         if kind == "acknowledgement":
             self.take_acknowledgement(sender, to, number)
             return
+        if to == self.root:
+            self.tell("a message taken by a running root")
         self.received[to] = max(self.received[to], number)
         if number == column.number:
             self.tell("equal number")
@@ -186,7 +194,8 @@ class Bank:
         if column.send or column.awaited:
             self.tell("received while sending" if column.send else "received while awaiting")
         column.number, column.doors = number, doors
-        column.whole = False
+        column.whole = to == self.root
+        column.sender = sender
         column.owed = {sender}
         column.awaited = set()
         column.send = self.children(to)
@@ -207,6 +216,10 @@ class Bank:
         refuse(6, self.refused_all(i))
         self.tell("takeover of a column that took over before" if i in self.taken_over else "takeover, the first of its column")
         self.taken_over.add(i)
+        if self.watch == "sender":
+            self.tell("takeover, the noted sender the root" if column.sender == self.root else "takeover, the noted sender another")
+            if self.columns[self.root].running:
+                self.tell("takeover while the root runs")
         if self.came_back:
             self.tell("takeover of one that came back" if i in self.came_back else "takeover after another came back")
         column.whole = True
@@ -259,7 +272,7 @@ class Bank:
             self.tell("return while others remain halted")
         if old.send or old.awaited or old.owed:
             self.tell("return of one that was halted at work")
-        column = self.columns[j] = Column(not root.running)
+        column = self.columns[j] = Column(not root.running, running[0])
         column.number, column.doors = copied.number, copied.doors
         column.noted = {i for i, other in enumerate(self.columns) if not other.running}
         for other in self.columns:
@@ -337,6 +350,15 @@ def sequence(text):
     return numbers(found.group(1)), text[found.end():]
 
 
+def watch(text):
+    """Whom the line that begins `watch=` names, where a text begins with it, and what follows it."""
+    if not text.startswith("watch="):
+        return None, text
+    found = re.match(r"watch=(root|sender)\n", text)
+    refuse(1, not found and "another form of the watch")
+    return found.group(1), text[found.end():]
+
+
 def table(text, tell):
     """The bank of a table at the start of a text, and what follows it."""
     found = re.match(rf"columns={NUMERAL}\nroot={NUMERAL}\nup={NUMERALS}\n", text)
@@ -344,6 +366,7 @@ def table(text, tell):
     columns, root = int(found.group(1)), int(found.group(2))
     up = numbers(found.group(3))
     first, rest = sequence(text[found.end():])
+    watched, rest = watch(rest)
     refuse(2, columns == 0 and "no column")
     refuse(2, columns > 16 and "more than 16 columns")
     refuse(3, root >= columns and "root not below columns")
@@ -360,7 +383,8 @@ def table(text, tell):
     refuse(3, any(c >= columns for c in first) and "a sequence that exceeds a column")
     refuse(3, len({*first}) < columns and "a sequence that repeats a column")
     tell(f"table {named}")
-    return Bank(columns, root, up, first, tell), rest
+    tell("table without a watch" if watched is None else f"table with watch={watched}")
+    return Bank(columns, root, up, first, watched or "root", tell), rest
 
 
 def line(bank, text):

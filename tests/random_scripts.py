@@ -102,7 +102,7 @@ def seed_part(seed, met):
             return fault(f"seed {seed}, lit columns disagree after:", shortest(data, disagree))
     met.append(count)
     print(f"seed {seed}: {len(printed)} scripts, {count.lines} lines, at most {max(count.most_packets.values())} packets at once, 0 differences", flush=True)
-    faults = [f"seed {seed}, {words}" for words in count.faults()] + ["no crowded network"] * (count.most_packets[16] < CROWDED)
+    faults = [f"seed {seed}, {words}" for words in count.faults()] + ["no crowded network"] * (count.most_packets[16, "root"] < CROWDED)
     return sum(map(fault, faults)) + mutants_part(printed)
 
 
@@ -113,10 +113,11 @@ def seeds_part(seeds):
     print("least  most  of what a seed met")
     for name in counters.WANTED * bool(met):
         print(f"{min(one.met[name] for one in met):5} {max(one.met[name] for one in met):5}  {name}")
-    print("columns  longest run  at most  most packets  at most")
+    print("columns  longest run  at most  most packets  at most  watch=sender: longest run  most packets")
     for columns in range(1, 17):
-        run, packets = (max((most[columns] for most in seen), default=0) for seen in ([one.most_steps for one in met], [one.most_packets for one in met]))
-        print(f"{columns:7} {run:12} {counters.step_limit(columns):8} {packets:13} {counters.packet_limit(columns):8}")
+        run, packets, sender_run, sender_packets = (max((most[columns, watch] for most in seen), default=0) for watch in ("root", "sender")
+                                                    for seen in ([one.most_steps for one in met], [one.most_packets for one in met]))
+        print(f"{columns:7} {run:12} {counters.step_limit(columns):8} {packets:13} {counters.packet_limit(columns):8} {sender_run:26} {sender_packets:13}")
     if faults:
         return fault(f"{faults} faults")
     print(f"{len(met)} seeds: each of {len(counters.WANTED)} counters met {counters.LEAST} times or more on each, each of {len(model_mutants.TOLD)} "
@@ -133,9 +134,11 @@ def exhaustive_part():
               for n in (1, 2, 3, 4) for root in range(n + 1) for up in itertools.product(range(n + 1), repeat=n)]
     tables += [f"columns={n}\nroot=0\nup={','.join('0' * n)}\nfirst={','.join(map(str, first))}\norder=0100000000000000\nsend=0\ntake=0\n".encode()
                for n in (1, 2, 3) for size in range(1, n + 2) for first in itertools.product(range(n + 1), repeat=size)]
+    tables += [f"columns=2\nroot=0\nup=0,0\n{first}watch={word}{end}".encode() for first in ("", "first=1,0\n") for word in ("root", "sender", "", "r", "roots", "senders")
+               for end in ("\n", "", "\norder=0100000000000000\nsend=0\n", "\nwatch=root\n")]
     alphabet = [b"order=0100000000000000\n", b"send=0\n", b"take=0\n", b"ack=1\n", b"note=0,1\n", b"halt=0\n", b"all=1\n", b"note=1,0\n", b"back=1\n"]
     kept = [path.read_bytes() for path in sorted(pathlib.Path(ROOT, "tests", "scripts").glob("*.script"))]
-    short = [b"columns=2\nroot=0\nup=0,0\n" + b"".join(lines) for n in range(5) for lines in itertools.product(alphabet, repeat=n)]
+    short = [b"columns=2\nroot=0\nup=0,0\n" + watch + b"".join(lines) for watch in (b"", b"watch=sender\n") for n in range(5) for lines in itertools.product(alphabet, repeat=n)]
     limits = [b"columns=1\nroot=0\nup=0\n".ljust(size, b"\n") for size in (model.LIMIT, model.LIMIT + 1)]
     for data in tables + short + limits + kept:
         if differ(data):

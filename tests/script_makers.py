@@ -56,7 +56,7 @@ def race(rng):
 
 def sleeping(rng):
     """Columns take over before they receive an order and once more after it, while others sleep. Then come the packets that were held back."""
-    script = Script(rng, script_texts.tree(rng, rng.randint(4, 7)))
+    script = Script(rng, script_texts.tree(rng, rng.randint(4, 7), rng.choice(["root", "root", "sender"])))
     script.order()
     script.until(model.Bank.at_rest)
     script.order()
@@ -94,6 +94,34 @@ def returning(rng):
     if rng.random() < 0.5:
         script.halt()
     script.rest_and_back(3)
+    return script.finish()
+
+
+def watched(rng):
+    """Senders are watched: one halts that others have their record from. They note it, take over, and send to the running root, which is asked to
+    acknowledge while it is busy, and to order while it owes."""
+    script = Script(rng, script_texts.tree(rng, rng.randint(3, 7), "sender"))
+    bank, root = script.bank, script.bank.root
+    senders = lambda: {column.sender for column in bank.columns if column.running and bank.columns[column.sender].running} - {root}
+    owes = lambda bank: bank.columns[root].owed
+    for _ in range(rng.randint(1, 2)):
+        script.order()
+        script.until(lambda bank: senders() or bank.at_rest())
+        script.walk(rng.choice([0, 5, 12]))
+        if senders():
+            gone = rng.choice(sorted(senders()))
+            script.do(f"halt={gone}")
+            script.do(f"note={root},{gone}")
+        slow = rng.random() < 0.5
+        script.until(owes, lambda line: slow and line == f"send={root}")
+        script.do(f"ack={root}")
+        script.until(lambda bank: owes(bank) or bank.at_rest())
+        script.do(f"ack={root}")
+        script.until(lambda bank: root_idle(bank) and owes(bank) or bank.at_rest(), lambda line: line == f"ack={root}")
+        script.order()
+        script.walk(rng.choice([0, 10]), halts=rng.choice([0, 0.1]))
+        if rng.random() < 0.4:
+            script.rest_and_back(2)
     return script.finish()
 
 
@@ -191,7 +219,7 @@ def refused_tables(rng):
         yield from (f"{table}send=0\nlist=0\n".encode() for table in tables)
 
 
-MAKERS = [(calm, 200), (unserved, 80), (race, 200), (sleeping, 120), (returning, 100), (lost, 40), (crowded, 1), (wandering, 60), (blind, 70), (unended, 60), (damaged, 60),
+MAKERS = [(calm, 200), (unserved, 110), (race, 200), (sleeping, 120), (returning, 100), (watched, 120), (lost, 40), (crowded, 1), (wandering, 60), (blind, 70), (unended, 60), (damaged, 60),
           (at_limit, 25), (past_limit, 25)]
 
 

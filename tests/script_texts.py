@@ -45,6 +45,7 @@ FORMS = [
     ("no equals sign", "{step}{column}", "{step}:{column}"),
     ("unknown key", "jump={column}", "{step}s={column}"),
     ("sequence past the table", "first={column}", "first={column},{column}", "first={parents}"),
+    ("watch past the table", "watch=root", "watch=sender", "watch={column}"),
     ("byte above 127", "{step}=\xb2", "{line}\xa0"),
     ("byte 0", "{step}=\0", "{line}\0"),
 ]
@@ -62,6 +63,7 @@ TABLE_FORMS = [
     ("table with an empty line", "\ncolumns={digit}", "\nroot={digit}", "\nup={parents}"),
     ("table in another order", "root={digit}\ncolumns={digit}\nup={parents}", "columns={digit}\nup={parents}\nroot={digit}"),
     ("table of two lines", "columns={digit}\nroot={digit}\nsend=0", "columns={digit}\nup={parents}\nsend=0", "root={digit}\nup={parents}\nsend=0"),
+    ("table with another watch", "watch=", "watch={digit}", "watch=roots", "watch=Sender", "watch=root,sender", "watch= root", "watch=sender ", "watch=root\r"),
     ("17 columns in a malformed table", "columns=17\nroot=0\nup={parents},", "columns=17\nroot=99\nup="),
     ("no column in a malformed table", "columns=0\nroot=0\nup={parents},", "columns=0\nroot=\nup={parents}"),
 ]
@@ -103,25 +105,27 @@ def sequence(rng, columns):
     return rng.choice([None, None, rng.sample(ascending, columns), rng.sample(ascending, columns), ascending[::-1], ascending])
 
 
-def table(columns, root, up, first=None):
-    """A table, with the line of a sequence where there is one."""
+def table(columns, root, up, first=None, watch=None):
+    """A table, with the lines of a sequence and of a watch where there are such."""
     listed = "" if first is None else f"first={','.join(map(str, first))}\n"
-    return f"columns={columns}\nroot={root}\nup={','.join(map(str, up))}\n{listed}"
+    watched = "" if watch is None else f"watch={watch}\n"
+    return f"columns={columns}\nroot={root}\nup={','.join(map(str, up))}\n{listed}{watched}"
 
 
-def tree(rng, columns):
-    return table(columns, *parents(rng, columns), sequence(rng, columns))
+def tree(rng, columns, watch=""):
+    """A table of any kind, or with this watch."""
+    return table(columns, *parents(rng, columns), sequence(rng, columns), watch or rng.choice([None, None, "root", "sender", "sender"]))
 
 
 def malformed_table(rng, template):
     """A table with a line that is near to its form."""
-    lines = tree(rng, rng.randint(1, 16)).split("\n")
     text = near(rng, template)
     if text.count("=") > 1:
         return text + "\n"
-    keys = [key.split("=")[0] for key in lines[:3]] + ["first"]
-    place = keys.index(re.search("[A-Za-z]+", text)[0].lower())
-    return "\n".join(lines[:place] + [text] + (lines[place + 1:] or [""]))
+    keys = ["columns", "root", "up", "first", "watch"]
+    place = lambda line: keys.index(re.search("[A-Za-z]+", line)[0].lower())
+    lines = [line for line in tree(rng, rng.randint(1, 16)).splitlines() if place(line) != place(text)]
+    return "".join(f"{line}\n" for line in sorted(lines + [text], key=place))
 
 
 def no_tree(rng, wrong):
@@ -151,7 +155,7 @@ def no_tree(rng, wrong):
         first[root] = first[other]
     else:
         first[other] = rng.choice([columns, rng.randint(columns, 99)])
-    return table(columns, root, up, first)
+    return table(columns, root, up, first, rng.choice([None, "root", "sender"]))
 
 
 # ---- bytes

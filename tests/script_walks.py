@@ -15,7 +15,7 @@ TAKING = {
     "acknowledgements": lambda place, packet: packet[0] == "message",
 }
 # How a script ends: at the last moment at which steps of one kind alone were left, where nobody runs, anywhere, or at rest.
-ENDS = ["take", "send", "ack", "all", "all", "note", "note", "anywhere", "nobody", "rest", "rest", "rest"]
+ENDS = ["take", "send", "ack", "ack", "all", "all", "note", "note", "anywhere", "nobody", "rest", "rest", "rest"]
 
 
 # ---- what a bank holds
@@ -86,7 +86,8 @@ def decisive(bank):
 def torn(bank):
     """Whether a running column may both send and acknowledge, or send and note: which it does first is the dispatcher's matter."""
     halted = {j for j, column in enumerate(bank.columns) if not column.running}
-    return any(column.running and column.send and (column.whole and column.owed or halted - column.noted) for column in bank.columns)
+    return any(column.running and column.send and (column.owed and not bank.refused_ack(i) or halted - column.noted)
+               for i, column in enumerate(bank.columns))
 
 
 def nothing(line):

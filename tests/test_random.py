@@ -22,7 +22,7 @@ class Random(unittest.TestCase):
         for name, *templates in script_texts.FORMS * 20:
             for template in templates:
                 line = script_texts.near(rng, template)
-                self.assertEqual(model.script(f"columns=1\nroot=0\nup=0\nfirst=0\n{line}\n".encode("latin-1")), "table=ok\nrefused=13\nrest=yes\n", name)
+                self.assertEqual(model.script(f"columns=1\nroot=0\nup=0\nfirst=0\nwatch=root\n{line}\n".encode("latin-1")), "table=ok\nrefused=13\nrest=yes\n", name)
         for name, *templates in script_texts.TABLE_FORMS * 20:
             for template in templates:
                 self.assertEqual(model.script(script_texts.malformed_table(rng, template).encode()), "refused=1\n", name)

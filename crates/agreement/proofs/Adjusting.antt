@@ -3,6 +3,7 @@ use Prim.Native.Nat.{ℕ}
 use native.Mathlib.Omega.{arith}
 use mathlib.Core.Path.{_≡_, refl, sym, subst}
 use mathlib.Core.Logic.{_≢_, _⊎_, ⊎-elim, inl, inr}
+use mathlib.Core.Bool.{false}
 use mathlib.Core.List.{List}
 use Rattle.column.specs.Trees.{IsTree, children}
 use Rattle.column.specs.SubtreeLaws.{Under}
@@ -15,6 +16,7 @@ use Rattle.agreement.proofs.Network.{Holds}
 use Rattle.agreement.proofs.Descendants.{children-inside, root-child, child-descends}
 use Rattle.agreement.proofs.Invariant.{number, Unserved, Covered, pending, reached, Local, Coverage, Truthful, Outstanding, message-sent, acknowledgement-owed, acknowledgement-sent, Invariant}
 use Rattle.agreement.proofs.Keeping.{steady}
+use Rattle.agreement.proofs.Links.{linked-stays}
 use Rattle.agreement.proofs.Packets.{outstanding-cases}
 
 -- a column with other sets
@@ -29,6 +31,7 @@ adjusted c send awaited owed noted =
       owed = owed;
       noted = noted;
       whole = c .whole;
+      sender = c .sender;
     }
 
 module _ (t : Tree) (tree : IsTree t) {s : State} (a : ℕ) (inv : Invariant t s) (ra : Runs s a) where
@@ -39,7 +42,7 @@ module _ (t : Tree) (tree : IsTree t) {s : State} (a : ℕ) (inv : Invariant t s
   pub record Adjusts (send awaited owed noted : ℕ) : Type 0 where
     pub sends : (q : ℕ) → In send q → In (c .send) q ⊎ ((j : ℕ) × Unserved c j × In (children t j) q)
     pub awaits : (q : ℕ) → In awaited q → In (c .awaited) q ⊎ (In (c .send) q × (¬ In (c .noted) q) × (q ≢ a))
-    pub owes : a ≡ t .root → Empty owed
+    pub owes : t .watch ≡ false → a ≡ t .root → Empty owed
     pub notes : (q : ℕ) → In (c .noted) q → In noted q
     pub halts : (q : ℕ) → In noted q → Runs s q → ⊥
     pub parts : (q : ℕ) → In awaited q → In noted q → ⊥
@@ -63,13 +66,14 @@ module _ (t : Tree) (tree : IsTree t) {s : State} (a : ℕ) (inv : Invariant t s
           (λ m. ⊎-elim (λ b. inv .locals a ra .own w q (inl b))
           (λ z. child-descends t tree a (z .0) (inv .inside a ra) (inv .locals a ra .own w (z .0) (z .1) .under) (z .2)) (k .sends q m))
           (λ m. inv .locals a ra .own w q (awaited-before q m)) u;
-      root-noted = λ w n. k .notes (t .root) (inv .locals a ra .root-noted w n);
-      root-sent = λ m. ⊎-elim (λ b. k .notes (t .root) (inv .locals a ra .root-sent b)) (λ z. absurd (root-child t (z .0) (z .2)))
-          (k .sends (t .root) m);
-      root-awaited = λ m. ⊎-elim (λ b. inv .locals a ra .root-awaited b) (λ z. z .1 (inv .locals a ra .root-sent (z .0))) (k .awaits (t .root) m);
       self-awaited = λ m. ⊎-elim (λ b. inv .locals a ra .self-awaited b) (λ z. z .2 refl) (k .awaits a m);
-      root-owes = k .owes;
       apart = k .parts;
+      shuns = λ o. record {
+        root-noted = λ w n. k .notes (t .root) (inv .locals a ra .shuns o .root-noted w n);
+        root-sent = λ m. ⊎-elim (λ b. k .notes (t .root) (inv .locals a ra .shuns o .root-sent b)) (λ z. absurd (root-child t (z .0) (z .2)))
+            (k .sends (t .root) m);
+        root-owes = k .owes o;
+      };
     }
       where
         awaited-before : (q : ℕ) → In awaited q → Unserved c q
@@ -89,7 +93,7 @@ module _ (t : Tree) (tree : IsTree t) {s : State} (a : ℕ) (inv : Invariant t s
 
     pub adjust : {s' : State} {network : List Packet} → Becomes s s' a (adjusted c send awaited owed noted) network (s .orders) →
         Delivers (adjusted c send awaited owed noted) network → Invariant t s'
-    adjust b d = steady t inv ra b record {
+    adjust b d = steady t inv ra b (λ o. linked-stays t b (inv .linked o) ra (omega arith) (λ _ w. (w, refl, refl))) record {
       rises = omega arith;
       newest = λ e _. subst (λ (x : ℕ). Runs s x → number s x ≡ count s) (sym e) (inv .root-newest) ra;
       issued = λ _. inv .records a ra;

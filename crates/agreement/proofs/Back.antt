@@ -1,14 +1,15 @@
 -- A halted column comes back to a bank at rest: the invariant holds, and the bank is at rest afterwards. Assumes nothing.
-use Prim.Native.Nat.{ℕ, _≤_, _<_}
+use Prim.Native.Nat.{ℕ, suc, _≤_, _<_}
 use native.Mathlib.Omega.{arith}
 use mathlib.Core.Path.{_≡_, refl, sym, ap, subst, _∙_}
 use mathlib.Core.Logic.{_≢_, _⊎_, ⊎-elim, inl, inr}
-use mathlib.Core.Bool.{true, false, not, true≢false}
+use mathlib.Core.Bool.{Bool, true, false, not, cond, true≢false}
 use mathlib.Core.List.{List}
 use lib.ListN.{length}
 use Rattle.column.specs.Cases.{truth, equal-cases, compare-cases}
 use Rattle.column.specs.Sets.{without}
 use Rattle.column.specs.Trees.{IsTree}
+use Rattle.column.specs.Columns.{watched}
 use Rattle.column.specs.Returns.{struck}
 use Rattle.column.specs.declared.tree.Tree.{Tree}
 use Rattle.column.specs.declared.state.Column.{Column}
@@ -18,8 +19,8 @@ use Rattle.agreement.proofs.Model.{In, Empty, State, Runs, count}
 use Rattle.agreement.proofs.Members.{in-none, without-in, without-other, without-cases}
 use Rattle.agreement.proofs.Network.{Holds, holds-none}
 use Rattle.agreement.proofs.Move.{Idle, Rest, Remaining, cameBack, Returns}
-use Rattle.agreement.proofs.Invariant.{number, Unserved, Issued, reached, Local, Coverage, Invariant}
-use Rattle.agreement.proofs.Rest.{none-awaited, none-owed, rest-agrees}
+use Rattle.agreement.proofs.Invariant.{number, Unserved, Issued, reached, Local, Coverage, Link, sender-halted, sender-ahead, sender-earlier, Linked, Invariant, ranked, ranked-here, ranked-other}
+use Rattle.agreement.proofs.Rest.{none-awaited, none-owed, sender-runs, rest-agrees}
 
 pub below-cases : (i n : ℕ) → (i < n) ⊎ (n ≤ i)
 below-cases i n = ⊎-elim (λ l. inl l) (λ h. inr (⊎-elim (λ e. omega arith) (λ l. omega arith) h)) (compare-cases i n)
@@ -78,12 +79,13 @@ module _ (t : Tree) (tree : IsTree t) {s s' : State} (j l noted : ℕ) (inv : In
     root-whole = λ e. absurd (nj e);
     members = λ q u. absurd (⊎-elim in-none in-none u);
     own = λ o q u. absurd (⊎-elim in-none in-none u);
-    root-noted = λ o _. k .all-remaining (t .root) (tree .root-below) (λ r. true≢false (sym o ∙ ap not r)) (λ e. nj (sym e));
-    root-sent = λ m. absurd (in-none m);
-    root-awaited = in-none;
     self-awaited = in-none;
-    root-owes = λ e q m. in-none m;
     apart = λ q m n. in-none m;
+    shuns = λ _. record {
+      root-noted = λ o _. k .all-remaining (t .root) (tree .root-below) (λ r. true≢false (sym o ∙ ap not r)) (λ e. nj (sym e));
+      root-sent = λ m. absurd (in-none m);
+      root-owes = λ e q m. in-none m;
+    };
   }
 
   local-other : (i : ℕ) → Runs s i → Local t i (struck (s .columns i) j)
@@ -91,12 +93,13 @@ module _ (t : Tree) (tree : IsTree t) {s s' : State} (j l noted : ℕ) (inv : In
     root-whole = inv .locals i h .root-whole;
     members = inv .locals i h .members;
     own = inv .locals i h .own;
-    root-noted = λ o n. still (inv .locals i h .root-noted o n);
-    root-sent = λ m. still (inv .locals i h .root-sent m);
-    root-awaited = inv .locals i h .root-awaited;
     self-awaited = inv .locals i h .self-awaited;
-    root-owes = inv .locals i h .root-owes;
     apart = λ q m n. inv .locals i h .apart q m (without-in (s .columns i .noted) j n);
+    shuns = λ w. record {
+      root-noted = λ o n. still (inv .locals i h .shuns w .root-noted o n);
+      root-sent = λ m. still (inv .locals i h .shuns w .root-sent m);
+      root-owes = inv .locals i h .shuns w .root-owes;
+    };
   }
     where
       still : In (s .columns i .noted) (t .root) → In (without (s .columns i .noted) j) (t .root)
@@ -118,6 +121,46 @@ module _ (t : Tree) (tree : IsTree t) {s s' : State} (j l noted : ℕ) (inv : In
   noted-other i h q m r = inv .coverages i h .noted-halted q (without-in (s .columns i .noted) j m)
       (runs-before q (without-other (s .columns i .noted) j m) r)
 
+  -- ---- where senders are watched: nobody with the own goal had its record from j, and j ranks after l
+
+  module _ (w : t .watch ≡ true) where
+    known : Linked t s
+    known = inv .linked w
+
+    abbrev rank : ℕ → ℕ
+    rank = ranked (known .rank) j (suc (known .rank l))
+
+    l-other : l ≢ j
+    l-other z = halted (subst (Runs s) z rl)
+
+    number-same : (x : ℕ) → x ≢ j → number s' x ≡ number s x
+    number-same x n = returned-each b (λ (i : ℕ) (c : Column). i ≢ j → c .number ≡ number s i)
+        (λ n. absurd (n refl)) (λ i _ _ _. refl) (λ i _ _ _. refl) x n
+
+    from-running : (i : ℕ) → Runs s i → s .columns i .whole ≡ false → s .columns i .sender ≢ j
+    from-running i h o z = halted (subst (Runs s) z (sender-runs t tree inv rest w i h o))
+
+    link-still : (i x n : ℕ) → i ≢ j → x ≢ j → Link s (known .rank) i x n → Link s' rank i x n
+    link-still i x n ni nx (sender-halted h) = sender-halted (λ r. h (runs-before x nx r))
+    link-still i x n ni nx (sender-ahead h) = sender-ahead (subst (λ (y : ℕ). n < y) (sym (number-same x nx)) h)
+    link-still i x n ni nx (sender-earlier z h) = sender-earlier (z ∙ sym (number-same x nx)) (omega (
+      arith,
+      h,
+      ranked-other (known .rank) j (suc (known .rank l)) i ni,
+      ranked-other (known .rank) j (suc (known .rank l)) x nx,
+    ))
+
+    back-linked : Linked t s'
+    back-linked = record {
+      rank = rank;
+      senders = each-running (λ (i : ℕ) (x : Column). x .whole ≡ false → x .sender < t .columns)
+          (λ _. inv .inside l rl) (λ i n h o. known .senders i h o);
+      links = each-running (λ (i : ℕ) (x : Column). x .whole ≡ false → Link s' rank i (x .sender) (x .number))
+          (λ _. sender-earlier (sym (number-same l l-other))
+          (omega (arith, ranked-here (known .rank) j (suc (known .rank l)), ranked-other (known .rank) j (suc (known .rank l)) l l-other)))
+          (λ i n h o. link-still i (s .columns i .sender) (number s i) n (from-running i h o) (known .links i h o));
+    }
+
   -- ---- the invariant
 
   pub back-invariant : Invariant t s'
@@ -134,6 +177,7 @@ module _ (t : Tree) (tree : IsTree t) {s s' : State} (j l noted : ℕ) (inv : In
         (λ i n h. coverage i (struck (s .columns i) j) (rest-agrees t tree inv rest i l h rl) (noted-other i h));
     packets = λ p m. absurd (holds-none (subst (λ (x : List Packet). Holds x p) (b .packets ∙ rest .no-packet) m));
     outstanding = λ p q h r m. absurd (none-awaited-now p h q m);
+    linked = back-linked;
   }
     where
       none-awaited-now : (p : ℕ) → Runs s' p → (q : ℕ) → In (s' .columns p .awaited) q → ⊥
@@ -142,10 +186,15 @@ module _ (t : Tree) (tree : IsTree t) {s s' : State} (j l noted : ℕ) (inv : In
 
   -- ---- "The bank is at rest afterwards."
 
-  -- a column with the own goal: the root runs
-  none-takes-over : c .whole ≡ false → In noted (t .root) → ⊥
-  none-takes-over o m = k .remains (t .root) m .1 root-runs
+  -- a column with the own goal: the root runs, and so does l
+  none-takes-over : c .whole ≡ false → In noted (watched t c) → ⊥
+  none-takes-over o m = ⊎-elim
+      (λ w. k .remains l (subst watching w m) .1 rl)
+      (λ w. k .remains (t .root) (subst watching w m) .1 root-runs) (truth (t .watch))
     where
+      watching : Bool → Type 0
+      watching w = In noted (cond w l (t .root))
+
       root-runs : Runs s (t .root)
       root-runs = ⊎-elim (λ r. r) (λ r. absurd (true≢false (sym (ap not r) ∙ o))) (truth (s .columns (t .root) .running))
 
@@ -155,7 +204,7 @@ module _ (t : Tree) (tree : IsTree t) {s s' : State} (j l noted : ℕ) (inv : In
     no-send = each-running (λ (i : ℕ) (x : Column). Empty (x .send)) (λ q m. in-none m) (λ i n h. rest .no-send i h);
     no-ack = λ i q h m. absurd (none-owed-now i h q m);
     no-all = each-running
-        (λ (i : ℕ) (x : Column). i ≢ t .root → In (x .noted) (t .root) → x .whole ≡ false → ¬ Idle x)
+        (λ (i : ℕ) (x : Column). i ≢ t .root → In (x .noted) (watched t x) → x .whole ≡ false → ¬ Idle x)
         (λ _ m o _. none-takes-over o m)
         (λ i n h nr m o idle. rest .no-all i h nr (without-in (s .columns i .noted) j m) o idle);
     no-note = λ i q h. each-running

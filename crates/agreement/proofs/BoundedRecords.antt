@@ -5,7 +5,9 @@ use mathlib.Core.Path.{_≡_, refl, sym, ap}
 use mathlib.Core.Logic.{_≢_, _⊎_, ⊎-elim, inl, inr}
 use mathlib.Core.Bool.{true, false, true≢false}
 use mathlib.Core.List.{List, _∷_}
+use lib.Dec.{eqb}
 use lib.ListN.{length}
+use borrow.Author.Tests.{eqb-true}
 use Rattle.column.specs.Sets.{single}
 use Rattle.column.specs.Trees.{IsTree, children}
 use Rattle.column.specs.declared.tree.Tree.{Tree}
@@ -39,9 +41,9 @@ module _ (t : Tree) (tree : IsTree t) {s : State} (a : ℕ) (inv : Invariant t s
   c = s .columns a
 
   pub bound-take-higher : {s' : State} (q k d : ℕ) {l : List Packet} → c .number < k → Taken (s .network) (Message q a k d) l →
-      Becomes s s' a (renewed c k d (children t a) 0 (single q) false) l (s .orders) → Bounded t s'
+      Becomes s s' a (renewed c k d (children t a) 0 (single q) (eqb a (t .root)) q) l (s .orders) → Bounded t s'
   bound-take-higher {s'} q k d lt taken b = bound ra old b
-      (λ _. spread-anew t tree a (λ x m. m) (λ x m. in-none m) (λ w. absurd (true≢false (sym w))))
+      (λ _. spread-anew t tree a (λ x m. m) (λ x m. in-none m) (λ w n. n (eqb-true a (t .root) w)))
       (λ root. record {
         does = λ _ x. risen-done lt;
         lags = λ _. inl (omega (arith, lt, inv .near a ra));
@@ -86,12 +88,12 @@ module _ (t : Tree) (tree : IsTree t) {s : State} (a : ℕ) (inv : Invariant t s
 
 -- ---- the root orders: everybody that runs is done with the order before
 
-pub bound-order : (t : Tree) → IsTree t → {s s' : State} (d : ℕ) → Invariant t s → Bounded t s → Runs s (t .root) → Idle (s .columns (t .root)) →
+pub bound-order : (t : Tree) → IsTree t → {s s' : State} → t .watch ≡ false → (d : ℕ) → Invariant t s → Bounded t s → Runs s (t .root) → Idle (s .columns (t .root)) →
     Becomes s s' (t .root)
     (renewed (s .columns (t .root)) (s .columns (t .root) .number + 1) d (children t (t .root)) (s .columns (t .root) .awaited)
-    (s .columns (t .root) .owed) (s .columns (t .root) .whole))
+    (s .columns (t .root) .owed) (s .columns (t .root) .whole) (s .columns (t .root) .sender))
     (s .network) (d ∷ s .orders) → Bounded t s'
-bound-order t tree {s} {s'} d inv old root idle b = record {
+bound-order t tree {s} {s'} o d inv old root idle b = record {
   spreads = each b (λ (j : ℕ) (x : Column). x .running ≡ true → Spread t j x)
       (λ _. spread-anew t tree (t .root) (λ x m. m) (idle .1) (λ _ n. n refl)) (λ j n. old .spreads j);
   calm = λ _. calm-become b root (old .calm root) record {
@@ -107,7 +109,7 @@ bound-order t tree {s} {s'} d inv old root idle b = record {
 }
   where
     falls : Falls s s'
-    falls = fall-quiet s (t .root) b (λ f p. rw (absent (s .columns (t .root) .owed) p (inv .locals (t .root) root .root-owes refl p), root) (omega arith))
+    falls = fall-quiet s (t .root) b (λ f p. rw (absent (s .columns (t .root) .owed) p (inv .locals (t .root) root .shuns o .root-owes refl p), root) (omega arith))
 
     served : (i : ℕ) → Runs s i → Done (number s (t .root)) (s .columns i)
     served i h = idle-done inv (old .calm root) (t .root) root idle i h (under-root t tree i (inv .inside i h))

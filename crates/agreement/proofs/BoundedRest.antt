@@ -78,8 +78,8 @@ module _ (t : Tree) {s : State} (f : Still s) where
 
 -- ---- the fresh bank
 
-pub fresh-bounded : (t : Tree) {s : State} → Fresh t s → Bounded t s
-fresh-bounded t {s} f = still-bounded t record {
+pub fresh-bounded : (t : Tree) {s : State} → t .root < t .columns → Fresh t s → Bounded t s
+fresh-bounded t {s} below f = still-bounded t record {
   no-packet = f .no-packet;
   idle = λ i h. (λ q m. in-none (set i h (λ (c : Column). In (c .send) q) m), λ q m. in-none (set i h (λ (c : Column). In (c .awaited) q) m));
   owes-nobody = λ i h q m. in-none (set i h (λ (c : Column). In (c .owed) q) m);
@@ -87,7 +87,7 @@ fresh-bounded t {s} f = still-bounded t record {
 }
   where
     inside : (i : ℕ) → Runs s i → i < t .columns
-    inside = fresh-invariant t f .inside
+    inside = fresh-invariant t f below .inside
 
     set : (i : ℕ) → Runs s i → (P : Column → Type 0) → P (s .columns i) → P (fresh t i)
     set i h P = subst P (f .columns-fresh i (inside i h))

@@ -40,12 +40,12 @@ module _ (t : Tree) (tree : IsTree t) {s : State} (a : ℕ) (inv : Invariant t s
   quiet : (f r k : ℕ) → Holds (s .network) (Acknowledgement f r k) → Holds (s .network) (Acknowledgement f r k) ⊎ ((p : ℕ) → Runs s p → Under t f p → Done k (s .columns p))
   quiet f r k m = inl m
 
-  pub bound-send-self : {s' : State} → In (c .send) a →
+  pub bound-send-self : {s' : State} → t .watch ≡ false → In (c .send) a →
       Becomes s s' a (serving c (without (c .send) a) (c .awaited)) (s .network) (s .orders) → Bounded t s'
-  bound-send-self m b = bound-steady ra old b (fall-quiet s a b (λ f p. omega arith))
+  bound-send-self o m b = bound-steady ra old b (fall-quiet s a b (λ f p. omega arith))
       (spread-fewer t tree here (λ q u. ⊎-elim (λ k. inl (without-in (c .send) a k)) (λ k. inr k) u) (λ w. w)
       (λ q k l. here .disjoint q (without-in (c .send) a k) l))
-      (λ root. absurd (inv .locals a ra .own (root-runs-own inv root a ra (self-root t a inv ra m)) a (inl m) .other refl))
+      (λ root. absurd (inv .locals a ra .own (inl (root-runs-own o inv root a ra (self-root t a inv ra m))) a (inl m) .other refl))
       (λ q. fewer refl (λ y k. without-in (c .send) a k) (λ y k. k) refl (λ _ k. inl k) (λ k. k))
 
   -- the subtree of a halted column x is x and the subtrees of its children
@@ -187,7 +187,7 @@ module _ (t : Tree) (tree : IsTree t) {s : State} (a : ℕ) (inv : Invariant t s
           one-stale = omega (arith, before .one-stale, stale-same);
           stale-held = λ h. ⊎-elim (λ z. absurd (n (z .0)))
               (λ z. let k = halts ra old b (z .0) in inr (k .0, z .1 ∙ sym (k .1))) (before .stale-held (omega (arith, h, stale-same)));
-          current-own = λ _ w. inv .locals a ra .own w x (inl m);
+          current-own = λ _ w. inv .locals a ra .own (inl w) x (inl m);
           current-served = λ _ w. absurd (served w);
         }
       where

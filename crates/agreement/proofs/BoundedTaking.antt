@@ -3,18 +3,19 @@ use Prim.Native.Nat.{ℕ, _<_}
 use native.Mathlib.Omega.{arith}
 use mathlib.Core.Path.{_≡_, refl, sym, subst, _∙_}
 use mathlib.Core.Logic.{_≢_, _⊎_, ⊎-elim, inl, inr}
-use mathlib.Core.Bool.{true, false, true≢false}
+use mathlib.Core.Bool.{Bool, true, false, cond, true≢false}
 use mathlib.Core.List.{List}
 use borrow.Author.Tests.{eq-eqb}
 use Rattle.column.specs.Sets.{single, insert, without}
 use Rattle.column.specs.Trees.{IsTree}
 use Rattle.column.specs.SubtreeLaws.{Under}
+use Rattle.column.specs.Columns.{watched}
 use Rattle.column.specs.declared.tree.Tree.{Tree}
 use Rattle.column.specs.declared.state.Column.{Column}
 use Rattle.column.specs.declared.packet.Packet.{Packet}
 use Rattle.column.specs.declared.packet.Packet.the-variants.{Message, Acknowledgement}
 use Rattle.agreement.proofs.Model.{In, State, Runs, post, Taken, Becomes}
-use Rattle.agreement.proofs.Move.{renewed, serving, owing, Idle}
+use Rattle.agreement.proofs.Move.{renewed, serving, owing, Idle, Free}
 use Rattle.agreement.proofs.Members.{in-single, without-in, without-cases}
 use Rattle.agreement.proofs.Network.{Holds, taken-held, taken-back, post-cases}
 use Rattle.agreement.proofs.Invariant.{number, Invariant}
@@ -81,11 +82,11 @@ module _ (t : Tree) (tree : IsTree t) {s : State} (a : ℕ) (inv : Invariant t s
       (λ root p h u. lag-done inv (old .calm root)
       (omega (arith, lt, message-issued (inv .packets (Message q a k d) (taken-held taken)) .at-most)) p h) b
 
-  pub bound-acknowledge : {s' : State} (r : ℕ) → In (c .owed) r → (c .whole ≡ true) ⊎ Idle c →
+  pub bound-acknowledge : {s' : State} → t .watch ≡ false → (r : ℕ) → In (c .owed) r → Free t a c →
       Becomes s s' a (owing c (without (c .owed) r)) (post s (Acknowledgement a r (c .number)) (s .network)) (s .orders) → Bounded t s'
-  bound-acknowledge r m o b = bound-answer r m
-      (λ root. ⊎-elim (λ w. absurd (true≢false (sym w ∙ root-runs-own inv root a ra (λ e. inv .locals a ra .root-owes e r m))))
-      (λ idle. idle-done inv (old .calm root) a ra idle) o) b
+  bound-acknowledge o r m free b = bound-answer r m
+      (λ root. ⊎-elim (λ w. absurd (true≢false (sym (w .0) ∙ root-runs-own o inv root a ra (λ e. inv .locals a ra .shuns o .root-owes e r m))))
+      (λ idle. idle-done inv (old .calm root) a ra idle) free) b
 
   -- the acknowledgement of a column that is awaited: it was the only token with this number
   pub bound-take-acknowledgement : {s' : State} (q k : ℕ) {l : List Packet} → k ≡ c .number → Taken (s .network) (Acknowledgement q a k) l →
@@ -108,11 +109,11 @@ module _ (t : Tree) (tree : IsTree t) {s : State} (a : ℕ) (inv : Invariant t s
           let h' : 0 < tokens (current (c .number)) s' a q = subst (λ (y : ℕ). 0 < tokens (current (c .number)) s' a y) z h in
           omega (arith, less, h', old .pairs a q ra .one-current)
 
-  pub bound-widen : {s' : State} → a ≢ t .root → In (c .noted) (t .root) → c .whole ≡ false → Idle c →
-      Becomes s s' a (renewed c (c .number) (c .doors) (single (t .root)) (c .awaited) (c .owed) true) (s .network) (s .orders) → Bounded t s'
-  bound-widen n m w idle b = bound-steady ra old b (fall-quiet s a b (λ f p. omega arith))
+  pub bound-widen : {s' : State} → t .watch ≡ false → a ≢ t .root → In (c .noted) (watched t c) → c .whole ≡ false → Idle c →
+      Becomes s s' a (renewed c (c .number) (c .doors) (single (t .root)) (c .awaited) (c .owed) true (c .sender)) (s .network) (s .orders) → Bounded t s'
+  bound-widen o n m w idle b = bound-steady ra old b (fall-quiet s a b (λ f p. omega arith))
       (spread-root t tree a (inv .inside a ra) (λ q k. in-single (t .root) k) (idle .1))
-      (λ root. absurd (inv .coverages a ra .noted-halted (t .root) m root))
+      (λ root. absurd (inv .coverages a ra .noted-halted (t .root) (subst (λ (v : Bool). In (c .noted) (cond v (c .sender) (t .root))) o m) root))
       (λ q. record {
         same = refl;
         holds = λ _ k. inl k;

@@ -96,7 +96,7 @@ module _ {t : Tree} {s : State} (inv : Invariant t s) (old : Calm t s) where
       same-served p h (pending q u v) = covers q p u h v
       same-served p h (done d) = done (subst (λ (n : ℕ). Done n (s .columns p)) (sym same) d)
 
--- while the root runs, every other column has its own subtree for its goal
-pub root-runs-own : {t : Tree} {s : State} (inv : Invariant t s) → Runs s (t .root) → (a : ℕ) → Runs s a → a ≢ t .root → s .columns a .whole ≡ false
-root-runs-own {t} {s} inv root a ra n = ⊎-elim
-    (λ w. absurd (inv .coverages a ra .noted-halted (t .root) (inv .locals a ra .root-noted w n) root)) (λ w. w) (truth (s .columns a .whole))
+-- where the root is watched: while it runs, every other column has its own subtree for its goal
+pub root-runs-own : {t : Tree} {s : State} → t .watch ≡ false → (inv : Invariant t s) → Runs s (t .root) → (a : ℕ) → Runs s a → a ≢ t .root → s .columns a .whole ≡ false
+root-runs-own {t} {s} o inv root a ra n = ⊎-elim
+    (λ w. absurd (inv .coverages a ra .noted-halted (t .root) (inv .locals a ra .shuns o .root-noted w n) root)) (λ w. w) (truth (s .columns a .whole))

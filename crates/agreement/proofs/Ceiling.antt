@@ -143,8 +143,8 @@ module _ (t : Tree) (tree : IsTree t) {s : State} (inv : Invariant t s) (st : St
       }
 
       go : ToServe t (s .columns p) q → Below t p q
-      go (to-send y m u) = under y (inv .locals p r .own w y (inl m)) u
-      go (to-await y m b) = under y (inv .locals p r .own w y (inr m)) (b .under)
+      go (to-send y m u) = under y (inv .locals p r .own (inl w) y (inl m)) u
+      go (to-await y m b) = under y (inv .locals p r .own (inl w) y (inr m)) (b .under)
 
   -- what is to reach now, and what a takeover adds
   one-of : (p q : ℕ) → Runs s p → one (cover t p (s .columns p) q) + one (not (s .columns p .whole) && not (isBelow t p q)) ≤ 1

@@ -42,7 +42,7 @@ module _ (w : World) (r : Reached w) where
   told-root : (d : ℕ) (s' : State) → s' .bank .tree ≡ w .state .bank .tree
       → Move (w .state .bank .tree) (modelOf (w .state) (w .orders)) (modelOf s' (d ∷ w .orders)) (orders d)
       → (columnAt (s' .bank) (rootOf s') .number ≡ suc (length (w .orders))) × (columnAt (s' .bank) (rootOf s') .doors ≡ d)
-  told-root d s' e (order d' runs idle b) =
+  told-root d s' e (order d' runs idle free b) =
       let root : rootOf s' ≡ rootOf (w .state) = ap (λ (t : Tree). t .root) e in (
         ap (λ (i : ℕ). columnAt (s' .bank) i .number) root ∙ ap (λ (c : Column). c .number) (b .mine) ∙ add-one _ ∙ ap suc (root-newest runs),
         ap (λ (i : ℕ). columnAt (s' .bank) i .doors) root ∙ ap (λ (c : Column). c .doors) (b .mine),
@@ -80,14 +80,18 @@ halted-rest = after-every (λ w. ((i : ℕ) → Running (w .state) i → ⊥) �
 
 -- ---- the tree stays
 
-run-tree : (w : World) (xs : List Step) → run w xs .state .bank .tree ≡ w .state .bank .tree
-unfolding run told
-run-tree w [] = refl
-run-tree w (x ∷ xs) = run-tree (told w x (perform (w .state) x)) xs ∙ go (perform (w .state) x) refl
+pub told-tree : (w : World) (x : Step) → told w x (perform (w .state) x) .state .bank .tree ≡ w .state .bank .tree
+unfolding told
+told-tree w x = go (perform (w .state) x) refl
   where
     go : (o : Outcome State) → perform (w .state) x ≡ o → told w x o .state .bank .tree ≡ w .state .bank .tree
     go (accepted s) e = sym (ap (λ (o : Outcome State). after o .bank .tree) e) ∙ tree-kept (w .state) x
     go (refused n s) e = sym (ap (λ (o : Outcome State). after o .bank .tree) e) ∙ tree-kept (w .state) x
+
+pub run-tree : (w : World) (xs : List Step) → run w xs .state .bank .tree ≡ w .state .bank .tree
+unfolding run told
+run-tree w [] = refl
+run-tree w (x ∷ xs) = run-tree (told w x (perform (w .state) x)) xs ∙ told-tree w x
 
 follow-tree : (w : World) (lines : List Line) → follow w lines .state .bank .tree ≡ w .state .bank .tree
 unfolding follow

@@ -1,23 +1,23 @@
 -- What it says of a column that the core does not refuse a step: document 01's conditions, both ways. Assumes nothing.
 use Prim.Native.Nat.{ℕ, _^_, _<_}
 use native.Mathlib.Omega.{arith}
-use mathlib.Core.Path.{_≡_, sym, _∙_}
+use mathlib.Core.Path.{_≡_, sym, ap, _∙_}
 use mathlib.Core.Logic.{_≢_, _⊎_, ⊎-elim, inl, inr}
-use mathlib.Core.Bool.{true, false, _||_, true≢false}
+use mathlib.Core.Bool.{true, false, not, _&&_, true≢false}
 use lib.Dec.{eqb}
-use borrow.Author.Tests.{eqb-true, eqb-false, leb-false, not-false}
-use Rattle.column.specs.Cases.{and-left, and-right, or-cases}
+use borrow.Author.Tests.{eq-eqb, eqb-true, eqb-false, leb-false, not-true, not-false}
+use Rattle.column.specs.Cases.{and-left, and-right, and-none, or-cases}
 use Rattle.column.specs.Refusals.{first}
 use Rattle.column.specs.RefusalLaws.{passed, earlier-none}
 use Rattle.column.specs.Sets.{has}
 use Rattle.column.specs.SetLaws.{within-lt, no-members, member-pos}
-use Rattle.column.specs.Columns.{highest, stateConditions, stateRefusal, standing, idle}
+use Rattle.column.specs.Columns.{highest, stateConditions, stateRefusal, standing, idle, watched, mayAcknowledge}
 use Rattle.column.specs.Steps.{orderConditions, orderRefusal, sendConditions, sendRefusal, ackConditions, ackRefusal, allConditions, allRefusal, noteConditions, noteRefusal, haltConditions, haltRefusal}
 use Rattle.column.specs.declared.tree.Tree.{Tree}
 use Rattle.column.specs.declared.state.Column.{Column}
 use Rattle.agreement.proofs.Model.{In, Empty}
 use Rattle.agreement.proofs.Members.{absent}
-use Rattle.agreement.proofs.Move.{Idle}
+use Rattle.agreement.proofs.Move.{Idle, Free}
 
 pub member : {m q : ℕ} → has m q ≡ true → In m q
 member e = record { holds = e }
@@ -54,11 +54,15 @@ module _ (t : Tree) (i : ℕ) (c : Column) where
         noted = within-lt (c .noted) (t .columns) (not-false _ (p .1 .1 .1 .1 .0));
       }
 
-  pub order-in : orderRefusal t i c ≡ 0 → (c .running ≡ true) × Idle c × (c .number ≢ highest)
+  pub order-in : orderRefusal t i c ≡ 0 → (c .running ≡ true) × Idle c × (t .watch ≡ true → Empty (c .owed)) × (c .number ≢ highest)
   unfolding orderRefusal
   order-in e =
-      let p = passed (orderConditions t i c) tt (earlier-none (standing t i c) (first (orderConditions t i c)) e .1) in
-      (not-false _ (p .1 .0), idle-in c (not-false _ (p .1 .1 .0)), eqb-false (c .number) highest (p .1 .1 .1 .0))
+      let p = passed (orderConditions t i c) tt (earlier-none (standing t i c) (first (orderConditions t i c)) e .1) in (
+        not-false _ (p .1 .0),
+        idle-in c (not-false _ (p .1 .1 .0)),
+        λ w. empty (eqb-true (c .owed) 0 (not-false _ (and-none (t .watch) _ (p .1 .1 .1 .0) w))),
+        eqb-false (c .number) highest (p .1 .1 .1 .1 .0),
+      )
 
   pub send-in : sendRefusal t i c ≡ 0 → (c .running ≡ true) × (c .send ≢ 0)
   unfolding sendRefusal
@@ -66,17 +70,19 @@ module _ (t : Tree) (i : ℕ) (c : Column) where
       let p = passed (sendConditions t i c) tt (earlier-none (standing t i c) (first (sendConditions t i c)) e .1) in
       (not-false _ (p .0), eqb-false (c .send) 0 (p .1 .0))
 
-  free-in : (c .whole || idle c) ≡ true → (c .whole ≡ true) ⊎ Idle c
-  free-in e = ⊎-elim (λ w. inl w) (λ d. inr (idle-in c d)) (or-cases (c .whole) (idle c) e)
+  free-in : mayAcknowledge t i c ≡ true → Free t i c
+  free-in e = ⊎-elim
+      (λ w. inl (and-left (c .whole) _ w, λ o r. true≢false (sym (eq-eqb i (t .root) r) ∙ and-none (t .watch) _ (not-true _ (and-right (c .whole) _ w)) o)))
+      (λ d. inr (idle-in c d)) (or-cases (c .whole && not (t .watch && eqb i (t .root))) (idle c) e)
 
-  pub ack-in : ackRefusal t i c ≡ 0 → (c .running ≡ true) × (c .owed ≢ 0) × ((c .whole ≡ true) ⊎ Idle c)
+  pub ack-in : ackRefusal t i c ≡ 0 → (c .running ≡ true) × (c .owed ≢ 0) × Free t i c
   unfolding ackRefusal
   ack-in e =
       let p = passed (ackConditions t i c) tt (earlier-none (standing t i c) (first (ackConditions t i c)) e .1) in
       (not-false _ (p .0), eqb-false (c .owed) 0 (p .1 .0), free-in (not-false _ (p .1 .1 .0)))
 
   pub all-in : allRefusal t i c ≡ 0 →
-      (c .running ≡ true) × (i ≢ t .root) × In (c .noted) (t .root) × (c .whole ≡ false) × Idle c
+      (c .running ≡ true) × (i ≢ t .root) × In (c .noted) (watched t c) × (c .whole ≡ false) × Idle c
   unfolding allRefusal
   all-in e =
       let p = passed (allConditions t i c) tt (earlier-none (standing t i c) (first (allConditions t i c)) e .1) in

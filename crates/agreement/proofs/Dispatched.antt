@@ -19,13 +19,14 @@ use Rattle.bank.specs.Dispatch.{offers, offered, firstAccepted, turn, onward, d
 use Rattle.bank.specs.DispatchLaws.{stops-rest, stops-taken, take-accepted}
 use Rattle.bank.specs.declared.step.Step.{Step}
 use Rattle.bank.specs.declared.step.Step.the-variants.{Order, Send, Take, Ack, All, Note, Halt, Back}
-use Rattle.agreement.specs.History.{World, columnsOf, ordersAfter, told, run}
+use Rattle.agreement.specs.History.{World, columnsOf, ordersAfter, told, run, WatchesRoot}
 use Rattle.agreement.specs.Dispatching.{stepsWithin, isSettling, allSettling, allAccepted, Settles, Rests}
 use Rattle.agreement.proofs.Potential.{potential}
 use Rattle.agreement.proofs.Ceiling.{ceiling}
 use Rattle.agreement.proofs.Settling.{settling, fall}
 use Rattle.agreement.proofs.View.{modelOf, OneMove, event}
 use Rattle.agreement.proofs.Perform.{refines}
+use Rattle.agreement.proofs.Companions.{told-tree, run-tree}
 use Rattle.agreement.proofs.Reached.{Reached, after-every, next, reached, reached-stands}
 use Rattle.agreement.proofs.Limits.{reached-room}
 
@@ -57,30 +58,30 @@ event-settling s (Back j) o = refl
 is-tree : (w : World) → Reached w → IsTree (w .state .bank .tree)
 is-tree w r = check-exact (w .state .bank .tree) .0 (r .tree)
 
-left-within : (w : World) → Reached w → left w ≤ stepsWithin (columnsOf w)
-left-within w r = ceiling (w .state .bank .tree) (is-tree w r) (r .invariant) (r .standing) (r .bounded)
+left-within : (w : World) → Reached w → WatchesRoot w → left w ≤ stepsWithin (columnsOf w)
+left-within w r o = ceiling (w .state .bank .tree) (is-tree w r) (r .invariant) (r .standing) (r .bounded o)
 
-left-falls : (w : World) → Reached w → (x : Step) → isSettling x ≡ true → (s : State) → perform (w .state) x ≡ accepted s → left (told w x (accepted s)) < left w
+left-falls : (w : World) → Reached w → WatchesRoot w → (x : Step) → isSettling x ≡ true → (s : State) → perform (w .state) x ≡ accepted s → left (told w x (accepted s)) < left w
 unfolding told
-left-falls w r x h s e =
-    let o = one-move x h in
-    let f = refines (w .state) (r .formed) (w .orders) x o s e in
+left-falls w r o x h s e =
+    let one = one-move x h in
+    let f = refines (w .state) (r .formed) (w .orders) x one s e in
     subst (λ (t : Tree). potential t (modelOf s (ordersAfter (w .orders) x)) < left w) (sym (f .same-tree))
-    (fall (w .state .bank .tree) (is-tree w r) (record { invariant = r .invariant; standing = r .standing; bounded = r .bounded }) (f .move)
-    (event-settling (w .state) x o ∙ h))
+    (fall (w .state .bank .tree) (is-tree w r) (record { by-root = o; invariant = r .invariant; standing = r .standing; bounded = r .bounded o }) (f .move)
+    (event-settling (w .state) x one ∙ h))
 
 -- ---- lists of accepted steps
 
-few-left : (w : World) (xs : List Step) → Reached w → allSettling xs ≡ true → allAccepted w xs ≡ true → length xs ≤ left w
+few-left : (w : World) (xs : List Step) → Reached w → WatchesRoot w → allSettling xs ≡ true → allAccepted w xs ≡ true → length xs ≤ left w
 unfolding allSettling allAccepted
-few-left w [] r a e = omega arith
-few-left w (x ∷ xs) r a e = go (perform (w .state) x) refl e (λ z. few-left (told w x (perform (w .state) x)) xs (next w x r) (and-right (isSettling x) _ a) z)
+few-left w [] r o a e = omega arith
+few-left w (x ∷ xs) r o a e = go (perform (w .state) x) refl e (λ z. few-left (told w x (perform (w .state) x)) xs (next w x r) (ap (λ (t : Tree). t .watch) (told-tree w x) ∙ o) (and-right (isSettling x) _ a) z)
   where
     go : (o : Outcome State) → perform (w .state) x ≡ o → (not (isRefused o) && allAccepted (told w x o) xs) ≡ true
         → (allAccepted (told w x (perform (w .state) x)) xs ≡ true → length xs ≤ left (told w x (perform (w .state) x))) → suc (length xs) ≤ left w
     go (accepted s) p q ih = omega (
       arith,
-      left-falls w r x (and-left (isSettling x) _ a) s p,
+      left-falls w r o x (and-left (isSettling x) _ a) s p,
       subst (λ (o : Outcome State). length xs ≤ left (told w x o)) p (ih (ap (λ (o : Outcome State). allAccepted (told w x o) xs) p ∙ q)),
     )
     go (refused n s) p q ih = absurd (true≢false (sym q))
@@ -190,35 +191,36 @@ one-more (suc k) s h = go (perform s (turn s)) h (λ x. one-more k x)
     go (accepted x) l ih = ih x (omega (arith, l))
     go (refused n x) l ih = refl
 
--- a reached bank whose turn is refused is at rest: it takes its packets, since its network is never full
-stopped-rests : (w : World) → Reached w → Stopped (w .state) → AtRest (w .state)
-stopped-rests w r e = ⊎-elim
+-- a reached bank whose turn is refused is at rest where the root is watched: it takes its packets, since its network is never full
+stopped-rests : (w : World) → Reached w → WatchesRoot w → Stopped (w .state) → AtRest (w .state)
+stopped-rests w r o e = ⊎-elim
     (λ z. rest-exact (w .state) .0 (stops-rest (w .state) z e))
     (λ z. absurd (true≢false (sym (stops-taken (w .state) e)
-    ∙ take-accepted (w .state) (reached-stands w r) 0 (omega (arith, z)) (reached-room w r))))
+    ∙ take-accepted (w .state) (reached-stands w r) 0 (omega (arith, z)) (reached-room w r o))))
     (equal-cases (w .state .bank .count) 0)
 
 -- ---- the theorem
 
 module _ (w : World) (r : Reached w) where
-  few : (limit : ℕ) → length (dispatched limit (w .state)) ≤ stepsWithin (columnsOf w)
-  few limit = omega (
+  few : WatchesRoot w → (limit : ℕ) → length (dispatched limit (w .state)) ≤ stepsWithin (columnsOf w)
+  few o limit = omega (
     arith,
-    left-within w r,
-    few-left w (dispatched limit (w .state)) r (settling-dispatched limit (w .state)) (accepted-dispatched limit w),
+    left-within w r o,
+    few-left w (dispatched limit (w .state)) r o (settling-dispatched limit (w .state)) (accepted-dispatched limit w),
   )
 
-  until : (limit : ℕ) → length (dispatched limit (w .state)) < limit → AtRest (dispatch limit (w .state))
-  until limit h = subst AtRest (lead limit w) (stopped-rests (run w (dispatched limit (w .state))) (reached w (dispatched limit (w .state)) r)
+  until : WatchesRoot w → (limit : ℕ) → length (dispatched limit (w .state)) < limit → AtRest (dispatch limit (w .state))
+  until o limit h = subst AtRest (lead limit w) (stopped-rests (run w (dispatched limit (w .state))) (reached w (dispatched limit (w .state)) r)
+      (ap (λ (t : Tree). t .watch) (run-tree w (dispatched limit (w .state))) ∙ o)
       (subst Stopped (sym (lead limit w)) (stopped limit (w .state) h)))
 
   settles : Settles w
   settles = record {
-    any-steps = λ xs a e. omega (arith, left-within w r, few-left w xs r a e);
+    any-steps = λ o xs a e. omega (arith, left-within w r o, few-left w xs r o a e);
     few = few;
-    rests = λ limit h.
-        let l : length (dispatched (suc limit) (w .state)) < suc limit = omega (arith, few (suc limit)) in
-        subst AtRest (one-more limit (w .state) l) (until (suc limit) l);
+    rests = λ o limit h.
+        let l : length (dispatched (suc limit) (w .state)) < suc limit = omega (arith, few o (suc limit)) in
+        subst AtRest (one-more limit (w .state) l) (until o (suc limit) l);
     until = until;
     steps-accepted = λ limit. accepted-dispatched limit w;
     steps-lead = λ limit. lead limit w;

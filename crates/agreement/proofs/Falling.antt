@@ -243,7 +243,7 @@ module _ (t : Tree) (tree : IsTree t) {s : State} (a : ℕ) (inv : Invariant t s
   -- ---- a higher number, a takeover, a halt
 
   pub fall-higher : {s' : State} (q k d : ℕ) {l : List Packet} → c .number < k → Taken (s .network) (Message q a k d) l →
-      Becomes s s' a (renewed c k d (children t a) 0 (single q) false) l (s .orders) → potential t s' < potential t s
+      Becomes s s' a (renewed c k d (children t a) 0 (single q) false q) l (s .orders) → potential t s' < potential t s
   fall-higher q k d {l} lt taken b = falls t b (inv .inside a ra) ra ra (omega (
     arith,
     load-taken taken,
@@ -254,7 +254,7 @@ module _ (t : Tree) (tree : IsTree t) {s : State} (a : ℕ) (inv : Invariant t s
   ))
     where
       c' : Column
-      c' = renewed c k d (children t a) 0 (single q) false
+      c' = renewed c k d (children t a) 0 (single q) false q
 
       k-given : k ≤ n
       k-given = message-issued (inv .packets (Message q a k d) (taken-held taken)) .at-most
@@ -274,7 +274,7 @@ module _ (t : Tree) (tree : IsTree t) {s : State} (a : ℕ) (inv : Invariant t s
       either false = refl
 
   pub fall-widen : {s' : State} → a ≢ t .root → c .whole ≡ false →
-      Becomes s s' a (renewed c (c .number) (c .doors) (single (t .root)) (c .awaited) (c .owed) true) (s .network) (s .orders) → potential t s' < potential t s
+      Becomes s s' a (renewed c (c .number) (c .doors) (single (t .root)) (c .awaited) (c .owed) true (c .sender)) (s .network) (s .orders) → potential t s' < potential t s
   fall-widen ne own b = falls t b (inv .inside a ra) ra ra (omega (
     arith,
     parts-own t n a c c' (inv .inside a ra) (omega (arith, one-few (cover t a c' a), ap (λ (x : Bool). one (not x)) own))
@@ -282,7 +282,7 @@ module _ (t : Tree) (tree : IsTree t) {s : State} (a : ℕ) (inv : Invariant t s
   ))
     where
       c' : Column
-      c' = renewed c (c .number) (c .doors) (single (t .root)) (c .awaited) (c .owed) true
+      c' = renewed c (c .number) (c .doors) (single (t .root)) (c .awaited) (c .owed) true (c .sender)
 
       still : (q : ℕ) → cover t a c' q ≡ true → (not (c .whole) && not (isBelow t a q)) ≡ true
       still q e = ap₂ (λ (x y : Bool). not x && not y) own

@@ -16,7 +16,7 @@ use Rattle.column.specs.declared.packet.Packet.{Packet}
 use Rattle.agreement.specs.Orders.{given}
 use Rattle.agreement.proofs.Model.{In, State, Runs, count, Becomes}
 use Rattle.agreement.proofs.Network.{Holds}
-use Rattle.agreement.proofs.Invariant.{number, Covered, pending, reached, Local, Coverage, Issued, Truthful, message-truthful, acknowledgement-truthful, Outstanding, message-sent, acknowledgement-owed, acknowledgement-sent, Invariant}
+use Rattle.agreement.proofs.Invariant.{number, Covered, pending, reached, Local, Coverage, Issued, Truthful, message-truthful, acknowledgement-truthful, Outstanding, message-sent, acknowledgement-owed, acknowledgement-sent, Linked, Invariant}
 
 -- ---- a later state: fewer run, numbers are no lower, and what was given stays given
 
@@ -46,7 +46,7 @@ module _ (t : Tree) {s s' : State} (l : Later s s') where
   }
 
   pub truthful-later : {r : Packet} → Truthful t s r → Truthful t s' r
-  truthful-later (message-truthful g n) = message-truthful (issued-later g) n
+  truthful-later (message-truthful {f = f} g n b m) = message-truthful (issued-later g) n b (λ h. omega (arith, m (l .runs f h), l .rises f))
   truthful-later (acknowledgement-truthful {f = f} {k = k} g) =
       acknowledgement-truthful {k = k} (λ (p : ℕ) (h : Runs s' p) (u : Under t f p). omega (arith, g p (l .runs p h) u, l .rises p))
 
@@ -83,8 +83,8 @@ pub record Keeps (t : Tree) (s s' : State) (a : ℕ) (c : Column) (network : Lis
       Outstanding network (s .columns p) c p a
 
 pub keep : (t : Tree) {s s' : State} {a : ℕ} {c : Column} {network : List Packet} {orders : List ℕ} →
-    Invariant t s → Runs s a → Becomes s s' a c network orders → Keeps t s s' a c network → Invariant t s'
-keep t {s} {s'} {a} {c} {network} inv ra b k = record {
+    Invariant t s → Runs s a → Becomes s s' a c network orders → (t .watch ≡ true → Linked t s') → Keeps t s s' a c network → Invariant t s'
+keep t {s} {s'} {a} {c} {network} inv ra b linked k = record {
   inside = λ i h. inv .inside i (k .later .runs i h);
   near = k .near;
   root-newest = k .newest;
@@ -97,6 +97,7 @@ keep t {s} {s'} {a} {c} {network} inv ra b k = record {
       (k .new r (subst (λ (l : List Packet). Holds l r) (b .packets) m));
   outstanding = λ p q h h' m.
       subst (λ (l : List Packet). Outstanding l (s' .columns p) (s' .columns q) p q) (sym (b .packets)) (waiting p h q h' m);
+  linked = linked;
 }
   where
     waiting : (p : ℕ) → Runs s' p → (q : ℕ) → Runs s' q → In (s' .columns p .awaited) q → Outstanding network (s' .columns p) (s' .columns q) p q
@@ -124,9 +125,9 @@ pub record Steady (t : Tree) (s : State) (a : ℕ) (c : Column) (network : List 
       Outstanding network (s .columns p) c p a
 
 pub steady : (t : Tree) {s s' : State} {a : ℕ} {c : Column} {network : List Packet} →
-    Invariant t s → Runs s a → Becomes s s' a c network (s .orders) → Steady t s a c network → Invariant t s'
-steady t {s} {s'} {a} {c} {network} inv ra b k =
-    keep t inv ra b record {
+    Invariant t s → Runs s a → Becomes s s' a c network (s .orders) → (t .watch ≡ true → Linked t s') → Steady t s a c network → Invariant t s'
+steady t {s} {s'} {a} {c} {network} inv ra b linked k =
+    keep t inv ra b linked record {
       later = l;
       near = λ i h. omega (arith, ap length (b .told), near i h);
       newest = λ h. newest (t .root) refl h ∙ sym (ap length (b .told));

@@ -14,7 +14,7 @@ use Rattle.agreement.proofs.Records.{keep-order, keep-take-higher, keep
 use Rattle.agreement.proofs.Back.{back-invariant}
 
 pub kept : {t : Tree} {s s' : State} {e : Event} → IsTree t → Invariant t s → Move t s s' e → Invariant t s'
-kept {t} tree inv (order d r idle b) = keep-order t tree d inv r idle b
+kept {t} tree inv (order d r idle free b) = keep-order t tree d inv r idle free b
 kept {t} {s} {s'} tree inv (send-self a x r e m b) = keep-send-self t tree a inv r (subst (In (s .columns a .send)) e m)
     (subst (λ (y : ℕ). Becomes s s' a (serving (s .columns a) (without (s .columns a .send) y) (s .columns a .awaited)) (s .network) (s .orders)) e b)
 kept {t} tree inv (send-noted a x r m n b) = keep-send-noted t tree a inv r x m n b

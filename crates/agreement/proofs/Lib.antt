@@ -7,6 +7,7 @@ mod Network
 mod Descendants
 mod Invariant
 mod Keeping
+mod Links
 mod Packets
 mod Adjusting
 mod Serving

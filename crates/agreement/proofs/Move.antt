@@ -5,9 +5,10 @@ use mathlib.Core.Path.{_≡_}
 use mathlib.Core.Logic.{_≢_, _⊎_}
 use mathlib.Core.Bool.{Bool, true, false, not}
 use mathlib.Core.List.{List, [], _∷_}
+use lib.Dec.{eqb}
 use Rattle.column.specs.Sets.{single, join, insert, without}
 use Rattle.column.specs.Trees.{children}
-use Rattle.column.specs.Columns.{withSets}
+use Rattle.column.specs.Columns.{withSets, watched}
 use Rattle.column.specs.Returns.{rejoined, struck}
 use Rattle.column.specs.declared.tree.Tree.{Tree}
 use Rattle.column.specs.declared.state.Column.{Column}
@@ -18,9 +19,9 @@ use Rattle.agreement.proofs.Model.{In, Empty, State, Runs, post, Taken,
 
 -- ---- what a column becomes
 
--- a column with a new record, other sets and another goal
-abbrev pub renewed : Column → ℕ → ℕ → ℕ → ℕ → ℕ → Bool → Column
-renewed c number doors send awaited owed whole =
+-- a column with a new record, other sets, another goal and another sender of its record
+abbrev pub renewed : Column → ℕ → ℕ → ℕ → ℕ → ℕ → Bool → ℕ → Column
+renewed c number doors send awaited owed whole sender =
     record {
       running = c .running;
       number = number;
@@ -30,6 +31,7 @@ renewed c number doors send awaited owed whole =
       owed = owed;
       noted = c .noted;
       whole = whole;
+      sender = sender;
     }
 
 abbrev pub serving : Column → ℕ → ℕ → Column
@@ -49,6 +51,7 @@ noting c send awaited noted =
       owed = c .owed;
       noted = noted;
       whole = c .whole;
+      sender = c .sender;
     }
 
 abbrev pub withRunning : Bool → Column → Column
@@ -62,6 +65,7 @@ withRunning running c =
       owed = c .owed;
       noted = c .noted;
       whole = c .whole;
+      sender = c .sender;
     }
 
 abbrev pub halted : Column → Column
@@ -84,12 +88,17 @@ pub data Event : Type 0 where
 abbrev pub Idle : Column → Type 0
 Idle c = Empty (c .send) × Empty (c .awaited)
 
+-- column i may acknowledge; under sender the root's "`ack` is 6 while it sends or awaits"
+abbrev pub Free : Tree → ℕ → Column → Type 0
+Free t i c = ((c .whole ≡ true) × (t .watch ≡ true → i ≢ t .root)) ⊎ Idle c
+
 -- no packet is under way, and no running column can send, acknowledge, take over the bank, or note a halted column
 pub record Rest (t : Tree) (s : State) : Type 0 where
   pub no-packet : s .network ≡ []
   pub no-send : (i : ℕ) → Runs s i → Empty (s .columns i .send)
-  pub no-ack : (i q : ℕ) → Runs s i → In (s .columns i .owed) q → ¬ ((s .columns i .whole ≡ true) ⊎ Idle (s .columns i))
-  pub no-all : (i : ℕ) → Runs s i → i ≢ t .root → In (s .columns i .noted) (t .root) → s .columns i .whole ≡ false → ¬ Idle (s .columns i)
+  pub no-ack : (i q : ℕ) → Runs s i → In (s .columns i .owed) q → ¬ Free t i (s .columns i)
+  pub no-all : (i : ℕ) → Runs s i → i ≢ t .root → In (s .columns i .noted) (watched t (s .columns i)) → s .columns i .whole ≡ false
+      → ¬ Idle (s .columns i)
   pub no-note : (i j : ℕ) → Runs s i → j < t .columns → ¬ Runs s j → j ≢ i → ¬ (¬ In (s .columns i .noted) j)
 
 -- "It has noted exactly the columns that remain halted"
@@ -100,7 +109,7 @@ pub record Remaining (t : Tree) (s : State) (j noted : ℕ) : Type 0 where
 
 -- the column that comes back: it copies l; "Its goal is its own subtree if the root runs, the whole bank if not."
 abbrev pub cameBack : Tree → State → ℕ → ℕ → Column
-cameBack t s l noted = rejoined (s .columns l) noted (not (s .columns (t .root) .running))
+cameBack t s l noted = rejoined (s .columns l) noted (not (s .columns (t .root) .running)) l
 
 -- column j becomes c, and "all others strike it from those noted"; "unused ones never change"
 pub record Returns (t : Tree) (s s' : State) (j : ℕ) (c : Column) : Type 0 where
@@ -111,11 +120,12 @@ pub record Returns (t : Tree) (s s' : State) (j : ℕ) (c : Column) : Type 0 whe
   pub told : s' .orders ≡ s .orders
 
 pub data Move (t : Tree) (s s' : State) : Event → Type 0 where
+  -- under sender "an order is 7 while it owes anyone"
   order : (d : ℕ) →
-      Runs s (t .root) → Idle (s .columns (t .root)) →
+      Runs s (t .root) → Idle (s .columns (t .root)) → (t .watch ≡ true → Empty (s .columns (t .root) .owed)) →
       Becomes s s' (t .root)
       (renewed (s .columns (t .root)) (s .columns (t .root) .number + 1) d (children t (t .root)) (s .columns (t .root) .awaited)
-      (s .columns (t .root) .owed) (s .columns (t .root) .whole))
+      (s .columns (t .root) .owed) (s .columns (t .root) .whole) (s .columns (t .root) .sender))
       (s .network) (d ∷ s .orders) → Move t s s' (orders d)
   send-self : (a x : ℕ) →
       Runs s a → x ≡ a → In (s .columns a .send) x →
@@ -147,19 +157,21 @@ pub data Move (t : Tree) (s s' : State) : Event → Type 0 where
       Runs s a → s .columns a .number < k → Taken (s .network) (Message q a k d) l → In (s .columns a .owed) r →
       Becomes s s' a (owing (s .columns a) (without (s .columns a .owed) r))
       (post s (Acknowledgement a r (s .columns a .number)) (s .network)) (s .orders) → Move t s s' (takes (Message q a k d))
+  -- "a higher number leaves its goal the whole bank": the root's
   take-higher : (a q k d : ℕ) {l : List Packet} →
       Runs s a → s .columns a .number < k → Taken (s .network) (Message q a k d) l → Empty (s .columns a .owed) →
-      Becomes s s' a (renewed (s .columns a) k d (children t a) 0 (single q) false) l (s .orders) →
+      Becomes s s' a (renewed (s .columns a) k d (children t a) 0 (single q) (eqb a (t .root)) q) l (s .orders) →
       Move t s s' (takes (Message q a k d))
   acknowledge : (a r : ℕ) →
-      Runs s a → In (s .columns a .owed) r → (s .columns a .whole ≡ true) ⊎ Idle (s .columns a) →
+      Runs s a → In (s .columns a .owed) r → Free t a (s .columns a) →
       Becomes s s' a (owing (s .columns a) (without (s .columns a .owed) r))
       (post s (Acknowledgement a r (s .columns a .number)) (s .network)) (s .orders) → Move t s s' (acknowledges a)
+  -- under sender "`all` asks that this sender is noted, in place of the root"
   widen : (a : ℕ) →
-      Runs s a → a ≢ t .root → In (s .columns a .noted) (t .root) → s .columns a .whole ≡ false → Idle (s .columns a) →
+      Runs s a → a ≢ t .root → In (s .columns a .noted) (watched t (s .columns a)) → s .columns a .whole ≡ false → Idle (s .columns a) →
       Becomes s s' a
       (renewed (s .columns a) (s .columns a .number) (s .columns a .doors) (single (t .root)) (s .columns a .awaited)
-      (s .columns a .owed) true)
+      (s .columns a .owed) true (s .columns a .sender))
       (s .network) (s .orders) → Move t s s' (widens a)
   note-awaited : (a j : ℕ) →
       Runs s a → j < t .columns → ¬ Runs s j → In (s .columns a .awaited) j →

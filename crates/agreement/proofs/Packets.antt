@@ -1,8 +1,9 @@
 -- Packets told apart, what a truthful packet says, and the three ways to be awaited. Assumes nothing.
-use Prim.Native.Nat.{ℕ, _≤_}
+use Prim.Native.Nat.{ℕ, _≤_, _<_}
 use native.Mathlib.Omega.{arith}
 use mathlib.Core.Path.{_≡_}
 use mathlib.Core.Logic.{_≢_}
+use mathlib.Core.Bool.{false}
 use mathlib.Core.List.{List}
 use Rattle.column.specs.SubtreeLaws.{Under}
 use Rattle.column.specs.declared.tree.Tree.{Tree}
@@ -33,10 +34,13 @@ acknowledgement-number e = cc
 -- ---- what a truthful packet says
 
 pub message-issued : {t : Tree} {s : State} {f r k d : ℕ} → Truthful t s (Message f r k d) → Issued s k d
-message-issued (message-truthful g n) = g
+message-issued (message-truthful g n l m) = g
 
-pub message-receiver : {t : Tree} {s : State} {f r k d : ℕ} → Truthful t s (Message f r k d) → r ≢ t .root
-message-receiver (message-truthful g n) = n
+pub message-receiver : {t : Tree} {s : State} {f r k d : ℕ} → Truthful t s (Message f r k d) → t .watch ≡ false → r ≢ t .root
+message-receiver (message-truthful g n l m) = n
+
+pub message-sent-by : {t : Tree} {s : State} {f r k d : ℕ} → Truthful t s (Message f r k d) → (f < t .columns) × (Runs s f → k ≤ number s f)
+message-sent-by (message-truthful g n l m) = (l, m)
 
 pub acknowledgement-subtree : {t : Tree} {s : State} {f r k : ℕ} → Truthful t s (Acknowledgement f r k) →
     (p : ℕ) → Runs s p → Under t f p → k ≤ number s p

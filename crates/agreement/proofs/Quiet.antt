@@ -3,17 +3,17 @@ use Prim.Native.Nat.{ℕ, _^_, _<_}
 use native.Mathlib.Nat.{lt-of-lt-of-le}
 use mathlib.Core.Path.{_≡_, sym, ap, ap₂, _∙_}
 use mathlib.Core.Logic.{_≢_, _⊎_, ⊎-elim}
-use mathlib.Core.Bool.{Bool, true, false, _&&_, _||_, or-true, true≢false}
+use mathlib.Core.Bool.{Bool, true, false, not, _&&_, _||_, or-true, true≢false}
 use mathlib.Core.List.{List}
 use lib.Dec.{eqb, ltb}
 use lib.ListN.{take}
 use lib.Pow.{pow-mono}
 use borrow.Author.Tests.{ne-eqb, lt-leb, lt-ltb, ltb-true}
-use Rattle.column.specs.Cases.{truth, and-left, and-right}
+use Rattle.column.specs.Cases.{truth, and-left, and-right, none-and}
 use Rattle.column.specs.Sets.{has}
 use Rattle.column.specs.Trees.{treeRefusal}
 use Rattle.column.specs.TreeLaws.{tree-sixteen}
-use Rattle.column.specs.Columns.{idle, standing}
+use Rattle.column.specs.Columns.{idle, standing, watched, mayAcknowledge}
 use Rattle.column.specs.Steps.{sendRefusal, ackRefusal, allRefusal, noteRefusal}
 use Rattle.column.specs.declared.tree.Tree.{Tree}
 use Rattle.column.specs.declared.state.Column.{Column}
@@ -24,7 +24,7 @@ use Rattle.bank.specs.RestSteps.{refuses, send-refused, ack-refused, all-refuse
 use Rattle.bank.specs.StandingLaws.{stands}
 use Rattle.agreement.proofs.Model.{Empty, Runs}
 use Rattle.agreement.proofs.Members.{absent}
-use Rattle.agreement.proofs.Move.{Idle, Rest}
+use Rattle.agreement.proofs.Move.{Idle, Free, Rest}
 use Rattle.agreement.proofs.Conditions.{Widths, widths, empty, none}
 use Rattle.agreement.proofs.View.{modelOf}
 
@@ -43,11 +43,11 @@ module _ (t : Tree) (i : ℕ) (c : Column) (ok : standing t i c ≡ 0) (r : c .r
   unfolding sendRefusal
   send-passes n = simp (ok, r, ne-eqb (c .send) 0 n)
 
-  pub ack-passes : c .owed ≢ 0 → (c .whole || idle c) ≡ true → ackRefusal t i c ≡ 0
+  pub ack-passes : c .owed ≢ 0 → mayAcknowledge t i c ≡ true → ackRefusal t i c ≡ 0
   unfolding ackRefusal
   ack-passes n f = simp (ok, r, ne-eqb (c .owed) 0 n, f)
 
-  pub all-passes : i ≢ t .root → has (c .noted) (t .root) ≡ true → c .whole ≡ false → idle c ≡ true → allRefusal t i c ≡ 0
+  pub all-passes : i ≢ t .root → has (c .noted) (watched t c) ≡ true → c .whole ≡ false → idle c ≡ true → allRefusal t i c ≡ 0
   unfolding allRefusal
   all-passes n m w f = simp (ok, r, ne-eqb i (t .root) n, m, w, f)
 
@@ -108,9 +108,13 @@ module _ (s : State) (orders : List ℕ) (good : bankRefusal s ≡ 0) (rest : At
       wide : (i : ℕ) → i < t .columns → Widths t (column i)
       wide i h = widths t i (column i) (stands s good .columns i h)
 
-      free : (i : ℕ) → i < t .columns → (column i .whole ≡ true) ⊎ Idle (column i) → (column i .whole || idle (column i)) ≡ true
-      free i h = ⊎-elim (λ w. ap (λ (b : Bool). b || idle (column i)) w)
-          (λ e. ap (λ (b : Bool). column i .whole || b) (idle-passes t ok (column i) (wide i h) e) ∙ or-true (column i .whole))
+      -- the root may not acknowledge by its goal alone where senders are watched
+      held : (i : ℕ) → (t .watch ≡ true → i ≢ t .root) → (t .watch && eqb i (t .root)) ≡ false
+      held i n = none-and (t .watch) (eqb i (t .root)) (λ o. ne-eqb i (t .root) (n o))
+
+      free : (i : ℕ) → i < t .columns → Free t i (column i) → mayAcknowledge t i (column i) ≡ true
+      free i h = ⊎-elim (λ z. ap₂ (λ (a b : Bool). (a && not b) || idle (column i)) (z .0) (held i (z .1)))
+          (λ e. ap (λ (b : Bool). (column i .whole && not (t .watch && eqb i (t .root))) || b) (idle-passes t ok (column i) (wide i h) e) ∙ or-true (column i .whole && not (t .watch && eqb i (t .root))))
 
       halted : (j : ℕ) → j < t .columns → (Runs (modelOf s orders) j → ⊥) → runs (s .bank) j ≡ false
       halted j h n = ⊎-elim (λ r. absurd (n (ap₂ (λ (x y : Bool). x && y) (lt-ltb j (t .columns) h) r))) (λ e. e) (truth (runs (s .bank) j))

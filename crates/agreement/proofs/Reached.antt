@@ -3,7 +3,7 @@ use Prim.Native.Nat.{ℕ, _≤_, _<_}
 use native.Mathlib.Omega.{arith}
 use mathlib.Core.Path.{_≡_, refl, sym, ap, subst, _∙_}
 use mathlib.Core.Logic.{⊎-elim}
-use mathlib.Core.Bool.{Bool, true, _&&_}
+use mathlib.Core.Bool.{Bool, true, false, _&&_}
 use mathlib.Core.List.{List, [], _∷_}
 use lib.Dec.{eqb, ltb}
 use lib.ListN.{length}
@@ -29,7 +29,7 @@ use Rattle.bank.specs.StripLaws.{singly, listed, distinct-listed, members-liste
 use Rattle.bank.specs.Unchanged.{unchanged}
 use Rattle.bank.specs.declared.step.Step.{Step}
 use Rattle.bank.specs.declared.step.Step.the-variants.{Order, Send, Take, Ack, All, Note, Halt, Back}
-use Rattle.agreement.specs.History.{World, rootOf, receivedAfter, awaitsAfter, told, run, Line, stepsOf, follow}
+use Rattle.agreement.specs.History.{World, rootOf, WatchesRoot, receivedAfter, awaitsAfter, told, run, Line, stepsOf, follow}
 use Rattle.agreement.specs.Agreement.{begin, AfterEveryList}
 use Rattle.agreement.proofs.Model as model
 use Rattle.agreement.proofs.Network.{Holds, taken-held}
@@ -55,7 +55,7 @@ pub record Reached (w : World) : Type 0 where
   pub room : w .state .bank .count ≤ capacity
   pub invariant : Invariant (w .state .bank .tree) (modelOf (w .state) (w .orders))
   pub standing : Standing (w .state .bank .tree) (modelOf (w .state) (w .orders))
-  pub bounded : Bounded (w .state .bank .tree) (modelOf (w .state) (w .orders))
+  pub bounded : WatchesRoot w → Bounded (w .state .bank .tree) (modelOf (w .state) (w .orders))
   -- what a column holds is what it received last
   pub received-is : (i : ℕ) → columnAt (w .state .bank) i .number ≡ w .received i
   pub awaits-is : (q : ℕ) → has (columnAt (w .state .bank) (rootOf (w .state)) .awaited) q ≡ w .awaits q
@@ -73,15 +73,18 @@ start t ok heads doors h d = record {
     numbers-fit = λ i. omega (arith, zero-number i);
   };
   room = omega arith;
-  invariant = fresh-invariant t fresh;
-  standing = fresh-standing t fresh;
-  bounded = fresh-bounded t fresh;
+  invariant = fresh-invariant t fresh below;
+  standing = fresh-standing t below fresh;
+  bounded = λ _. fresh-bounded t below fresh;
   received-is = zero-number;
-  awaits-is = λ q. ap (λ (c : Column). has (c .awaited) q) (fresh-at t ok (t .root) (check-exact t .0 ok .root-below)) ∙ has-none q;
+  awaits-is = λ q. ap (λ (c : Column). has (c .awaited) q) (fresh-at t ok (t .root) below) ∙ has-none q;
 }
   where
     s : State
     s = state (freshBank t) heads doors
+
+    below : t .root < t .columns
+    below = check-exact t .0 ok .root-below
 
     zero-number : (i : ℕ) → columnAt (freshBank t) i .number ≡ 0
     zero-number i =
@@ -97,6 +100,7 @@ start t ok heads doors h d = record {
       owed = 0;
       noted = 0;
       whole = eqb i (t .root);
+      sender = t .root;
     }
 
     fresh : Fresh t (modelOf s [])
@@ -125,7 +129,7 @@ module _ (w w' : World) (e : Event) (r : Reached w) (f : Refined (w .state) (w .
     room = f .room;
     invariant = subst (λ (u : Tree). Invariant u m') (sym (f .same-tree)) (kept (check-exact before .0 (r .tree)) (r .invariant) (f .move));
     standing = subst (λ (u : Tree). Standing u m') (sym (f .same-tree)) (standing-kept (check-exact before .0 (r .tree)) (r .invariant) (r .standing) (f .move));
-    bounded = subst (λ (u : Tree). Bounded u m') (sym (f .same-tree)) (bounded (check-exact before .0 (r .tree)) (r .invariant) (r .bounded) (f .move));
+    bounded = subst (λ (u : Tree). u .watch ≡ false → Bounded u m') (sym (f .same-tree)) (λ o. bounded (check-exact before .0 (r .tree)) o (r .invariant) (r .bounded o) (f .move));
     received-is = λ i. received-after (r .invariant) (r .standing) (w .received) (r .received-is) (f .move) i ∙ sym (received i);
     awaits-is = λ q. ap (λ (u : Tree). has (columnAt (w' .state .bank) (u .root) .awaited) q) (f .same-tree)
         ∙ awaits-after (r .invariant) (w .awaits) (r .awaits-is) (f .move) q ∙ sym (awaits q);
@@ -227,6 +231,7 @@ module _ (w : World) (r : Reached w) where
       noted = z .noted;
       owes-others = z .owes-others;
       root-whole = z .root-whole;
+      sender = z .sender;
     });
     room = r .room;
     packets = λ k h. acceptable-passes t (packetAt s k) (delivered k h .acceptable);

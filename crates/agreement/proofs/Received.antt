@@ -21,7 +21,7 @@ use Rattle.agreement.proofs.Members.{absent}
 use Rattle.agreement.proofs.Network.{taken-held}
 use Rattle.agreement.proofs.Invariant.{number, Invariant}
 use Rattle.agreement.proofs.Keeping.{each}
-use Rattle.agreement.proofs.Packets.{message-receiver}
+use Rattle.agreement.proofs.Links.{receiver-other}
 use Rattle.agreement.proofs.Serving.{self-root}
 use Rattle.agreement.proofs.Standing.{Standing}
 use Rattle.agreement.proofs.Back.{returned-each}
@@ -78,7 +78,7 @@ awaitsAfter t s (halts i) g q = g q
 awaitsAfter t s (backs j x) g q = g q
 
 pub orders-after : {t : Tree} {s s' : State} {e : Event} → Move t s s' e → s' .orders ≡ ordersAfter e (s .orders)
-orders-after (order d r idle b) = b .told
+orders-after (order d r idle free b) = b .told
 orders-after (send-self a x r e m b) = b .told
 orders-after (send-noted a x r m n b) = b .told
 orders-after (send-message a x r e m n b) = b .told
@@ -132,7 +132,7 @@ module _ {t : Tree} {s : State} (inv : Invariant t s) (v : Standing t s) (f : �
   not-higher a k n = left-false (ltb (f a) k) (not (leaves s a k)) (le-ltb (f a) k (omega (arith, known a)))
 
   pub received-after : {s' : State} {e : Event} → Move t s s' e → (j : ℕ) → number s' j ≡ receivedAfter t s e f j
-  received-after (order d r idle b) =
+  received-after (order d r idle free b) =
       let g : ℕ → ℕ = updated f (t .root) (suc (count s)) in
       numbers-are b g
       (omega (arith, inv .root-newest r) ∙ sym (picked (eqb (t .root) (t .root)) (suc (count s)) (f (t .root)) (eq-eqb (t .root) (t .root) refl)))
@@ -210,7 +210,7 @@ module _ {t : Tree} {s : State} (inv : Invariant t s) (g : ℕ → Bool) (known 
       (equal-cases q x)
 
   pub awaits-after : {s' : State} {e : Event} → Move t s s' e → (q : ℕ) → has (s' .columns (t .root) .awaited) q ≡ awaitsAfter t s e g q
-  awaits-after (order d r idle b) = awaits-stay b (λ e q. refl)
+  awaits-after (order d r idle free b) = awaits-stay b (λ e q. refl)
   awaits-after (send-self a x r e m b) =
       let other : a ≢ t .root = self-root t a inv r (subst (In (s .columns a .send)) e m) in
       awaits-skip b (eqb a (t .root) && not (has (s .columns a .noted) x)) (λ q. g q || eqb q x)
@@ -235,7 +235,7 @@ module _ {t : Tree} {s : State} (inv : Invariant t s) (g : ℕ → Bool) (known 
   awaits-after (take-lower a q k d r lt taken b) = awaits-stay b (λ z y. refl)
   awaits-after (take-left a q k d x r lt taken m b) = awaits-stay b (λ z y. refl)
   awaits-after (take-higher a q k d r lt taken e b) =
-      awaits-stay b (λ z. absurd (message-receiver (inv .packets (Message q a k d) (taken-held taken)) z))
+      awaits-stay b (λ z. absurd (receiver-other t inv a r lt taken z))
   awaits-after (acknowledge a x r m o b) = awaits-stay b (λ z y. refl)
   awaits-after (widen a r n m w idle b) = awaits-stay b (λ z y. refl)
   awaits-after (note-awaited a x r h n m b) =

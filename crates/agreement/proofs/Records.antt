@@ -2,11 +2,13 @@
 use Prim.Native.Nat.{ℕ, suc, _+_, _≤_, _<_}
 use native.Mathlib.Omega.{arith}
 use mathlib.Core.Path.{_≡_, refl, sym, ap, subst, _∙_}
-use mathlib.Core.Logic.{⊎-elim, inl, inr}
+use mathlib.Core.Logic.{_≢_, ⊎-elim, inl, inr}
 use mathlib.Core.Bool.{true, false, true≢false}
 use mathlib.Core.List.{List, _∷_}
+use lib.Dec.{eqb}
 use lib.ListN.{length}
-use Rattle.column.specs.Cases.{equal-cases}
+use borrow.Author.Tests.{ne-eqb}
+use Rattle.column.specs.Cases.{equal-cases, truth}
 use Rattle.column.specs.Sets.{single}
 use Rattle.column.specs.Trees.{IsTree, children}
 use Rattle.column.specs.SubtreeLaws.{subtree-self}
@@ -22,9 +24,10 @@ use Rattle.agreement.proofs.Move.{renewed, halted, Idle}
 use Rattle.agreement.proofs.Members.{in-none, single-in}
 use Rattle.agreement.proofs.Network.{taken-held, taken-back, taken-cases, taken-keeps, others-back, others-keep}
 use Rattle.agreement.proofs.Descendants.{children-inside, root-child, under-cases, child-descends, below-child, under-root}
-use Rattle.agreement.proofs.Invariant.{number, Covered, pending, reached, Local, Truthful, message-sent, acknowledgement-owed, acknowledgement-sent, Invariant}
+use Rattle.agreement.proofs.Invariant.{number, Covered, pending, reached, Local, Truthful, message-sent, acknowledgement-owed, acknowledgement-sent, Linked, Invariant}
 use Rattle.agreement.proofs.Keeping.{Later, each, keep, steady}
-use Rattle.agreement.proofs.Packets.{message-acknowledgement, message-sender, message-number, message-issued, message-receiver, outstanding-cases}
+use Rattle.agreement.proofs.Packets.{message-acknowledgement, message-sender, message-number, message-issued, outstanding-cases}
+use Rattle.agreement.proofs.Links.{linked-stays, receiver-other, linked-received}
 use Rattle.agreement.proofs.Given.{given-new, given-old}
 
 module _ (t : Tree) (tree : IsTree t) {s : State} (a : ℕ) (inv : Invariant t s) (ra : Runs s a) where
@@ -32,26 +35,27 @@ module _ (t : Tree) (tree : IsTree t) {s : State} (a : ℕ) (inv : Invariant t s
   c = s .columns a
 
   pub keep-take-higher : {s' : State} (q k d : ℕ) {l : List Packet} → c .number < k → Taken (s .network) (Message q a k d) l → Empty (c .owed) →
-      Becomes s s' a (renewed c k d (children t a) 0 (single q) false) l (s .orders) → Invariant t s'
-  keep-take-higher q k d lt taken none b = steady t inv ra b record {
+      Becomes s s' a (renewed c k d (children t a) 0 (single q) (eqb a (t .root)) q) l (s .orders) → Invariant t s'
+  keep-take-higher q k d lt taken none b = steady t inv ra b (λ o. linked-received t a q k d inv (inv .linked o) ra lt taken b) record {
     rises = omega arith;
-    newest = λ e. absurd (message-receiver truthful e);
+    newest = λ e. absurd (not-root e);
     issued = λ _. message-issued truthful;
     local = λ _. record {
-      root-whole = λ e. absurd (message-receiver truthful e);
+      root-whole = λ e. absurd (not-root e);
       members = λ x u. ⊎-elim (λ m. children-inside t a m) (λ m. absurd (in-none m)) u;
       own = λ w x u. ⊎-elim (λ m. child-descends t tree a a (inv .inside a ra) (subtree-self t tree a) m) (λ m. absurd (in-none m)) u;
-      root-noted = λ w. absurd (true≢false (sym w));
-      root-sent = λ m. absurd (root-child t a m);
-      root-awaited = in-none;
       self-awaited = in-none;
-      root-owes = λ e. absurd (message-receiver truthful e);
       apart = λ x m. absurd (in-none m);
+      shuns = λ _. record {
+        root-noted = λ w. absurd (true≢false (sym w ∙ own-goal));
+        root-sent = λ m. absurd (root-child t a m);
+        root-owes = λ e. absurd (not-root e);
+      };
     };
     coverage = λ _. record {
       own-covered = λ w p h z. let y = below-child t tree z in pending (y .0) (inl (y .1)) (y .2);
-      all-covered = λ w. absurd (true≢false (sym w));
-      settled = λ w. absurd (true≢false (sym w));
+      all-covered = λ w. absurd (true≢false (sym w ∙ own-goal));
+      settled = λ w. absurd (true≢false (sym w ∙ own-goal));
       noted-halted = inv .coverages a ra .noted-halted;
     };
     new = λ r m. inl (taken-back taken m);
@@ -67,8 +71,15 @@ module _ (t : Tree) (tree : IsTree t) {s : State} (a : ℕ) (inv : Invariant t s
       truthful : Truthful t s (Message q a k d)
       truthful = inv .packets (Message q a k d) (taken-held taken)
 
+      -- no number is above the root's
+      not-root : a ≢ t .root
+      not-root = receiver-other t inv a ra lt taken
+
+      own-goal : eqb a (t .root) ≡ false
+      own-goal = ne-eqb a (t .root) not-root
+
   pub keep-halt : {s' : State} → Becomes s s' a (halted c) (others a (s .network)) (s .orders) → Invariant t s'
-  keep-halt b = steady t inv ra b record {
+  keep-halt b = steady t inv ra b (λ o. linked-stays t b (inv .linked o) ra (omega arith) (λ h. absurd (stopped h))) record {
     rises = omega arith;
     newest = λ e h. absurd (stopped h);
     issued = λ h. absurd (stopped h);
@@ -101,11 +112,12 @@ root-served t {s} inv r idle p h =
     go (reached z) = z
 
 pub keep-order : (t : Tree) → IsTree t → {s s' : State} (d : ℕ) → Invariant t s → Runs s (t .root) → Idle (s .columns (t .root)) →
+    (t .watch ≡ true → Empty (s .columns (t .root) .owed)) →
     Becomes s s' (t .root)
     (renewed (s .columns (t .root)) (s .columns (t .root) .number + 1) d (children t (t .root)) (s .columns (t .root) .awaited)
-    (s .columns (t .root) .owed) (s .columns (t .root) .whole))
+    (s .columns (t .root) .owed) (s .columns (t .root) .whole) (s .columns (t .root) .sender))
     (s .network) (d ∷ s .orders) → Invariant t s'
-keep-order t tree {s} {s'} d inv r idle b = keep t inv r b record {
+keep-order t tree {s} {s'} d inv r idle free b = keep t inv r b linked record {
   later = l;
   near = λ i h. omega (arith, told, near i h);
   newest = λ h. omega (arith, told, mine, inv .root-newest r);
@@ -117,13 +129,15 @@ keep-order t tree {s} {s'} d inv r idle b = keep t inv r b record {
   local = λ _. record {
     root-whole = here .root-whole;
     members = λ x u. ⊎-elim (λ m. children-inside t (t .root) m) (λ m. absurd (idle .1 x m)) u;
-    own = λ w. absurd (true≢false (sym (here .root-whole refl) ∙ w));
-    root-noted = λ w n. absurd (n refl);
-    root-sent = λ m. absurd (root-child t (t .root) m);
-    root-awaited = idle .1 (t .root);
+    own = λ _ x u. ⊎-elim (λ m. child-descends t tree (t .root) (t .root) (tree .root-below) (subtree-self t tree (t .root)) m)
+        (λ m. absurd (idle .1 x m)) u;
     self-awaited = idle .1 (t .root);
-    root-owes = here .root-owes;
     apart = λ q m. absurd (idle .1 q m);
+    shuns = λ o. record {
+      root-noted = λ w n. absurd (n refl);
+      root-sent = λ m. absurd (root-child t (t .root) m);
+      root-owes = here .shuns o .root-owes;
+    };
   };
   coverage = λ _. record {
     own-covered = λ w. absurd (true≢false (sym (here .root-whole refl) ∙ w));
@@ -138,11 +152,18 @@ keep-order t tree {s} {s'} d inv r idle b = keep t inv r b record {
   old = λ p m. inl m;
   awaits = λ _ q n h m. absurd (idle .1 q m);
   awaited = λ _ p n h w. outstanding-cases w
-      (λ i m. absurd (message-receiver (inv .packets _ m) refl)) (λ o z. absurd (here .root-owes refl p o)) (λ m. acknowledgement-sent m);
+      (λ i m. message-sent i m) (λ o z. absurd (owes-nobody p o)) (λ m. acknowledgement-sent m);
 }
   where
     here : Local t (t .root) (s .columns (t .root))
     here = inv .locals (t .root) r
+
+    -- where the root is watched nobody sends to it, and else row 7 asks for it
+    owes-nobody : Empty (s .columns (t .root) .owed)
+    owes-nobody = ⊎-elim free (λ o. here .shuns o .root-owes refl) (truth (t .watch))
+
+    linked : t .watch ≡ true → Linked t s'
+    linked o = linked-stays t b (inv .linked o) r (omega arith) (λ _ w. absurd (true≢false (sym (here .root-whole refl) ∙ w)))
 
     told : count s' ≡ suc (count s)
     told = ap length (b .told)

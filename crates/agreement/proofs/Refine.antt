@@ -82,8 +82,8 @@ module _ (s : State) (formed : Formed s) (orders : List ℕ) where
       let c = columnAt (s .bank) b in
       refines-acting b (orderRefusal t b c) (orderEffect t b c d) (d ∷ orders) (move.orders d) (λ st below no.
       let k = order-in t b c no in
-      refines-quiet s formed st b below _ (omega (arith, formed .numbers-fit b, k .2)) s refl refl (formed .whole) orders (d ∷ orders) (move.orders d)
-      (λ s' z. move.order d (model-runs s st b below orders (k .0)) (k .1) z))
+      refines-quiet s formed st b below _ (omega (arith, formed .numbers-fit b, k .3)) s refl refl (formed .whole) orders (d ∷ orders) (move.orders d)
+      (λ s' z. move.order d (model-runs s st b below orders (k .0)) (k .1) (k .2) z))
 
   -- a send to the column itself, to one that is noted, and to another
   pub refines-send : (i : ℕ) → Refines s orders orders (move.sends i (choose t (columnAt (s .bank) i .send))) (send s i)

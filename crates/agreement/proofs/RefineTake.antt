@@ -91,7 +91,7 @@ module _ (s : State) (formed : Formed s) (orders : List ℕ) where
             → Refines s orders orders e (settled s (removed s place) a
             (cond equal (core.accepted (withSets c (c .send) (c .awaited) (insert (c .owed) q)) [] false)
             (cond lower (core.accepted c (Acknowledgement a q k ∷ []) false)
-            (cond free (core.accepted (move.renewed c k d (children t a) 0 (single q) false) [] false) (core.acknowledgeLowest a c true)))))
+            (cond free (core.accepted (move.renewed c k d (children t a) 0 (single q) (eqb a (t .root)) q) [] false) (core.acknowledgeLowest a c true)))))
         go true lower free x y w =
             refines-quiet s formed st a below _ (formed .numbers-fit a) (removed s place) refl refl gone-whole orders orders e
             (λ s' b. move.take-equal a q k d runs-model (eqb-true k (c .number) x) (z .taken) b)

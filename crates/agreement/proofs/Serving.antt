@@ -1,8 +1,9 @@
 -- A send and a note keep the invariant. Assumes nothing.
 use Prim.Native.Nat.{ℕ}
+use native.Mathlib.Omega.{arith}
 use mathlib.Core.Path.{_≡_, refl, sym, subst}
 use mathlib.Core.Logic.{_≢_, ⊎-elim, inl, inr}
-use mathlib.Core.Bool.{true}
+use mathlib.Core.Bool.{true, false}
 use Rattle.column.specs.Cases.{truth}
 use Rattle.column.specs.Sets.{join, insert, without}
 use Rattle.column.specs.Trees.{IsTree, children}
@@ -23,11 +24,10 @@ use Rattle.agreement.proofs.Adjusting.{adjust, silent}
 -- a column that is to send to itself has the whole bank for its goal, and is not the root
 module _ (t : Tree) {s : State} (a : ℕ) (inv : Invariant t s) (ra : Runs s a) (self : In (s .columns a .send) a) where
   self-whole : s .columns a .whole ≡ true
-  self-whole = ⊎-elim (λ w. w) (λ w. absurd (inv .locals a ra .own w a (inl self) .other refl)) (truth (s .columns a .whole))
+  self-whole = ⊎-elim (λ w. w) (λ w. absurd (inv .locals a ra .own (inl w) a (inl self) .other refl)) (truth (s .columns a .whole))
 
   pub self-root : a ≢ t .root
-  self-root e =
-      inv .coverages a ra .noted-halted (t .root) (inv .locals a ra .root-sent (subst (In (s .columns a .send)) e self)) (subst (Runs s) e ra)
+  self-root e = inv .locals a ra .own (inr e) a (inl self) .other refl
 
 module _ (t : Tree) (tree : IsTree t) {s : State} (a : ℕ) (inv : Invariant t s) (ra : Runs s a) where
   abbrev c : Column
@@ -39,7 +39,7 @@ module _ (t : Tree) (tree : IsTree t) {s : State} (a : ℕ) (inv : Invariant t s
       record {
         sends = λ q k. inl (without-in (c .send) a k);
         awaits = λ q k. inl k;
-        owes = inv .locals a ra .root-owes;
+        owes = λ o. inv .locals a ra .shuns o .root-owes;
         notes = λ q k. k;
         halts = inv .coverages a ra .noted-halted;
         parts = inv .locals a ra .apart;
@@ -64,7 +64,7 @@ module _ (t : Tree) (tree : IsTree t) {s : State} (a : ℕ) (inv : Invariant t s
       record {
         sends = λ q k. ⊎-elim (λ z. inl (without-in (c .send) x z)) (λ z. inr (x, inl m, z)) (join-cases (without (c .send) x) (children t x) k);
         awaits = λ q k. inl k;
-        owes = inv .locals a ra .root-owes;
+        owes = λ o. inv .locals a ra .shuns o .root-owes;
         notes = λ q k. k;
         halts = inv .coverages a ra .noted-halted;
         parts = inv .locals a ra .apart;
@@ -89,7 +89,7 @@ module _ (t : Tree) (tree : IsTree t) {s : State} (a : ℕ) (inv : Invariant t s
       record {
         sends = λ q k. ⊎-elim (λ z. inl z) (λ z. inr (j, inr m, z)) (join-cases (c .send) (children t j) k);
         awaits = λ q k. inl (without-in (c .awaited) j k);
-        owes = inv .locals a ra .root-owes;
+        owes = λ o. inv .locals a ra .shuns o .root-owes;
         notes = λ q k. insert-old (c .noted) j k;
         halts = halted-with j n;
         parts = λ q k l. ⊎-elim (λ z. inv .locals a ra .apart q (without-in (c .awaited) j k) z)
@@ -108,7 +108,7 @@ module _ (t : Tree) (tree : IsTree t) {s : State} (a : ℕ) (inv : Invariant t s
       record {
         sends = λ q k. inl k;
         awaits = λ q k. inl k;
-        owes = inv .locals a ra .root-owes;
+        owes = λ o. inv .locals a ra .shuns o .root-owes;
         notes = λ q k. insert-old (c .noted) j k;
         halts = halted-with j n;
         parts = λ q k l. ⊎-elim (λ z. inv .locals a ra .apart q k z) (λ e. m (subst (In (c .awaited)) e k)) (insert-cases (c .noted) j l);
@@ -124,7 +124,7 @@ module _ (t : Tree) (tree : IsTree t) {s : State} (a : ℕ) (inv : Invariant t s
         sends = λ q k. inl (without-in (c .send) x k);
         awaits = λ q k. ⊎-elim (λ z. inl z)
             (λ e. inr (subst (λ (y : ℕ). In (c .send) y × (¬ In (c .noted) y) × (y ≢ a)) (sym e) (m, n, ne))) (insert-cases (c .awaited) x k);
-        owes = inv .locals a ra .root-owes;
+        owes = λ o. inv .locals a ra .shuns o .root-owes;
         notes = λ q k. k;
         halts = inv .coverages a ra .noted-halted;
         parts = λ q k l. ⊎-elim (λ z. inv .locals a ra .apart q z l) (λ e. n (subst (In (c .noted)) e l)) (insert-cases (c .awaited) x k);
@@ -136,7 +136,7 @@ module _ (t : Tree) (tree : IsTree t) {s : State} (a : ℕ) (inv : Invariant t s
       b
       record {
         new = λ r k. ⊎-elim (λ z. inl z)
-            (λ z. inr (subst (Truthful t s) (sym (z .0)) (message-truthful (inv .records a ra) to-other))) (post-cases s message (s .network) k);
+            (λ z. inr (subst (Truthful t s) (sym (z .0)) (message-truthful (inv .records a ra) to-other (inv .inside a ra) (λ _. omega arith)))) (post-cases s message (s .network) k);
         old = λ r k. inl (kept k);
         awaits = λ q nq h k. ⊎-elim
             (λ z. outstanding-cases (inv .outstanding a q ra h z)
@@ -155,5 +155,5 @@ module _ (t : Tree) (tree : IsTree t) {s : State} (a : ℕ) (inv : Invariant t s
       kept : {r : Packet} → Holds (s .network) r → Holds (post s message (s .network)) r
       kept k = post-old s message (s .network) k
 
-      to-other : x ≢ t .root
-      to-other e = n (subst (In (c .noted)) (sym e) (inv .locals a ra .root-sent (subst (In (c .send)) e m)))
+      to-other : t .watch ≡ false → x ≢ t .root
+      to-other o e = n (subst (In (c .noted)) (sym e) (inv .locals a ra .shuns o .root-sent (subst (In (c .send)) e m)))

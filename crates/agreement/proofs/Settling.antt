@@ -5,13 +5,15 @@ use Prim.Native.Nat.{ℕ, zero, suc, _≤_, _<_}
 use native.Mathlib.Omega.{arith}
 use mathlib.Core.Path.{_≡_, sym, subst}
 use mathlib.Core.Bool.{Bool, true, false, true≢false}
-use Rattle.column.specs.Sets.{without}
-use Rattle.column.specs.Trees.{IsTree}
+use borrow.Author.Tests.{ne-eqb}
+use Rattle.column.specs.Sets.{single, without}
+use Rattle.column.specs.Trees.{IsTree, children}
 use Rattle.column.specs.declared.tree.Tree.{Tree}
 use Rattle.agreement.specs.Dispatching.{stepsWithin}
 use Rattle.agreement.proofs.Model.{In, State, Runs, Becomes}
-use Rattle.agreement.proofs.Move.{serving, Event, orders, sends, takes, acknowledges, widens, notes, halts, backs, Move, order, send-self, send-noted, send-message, take-acknowledgement, take-stale, take-equal, take-lower, take-left, take-higher, acknowledge, widen, note-awaited, note-other, halt, back}
+use Rattle.agreement.proofs.Move.{renewed, serving, Event, orders, sends, takes, acknowledges, widens, notes, halts, backs, Move, order, send-self, send-noted, send-message, take-acknowledgement, take-stale, take-equal, take-lower, take-left, take-higher, acknowledge, widen, note-awaited, note-other, halt, back}
 use Rattle.agreement.proofs.Invariant.{Invariant}
+use Rattle.agreement.proofs.Links.{receiver-other}
 use Rattle.agreement.proofs.Kept.{kept}
 use Rattle.agreement.proofs.Standing.{Standing, standing-kept}
 use Rattle.agreement.proofs.Bounded.{Bounded}
@@ -31,15 +33,16 @@ settling (notes a j) = true
 settling (halts a) = false
 settling (backs j l) = false
 
--- what holds of every reached state
+-- what holds of every reached state where the root is watched
 pub record Good (t : Tree) (s : State) : Type 0 where
+  pub by-root : t .watch ≡ false
   pub invariant : Invariant t s
   pub standing : Standing t s
   pub bounded : Bounded t s
 
 module _ (t : Tree) (tree : IsTree t) {s s' : State} (g : Good t s) where
   pub fall : {e : Event} → Move t s s' e → settling e ≡ true → potential t s' < potential t s
-  fall (order d r idle b) e = absurd (true≢false (sym e))
+  fall (order d r idle free b) e = absurd (true≢false (sym e))
   fall (send-self a x r z m b) e = fall-self t tree a (g .invariant) r (g .bounded .spreads a r) (subst (In (s .columns a .send)) z m)
       (subst (λ (y : ℕ). Becomes s s' a (serving (s .columns a) (without (s .columns a .send) y) (s .columns a .awaited)) (s .network) (s .orders)) z b)
   fall (send-noted a x r m k b) e = fall-noted t tree a (g .invariant) r x (g .bounded .spreads a r)
@@ -50,7 +53,9 @@ module _ (t : Tree) (tree : IsTree t) {s s' : State} (g : Good t s) where
   fall (take-equal a q k d r z taken b) e = fall-equal t tree a (g .invariant) r q k d taken b
   fall (take-lower a q k d r z taken b) e = fall-lower t tree a (g .invariant) r q k d taken b
   fall (take-left a q k d x r z taken m b) e = fall-answer t tree a (g .invariant) r x (g .standing) m b
-  fall (take-higher a q k d r z taken none b) e = fall-higher t tree a (g .invariant) r q k d z taken b
+  fall (take-higher a q k d {l} r z taken none b) e = fall-higher t tree a (g .invariant) r q k d z taken
+      (subst (λ (w : Bool). Becomes s s' a (renewed (s .columns a) k d (children t a) 0 (single q) w q) l (s .orders))
+      (ne-eqb a (t .root) (receiver-other t (g .invariant) a r z taken)) b)
   fall (acknowledge a x r m z b) e = fall-answer t tree a (g .invariant) r x (g .standing) m b
   fall (widen a r ne m w idle b) e = fall-widen t tree a (g .invariant) r ne w b
   fall (note-awaited a j r l h m b) e = fall-note-awaited t tree a (g .invariant) r j l h m b
@@ -71,7 +76,7 @@ pub data Moves (t : Tree) (s' : State) : State → ℕ → Type 0 where
 
 module _ (t : Tree) (tree : IsTree t) where
   pub good : {s m : State} {e : Event} → Good t s → Move t s m e → Good t m
-  good g k = record { invariant = kept tree (g .invariant) k; standing = standing-kept tree (g .invariant) (g .standing) k; bounded = bounded tree (g .invariant) (g .bounded) k }
+  good g k = record { by-root = g .by-root; invariant = kept tree (g .invariant) k; standing = standing-kept tree (g .invariant) (g .standing) k; bounded = bounded tree (g .by-root) (g .invariant) (g .bounded) k }
 
   pub few : {s' s : State} {n : ℕ} → Good t s → Moves t s' s n → n ≤ potential t s
   few g none = omega arith

@@ -37,6 +37,7 @@ pub record Stands (t : Tree) (i : ℕ) (c : Column) : Type 0 where
   pub noted : c .noted < 2 ^ t .columns
   pub owes-others : has (c .owed) i ≡ false
   pub root-whole : i ≡ t .root → c .whole ≡ true
+  pub sender : c .sender < t .columns
 
 pub record Deliverable (t : Tree) (s : State) (p : Packet) : Type 0 where
   pub acceptable : Acceptable t p
@@ -58,13 +59,14 @@ stands-passes t tree i c h w = sound-passes t i c
       noted-below = λ j. member-lt (t .columns) (c .noted) j (w .noted);
       owes-others = w .owes-others;
       root-whole = w .root-whole;
+      sender-below = w .sender;
     })
   where
     mask : {m : ℕ} → m < 2 ^ t .columns → m < 2 ^ 16
     mask l = omega (arith, pow-mono (tree .sixteen))
 
-pub fresh-standing : (t : Tree) {s : State} → Fresh t s → Standing t s
-fresh-standing t {s} f = record {
+pub fresh-standing : (t : Tree) {s : State} → t .root < t .columns → Fresh t s → Standing t s
+fresh-standing t {s} below f = record {
   each-stands = λ i h. subst (Stands t i) (sym (f .columns-fresh i h)) (stands i);
   packets = λ p m. absurd (holds-none (subst (λ (l : List Packet). Holds l p) (f .no-packet) m));
 }
@@ -77,6 +79,7 @@ fresh-standing t {s} f = record {
       noted = pow-pos (t .columns);
       owes-others = has-none i;
       root-whole = λ e. eq-eqb i (t .root) e;
+      sender = below;
     }
 
 module _ {t : Tree} {s : State} (tree : IsTree t) (inv : Invariant t s) (v : Standing t s) where
@@ -112,7 +115,7 @@ module _ {t : Tree} {s : State} (tree : IsTree t) (inv : Invariant t s) (v : Sta
     stands : {send awaited owed noted : ℕ} → send < 2 ^ t .columns → awaited < 2 ^ t .columns → owed < 2 ^ t .columns →
         noted < 2 ^ t .columns → (In owed a → ⊥) → Stands t a (adjusted (s .columns a) send awaited owed noted)
     stands {owed = owed} hs ha ho hn n =
-        record { send = hs; awaited = ha; owed = ho; noted = hn; owes-others = absent owed a n; root-whole = before .root-whole }
+        record { send = hs; awaited = ha; owed = ho; noted = hn; owes-others = absent owed a n; root-whole = before .root-whole; sender = before .sender }
 
     owes-not-self : In (s .columns a .owed) a → ⊥
     owes-not-self m = true≢false (sym (m .holds) ∙ before .owes-others)
@@ -135,7 +138,7 @@ module _ {t : Tree} {s : State} (tree : IsTree t) (inv : Invariant t s) (v : Sta
       sender-below = inv .inside a r;
       receiver-below = inv .inside x h;
       apart = λ e. owes-not-self (subst (In (s .columns a .owed)) (sym e) m);
-      not-to-root = λ e. absurd (true≢false (sym e));
+      not-to-root = λ _ e. absurd (true≢false (sym e));
     }
 
     answered : {s' : State} (x : ℕ) → In (s .columns a .owed) x →
@@ -154,7 +157,7 @@ module _ {t : Tree} {s : State} (tree : IsTree t) (inv : Invariant t s) (v : Sta
 
   -- a column comes back
   returned : {s' : State} (j l noted : ℕ) {whole : Bool} → j < t .columns → j ≢ t .root → Runs s l → Remaining t s j noted →
-      Returns t s s' j (core.rejoined (s .columns l) noted whole) → s .network ≡ [] → Standing t s'
+      Returns t s s' j (core.rejoined (s .columns l) noted whole l) → s .network ≡ [] → Standing t s'
   returned {s'} j l noted {whole} h nr r k b gone = record {
     each-stands = λ i hi. ⊎-elim
         (λ e. subst (λ (x : ℕ). Stands t x (s' .columns x)) (sym e) (subst (Stands t j) (sym (b .mine)) mine))
@@ -162,7 +165,7 @@ module _ {t : Tree} {s : State} (tree : IsTree t) (inv : Invariant t s) (v : Sta
     packets = λ p m. absurd (holds-none (subst (λ (x : List Packet). Holds x p) (b .packets ∙ gone) m));
   }
     where
-      mine : Stands t j (core.rejoined (s .columns l) noted whole)
+      mine : Stands t j (core.rejoined (s .columns l) noted whole l)
       mine = record {
         send = pow-pos (t .columns);
         awaited = pow-pos (t .columns);
@@ -170,6 +173,7 @@ module _ {t : Tree} {s : State} (tree : IsTree t) (inv : Invariant t s) (v : Sta
         noted = k .fits;
         owes-others = has-none j;
         root-whole = λ e. absurd (nr e);
+        sender = inv .inside l r;
       }
 
       other : (i : ℕ) → i < t .columns → Stands t i (core.struck (s .columns i) j)
@@ -182,10 +186,11 @@ module _ {t : Tree} {s : State} (tree : IsTree t) (inv : Invariant t s) (v : Sta
             noted = without-lt (t .columns) (s .columns i .noted) j (z .noted) h;
             owes-others = z .owes-others;
             root-whole = z .root-whole;
+            sender = z .sender;
           }
 
   pub standing-kept : {s' : State} {e : Event} → Move t s s' e → Standing t s'
-  standing-kept (order d r idle b) =
+  standing-kept (order d r idle free b) =
       let w = before (t .root) r in
       stand b
       (record {
@@ -195,6 +200,7 @@ module _ {t : Tree} {s : State} (tree : IsTree t) (inv : Invariant t s) (v : Sta
         noted = w .noted;
         owes-others = w .owes-others;
         root-whole = w .root-whole;
+        sender = w .sender;
       })
       unmoved (λ _ _ _. r)
   standing-kept (send-self a x r e m b) =
@@ -217,7 +223,7 @@ module _ {t : Tree} {s : State} (tree : IsTree t) (inv : Invariant t s) (v : Sta
         sender-below = inv .inside a r;
         receiver-below = h;
         apart = λ z. e (sym z);
-        not-to-root = λ _ z. n (subst (In (s .columns a .noted)) (sym z) (inv .locals a r .root-sent (subst (In (s .columns a .send)) z m)));
+        not-to-root = λ o _ z. n (subst (In (s .columns a .noted)) (sym z) (inv .locals a r .shuns o .root-sent (subst (In (s .columns a .send)) z m)));
       })
       (λ y k. k)) (λ _ _ _. r)
   standing-kept (take-acknowledgement a q k r e taken b) =
@@ -238,7 +244,7 @@ module _ {t : Tree} {s : State} (tree : IsTree t) (inv : Invariant t s) (v : Sta
         sender-below = arrived taken .receiver-below;
         receiver-below = arrived taken .sender-below;
         apart = λ y. arrived taken .apart (sym y);
-        not-to-root = λ y. absurd (true≢false (sym y));
+        not-to-root = λ _ y. absurd (true≢false (sym y));
       })
       (λ y m. taken-back taken m)) (λ _ _ _. r)
   standing-kept (take-left a q k d x r lt taken m b) = answered a r x m b
@@ -249,7 +255,8 @@ module _ {t : Tree} {s : State} (tree : IsTree t) (inv : Invariant t s) (v : Sta
         owed = single-lt (arrived taken .sender-below);
         noted = before a r .noted;
         owes-others = absent (single q) a (λ m. arrived taken .apart (sym (in-single q m)));
-        root-whole = λ y. absurd (arrived taken .not-to-root refl y);
+        root-whole = λ y. eq-eqb a (t .root) y;
+        sender = arrived taken .sender-below;
       })
       (taken-packets taken) (λ _ _ _. r)
   standing-kept (acknowledge a x r m o b) = answered a r x m b
@@ -263,6 +270,7 @@ module _ {t : Tree} {s : State} (tree : IsTree t) (inv : Invariant t s) (v : Sta
         noted = w .noted;
         owes-others = w .owes-others;
         root-whole = λ _. refl;
+        sender = w .sender;
       })
       unmoved (λ _ _ _. r)
   standing-kept (note-awaited a j r h n m b) =
@@ -286,6 +294,7 @@ module _ {t : Tree} {s : State} (tree : IsTree t) (inv : Invariant t s) (v : Sta
         noted = w .noted;
         owes-others = w .owes-others;
         root-whole = w .root-whole;
+        sender = w .sender;
       })
       (λ p m. inl (others-back a (s .network) m)) (λ p m e. absurd (others-receiver a (s .network) m e))
   standing-kept (back j l noted rest h n nr r k b) = returned j l noted h nr r k b (rest .no-packet)

@@ -3,24 +3,26 @@ use Prim.Native.Nat.{ℕ, _≤_, _<_}
 use native.Mathlib.Omega.{arith}
 use mathlib.Core.Path.{_≡_, refl, sym, ap, subst, _∙_}
 use mathlib.Core.Logic.{_≢_, _⊎_, ⊎-elim, inl, inr}
-use mathlib.Core.Bool.{true, false, true≢false}
+use mathlib.Core.Bool.{Bool, true, false, cond, true≢false}
 use mathlib.Core.List.{List}
 use Rattle.column.specs.Cases.{truth}
 use Rattle.column.specs.Sets.{single, insert, without}
 use Rattle.column.specs.Trees.{IsTree}
 use Rattle.column.specs.SubtreeLaws.{Under}
+use Rattle.column.specs.Columns.{watched}
 use Rattle.column.specs.Packets.{receiver}
 use Rattle.column.specs.declared.tree.Tree.{Tree}
 use Rattle.column.specs.declared.state.Column.{Column}
 use Rattle.column.specs.declared.packet.Packet.{Packet}
 use Rattle.column.specs.declared.packet.Packet.the-variants.{Message, Acknowledgement}
 use Rattle.agreement.proofs.Model.{In, Empty, State, Runs, post, Taken, Becomes}
-use Rattle.agreement.proofs.Move.{renewed, serving, owing, Idle}
+use Rattle.agreement.proofs.Move.{renewed, serving, owing, Idle, Free}
 use Rattle.agreement.proofs.Members.{in-single, single-in, insert-old, insert-new, without-in, without-other, without-cases}
 use Rattle.agreement.proofs.Network.{Holds, taken-held, taken-back, taken-cases, taken-keeps, post-cases, post-old, post-new}
 use Rattle.agreement.proofs.Descendants.{under-cases, under-root}
 use Rattle.agreement.proofs.Invariant.{number, Covered, pending, reached, Truthful, acknowledgement-truthful, message-sent, acknowledgement-owed, acknowledgement-sent, Invariant}
 use Rattle.agreement.proofs.Keeping.{steady}
+use Rattle.agreement.proofs.Links.{linked-stays}
 use Rattle.agreement.proofs.Packets.{message-acknowledgement, message-sender, message-number, acknowledgement-sender, acknowledgement-number, message-issued, message-receiver, acknowledgement-subtree, outstanding-cases}
 use Rattle.agreement.proofs.Adjusting.{Adjusts, adjust}
 
@@ -37,7 +39,7 @@ module _ (t : Tree) (tree : IsTree t) {s : State} (a : ℕ) (inv : Invariant t s
     taken-old r m = ⊎-elim (λ z. inl z) (λ e. inr (ap receiver e ∙ mine)) (taken-cases k m)
 
   -- the sets stay, but for those owed
-  as-before : {owed : ℕ} → (a ≡ t .root → Empty owed) → Adjusts t tree a inv ra (c .send) (c .awaited) owed (c .noted)
+  as-before : {owed : ℕ} → (t .watch ≡ false → a ≡ t .root → Empty owed) → Adjusts t tree a inv ra (c .send) (c .awaited) owed (c .noted)
   as-before f = record {
     sends = λ q m. inl m;
     awaits = λ q m. inl m;
@@ -54,7 +56,7 @@ module _ (t : Tree) (tree : IsTree t) {s : State} (a : ℕ) (inv : Invariant t s
       record {
         sends = λ x m. inl m;
         awaits = λ x m. inl (without-in (c .awaited) q m);
-        owes = inv .locals a ra .root-owes;
+        owes = λ o. inv .locals a ra .shuns o .root-owes;
         notes = λ x m. m;
         halts = inv .coverages a ra .noted-halted;
         parts = λ x m n. inv .locals a ra .apart x (without-in (c .awaited) q m) n;
@@ -78,7 +80,7 @@ module _ (t : Tree) (tree : IsTree t) {s : State} (a : ℕ) (inv : Invariant t s
 
   pub keep-take-stale : {s' : State} (q n : ℕ) {l : List Packet} → n ≢ c .number → Taken (s .network) (Acknowledgement q a n) l →
       Becomes s s' a c l (s .orders) → Invariant t s'
-  keep-take-stale q n ne k b = adjust t tree a inv ra (as-before (inv .locals a ra .root-owes)) b record {
+  keep-take-stale q n ne k b = adjust t tree a inv ra (as-before (λ o. inv .locals a ra .shuns o .root-owes)) b record {
     new = taken-new k refl;
     old = taken-old k refl;
     awaits = λ x nx h m. outstanding-cases (inv .outstanding a x ra h m)
@@ -92,7 +94,7 @@ module _ (t : Tree) (tree : IsTree t) {s : State} (a : ℕ) (inv : Invariant t s
   pub keep-take-equal : {s' : State} (q d : ℕ) {l : List Packet} → Taken (s .network) (Message q a (c .number) d) l →
       Becomes s s' a (owing c (insert (c .owed) q)) l (s .orders) → Invariant t s'
   keep-take-equal q d k b = adjust t tree a inv ra
-      (as-before (λ e. absurd (message-receiver (inv .packets (Message q a (c .number) d) (taken-held k)) e)))
+      (as-before (λ o e. absurd (message-receiver (inv .packets (Message q a (c .number) d) (taken-held k)) o e)))
       b
       record {
         new = taken-new k refl;
@@ -110,7 +112,7 @@ module _ (t : Tree) (tree : IsTree t) {s : State} (a : ℕ) (inv : Invariant t s
 
   pub keep-take-lower : {s' : State} (q n d : ℕ) {l : List Packet} → n < c .number → Taken (s .network) (Message q a n d) l →
       Becomes s s' a c (post s (Acknowledgement a q n) l) (s .orders) → Invariant t s'
-  keep-take-lower q n d {l} lt k b = adjust t tree a inv ra (as-before (inv .locals a ra .root-owes)) b record {
+  keep-take-lower q n d {l} lt k b = adjust t tree a inv ra (as-before (λ o. inv .locals a ra .shuns o .root-owes)) b record {
     new = λ r m. ⊎-elim (λ z. inl (taken-back k z))
         (λ z. inr (subst (Truthful t s) (sym (z .0)) (acknowledgement-truthful (λ p h u. older p h))))
         (post-cases s answer l m);
@@ -139,7 +141,7 @@ module _ (t : Tree) (tree : IsTree t) {s : State} (a : ℕ) (inv : Invariant t s
   -- one who is owed is acknowledged: all that run in the subtree have the number
   keep-answer : {s' : State} (r : ℕ) → In (c .owed) r → ((p : ℕ) → Runs s p → Under t a p → c .number ≤ number s p) →
       Becomes s s' a (owing c (without (c .owed) r)) (post s (Acknowledgement a r (c .number)) (s .network)) (s .orders) → Invariant t s'
-  keep-answer r m f b = adjust t tree a inv ra (as-before (λ e q k. inv .locals a ra .root-owes e q (without-in (c .owed) r k))) b record {
+  keep-answer r m f b = adjust t tree a inv ra (as-before (λ o e q k. inv .locals a ra .shuns o .root-owes e q (without-in (c .owed) r k))) b record {
     new = λ x k. ⊎-elim (λ z. inl z) (λ z. inr (subst (Truthful t s) (sym (z .0)) (acknowledgement-truthful f)))
         (post-cases s answer (s .network) k);
     old = λ x k. inl (kept k);
@@ -165,39 +167,40 @@ module _ (t : Tree) (tree : IsTree t) {s : State} (a : ℕ) (inv : Invariant t s
   keep-take-left q n d r lt k m b = keep-answer r m
       (λ p h u. omega (arith, inv .near p h, message-issued (inv .packets (Message q a n d) (taken-held k)) .at-most)) b
 
-  -- a column with the own goal that serves nobody: all that run in its subtree have its number
+  -- a column that serves nobody: whoever it answers for has its number
+  idle-covered : Idle c → (p : ℕ) → Covered t s c p → c .number ≤ number s p
+  idle-covered idle p (pending q o v) = absurd (⊎-elim (idle .0 q) (idle .1 q) o)
+  idle-covered idle p (reached z) = z
+
   subtree-served : c .whole ≡ false → Idle c → (p : ℕ) → Runs s p → Under t a p → c .number ≤ number s p
   subtree-served w idle p h u =
-      ⊎-elim (λ z. omega (arith, ap (number s) z)) (λ b. go (inv .coverages a ra .own-covered w p h b)) (under-cases t a p u)
-    where
-      go : Covered t s c p → c .number ≤ number s p
-      go (pending q o v) = absurd (⊎-elim (idle .0 q) (idle .1 q) o)
-      go (reached z) = z
+      ⊎-elim (λ z. omega (arith, ap (number s) z)) (λ b. idle-covered idle p (inv .coverages a ra .own-covered w p h b)) (under-cases t a p u)
 
-  pub keep-acknowledge : {s' : State} (r : ℕ) → In (c .owed) r → (c .whole ≡ true) ⊎ Idle c →
+  idle-served : Idle c → (p : ℕ) → Runs s p → Under t a p → c .number ≤ number s p
+  idle-served idle p h u =
+      ⊎-elim (λ w. idle-covered idle p (inv .coverages a ra .all-covered w p h)) (λ w. subtree-served w idle p h u) (truth (c .whole))
+
+  pub keep-acknowledge : {s' : State} (r : ℕ) → In (c .owed) r → Free t a c →
       Becomes s s' a (owing c (without (c .owed) r)) (post s (Acknowledgement a r (c .number)) (s .network)) (s .orders) → Invariant t s'
-  keep-acknowledge r m o b = keep-answer r m (⊎-elim whole (λ z. ⊎-elim whole (λ w. subtree-served w z) (truth (c .whole))) o) b
+  keep-acknowledge r m o b = keep-answer r m (⊎-elim whole idle-served o) b
     where
-      whole : c .whole ≡ true → (p : ℕ) → Runs s p → Under t a p → c .number ≤ number s p
-      whole w = inv .coverages a ra .settled w (λ e. inv .locals a ra .root-owes e r m)
+      whole : (c .whole ≡ true) × (t .watch ≡ true → a ≢ t .root) → (p : ℕ) → Runs s p → Under t a p → c .number ≤ number s p
+      whole z = inv .coverages a ra .settled (z .0) (⊎-elim (z .1) (λ w e. inv .locals a ra .shuns w .root-owes e r m) (truth (t .watch)))
 
-  pub keep-widen : {s' : State} → a ≢ t .root → In (c .noted) (t .root) → c .whole ≡ false → Idle c →
-      Becomes s s' a (renewed c (c .number) (c .doors) (single (t .root)) (c .awaited) (c .owed) true) (s .network) (s .orders) →
+  pub keep-widen : {s' : State} → a ≢ t .root → In (c .noted) (watched t c) → c .whole ≡ false → Idle c →
+      Becomes s s' a (renewed c (c .number) (c .doors) (single (t .root)) (c .awaited) (c .owed) true (c .sender)) (s .network) (s .orders) →
       Invariant t s'
-  keep-widen n m w idle b = steady t inv ra b record {
+  keep-widen n m w idle b = steady t inv ra b (λ o. linked-stays t b (inv .linked o) ra (omega arith) (λ _ z. absurd (true≢false z))) record {
     rises = omega arith;
     newest = λ e. absurd (n e);
     issued = λ _. inv .records a ra;
     local = λ _. record {
       root-whole = λ _. refl;
       members = λ q u. ⊎-elim (λ k. subst (λ (x : ℕ). x < t .columns) (sym (in-single (t .root) k)) (tree .root-below)) (λ k. absurd (idle .1 q k)) u;
-      own = λ z. absurd (true≢false z);
-      root-noted = λ _ _. m;
-      root-sent = λ _. m;
-      root-awaited = idle .1 (t .root);
+      own = λ z. absurd (⊎-elim (λ e. true≢false e) n z);
       self-awaited = idle .1 a;
-      root-owes = inv .locals a ra .root-owes;
       apart = λ q k. absurd (idle .1 q k);
+      shuns = λ o. record { root-noted = λ _ _. root-in o; root-sent = λ _. root-in o; root-owes = λ e. absurd (n e) };
     };
     coverage = λ _. record {
       own-covered = λ z. absurd (true≢false z);
@@ -211,3 +214,6 @@ module _ (t : Tree) (tree : IsTree t) {s : State} (a : ℕ) (inv : Invariant t s
     awaited = λ _ p np h v. outstanding-cases v
         (λ d k. message-sent d k) (λ o z. acknowledgement-owed o z) (λ k. acknowledgement-sent k);
   }
+    where
+      root-in : t .watch ≡ false → In (c .noted) (t .root)
+      root-in o = subst (λ (b : Bool). In (c .noted) (cond b (c .sender) (t .root))) o m

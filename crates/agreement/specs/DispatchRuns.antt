@@ -2,7 +2,7 @@
 use Prim.Native.Nat.{ℕ, _≤_, _<_}
 use native.Mathlib.Omega.{arith}
 use mathlib.Core.Path.{_≡_, refl, sym, ap, subst}
-use mathlib.Core.Bool.{Bool, true, _&&_}
+use mathlib.Core.Bool.{Bool, true, false, _&&_}
 use mathlib.Core.List.{List, [], _∷_, map}
 use lib.Count.{trailingZeros}
 use lib.ListN.{length, replicate, length-replicate}
@@ -22,7 +22,7 @@ use Rattle.bank.specs.Rest.{AtRest}
 use Rattle.bank.specs.Dispatch.{offered, firstAccepted, turn, dispatched, dispatch}
 use Rattle.bank.specs.declared.step.Step.{Step}
 use Rattle.bank.specs.declared.step.Step.the-variants.{Order, Send, Take, Ack, All, Note, Halt}
-use Rattle.agreement.specs.History.{World, columnsOf, told, run, step}
+use Rattle.agreement.specs.History.{World, columnsOf, WatchesRoot, told, run, step}
 use Rattle.agreement.specs.Agreement.{begin}
 use Rattle.agreement.specs.Premises.{follow-steps}
 use Rattle.agreement.specs.Dispatching.{stepsWithin, allSettling, allAccepted, Settles, Rests}
@@ -55,11 +55,11 @@ world c = after (begun c)
 
 -- the steps of a dispatch with a limit of 12, that of one with a limit of 2, and what the premises of `Rests` ask of them
 abbrev Said : Type 0
-Said = List Step × List Step × Bool × ℕ × ℕ
+Said = List Step × List Step × Bool × ℕ × ℕ × Bool
 
 pub dispatches-pass : (c : Case) → _≡_ {A = Said}
-    (dispatched 12 (world c .state), dispatched 2 (world c .state), allSettling (toRest c) && allAccepted (world c) (toRest c), columnsOf (world c), treeRefusal twoColumns)
-    (toRest c, firstTwo c, true, 2, 0)
+    (dispatched 12 (world c .state), dispatched 2 (world c .state), allSettling (toRest c) && allAccepted (world c) (toRest c), columnsOf (world c), treeRefusal twoColumns, world c .state .bank .tree .watch)
+    (toRest c, firstTwo c, true, 2, 0, false)
 unfolding run told perform every closedUp keeping padded places freshPlace bankRefusal packetOf put puts vanished fitting acted delivered rewriting halted haltRefusal climbsIn treeRefusal stateRefusal selected trailingZeros offered firstAccepted turn dispatched allSettling allAccepted core.orderRefusal core.sendRefusal core.packetRefusal core.takeRefusal core.ackRefusal core.allRefusal core.noteRefusal core.orderEffect core.sendEffect core.acknowledgementEffect core.receiveEffect core.messageEffect core.ackEffect core.allEffect core.noteEffect
 dispatches-pass ordered = refl
 dispatches-pass rootHalted = refl
@@ -79,14 +79,17 @@ module _ (rests : Rests) (c : Case) where
   within : stepsWithin (columnsOf (world c)) ≡ 26
   within = ap stepsWithin (ap (λ x. x .3) (dispatches-pass c))
 
+  watches : WatchesRoot (world c)
+  watches = ap (λ x. x .5) (dispatches-pass c)
+
   pub any-steps-said : length (toRest c) ≤ 26
-  any-steps-said = omega (arith, within, settles .any-steps (toRest c) (and-left _ _ both) (and-right (allSettling (toRest c)) _ both))
+  any-steps-said = omega (arith, within, settles .any-steps watches (toRest c) (and-left _ _ both) (and-right (allSettling (toRest c)) _ both))
 
   pub rests-said : AtRest (dispatch 26 (world c .state))
-  rests-said = settles .rests 26 (omega (arith, within))
+  rests-said = settles .rests watches 26 (omega (arith, within))
 
   pub until-said : AtRest (dispatch 12 (world c .state))
-  until-said = settles .until 12 (subst (λ (l : List Step). length l < 12) (sym (ap (λ x. x .0) (dispatches-pass c))) (few c))
+  until-said = settles .until watches 12 (subst (λ (l : List Step). length l < 12) (sym (ap (λ x. x .0) (dispatches-pass c))) (few c))
     where
       few : (c : Case) → length (toRest c) < 12
       few ordered = omega arith

@@ -1,5 +1,5 @@
 -- Document 02, Point 2: "From any state reached from fresh by accepted steps, a bank of N columns rests within 9 times N squared less 5
--- times N steps (2,224 for 16)."
+-- times N steps (2,224 for 16)." Point 9: "the packet and step limits of Points 2 and 3 are for watch=root only".
 use Prim.Native.Nat.{ℕ, _-_, _*_, _≤_, _<_}
 use mathlib.Core.Path.{_≡_}
 use mathlib.Core.Bool.{Bool, true, false, not, _&&_}
@@ -10,7 +10,7 @@ use Rattle.bank.specs.Rest.{isRefused, AtRest}
 use Rattle.bank.specs.Dispatch.{dispatched, dispatch}
 use Rattle.bank.specs.declared.step.Step.{Step}
 use Rattle.bank.specs.declared.step.Step.the-variants.{Order, Send, Take, Ack, All, Note, Halt, Back}
-use Rattle.agreement.specs.History.{World, columnsOf, told, run}
+use Rattle.agreement.specs.History.{World, columnsOf, WatchesRoot, told, run}
 use Rattle.agreement.specs.Agreement.{AfterEveryList}
 
 abbrev pub stepsWithin : ℕ → ℕ
@@ -38,13 +38,13 @@ allAccepted w (x ∷ xs) = not (isRefused (perform (w .state) x)) && allAccepted
 
 pub record Settles (w : World) : Type 0 where
   -- whichever steps are taken, and in whichever sequence
-  pub any-steps : (xs : List Step) → allSettling xs ≡ true → allAccepted w xs ≡ true → length xs ≤ stepsWithin (columnsOf w)
+  pub any-steps : WatchesRoot w → (xs : List Step) → allSettling xs ≡ true → allAccepted w xs ≡ true → length xs ≤ stepsWithin (columnsOf w)
   -- the dispatcher's
-  pub few : (limit : ℕ) → length (dispatched limit (w .state)) ≤ stepsWithin (columnsOf w)
-  pub rests : (limit : ℕ) → stepsWithin (columnsOf w) ≤ limit → AtRest (dispatch limit (w .state))
+  pub few : WatchesRoot w → (limit : ℕ) → length (dispatched limit (w .state)) ≤ stepsWithin (columnsOf w)
+  pub rests : WatchesRoot w → (limit : ℕ) → stepsWithin (columnsOf w) ≤ limit → AtRest (dispatch limit (w .state))
   -- "until rest, until the limit"
-  pub until : (limit : ℕ) → length (dispatched limit (w .state)) < limit → AtRest (dispatch limit (w .state))
-  -- they are a list of accepted steps, to which demand 3 applies
+  pub until : WatchesRoot w → (limit : ℕ) → length (dispatched limit (w .state)) < limit → AtRest (dispatch limit (w .state))
+  -- whoever is watched: they are a list of accepted steps, to which demand 3 applies
   pub steps-accepted : (limit : ℕ) → allAccepted w (dispatched limit (w .state)) ≡ true
   pub steps-lead : (limit : ℕ) → run w (dispatched limit (w .state)) .state ≡ dispatch limit (w .state)
 

@@ -1,6 +1,7 @@
 -- What document 01 defines by the steps taken: the accepted orders, the numbers that a column received, and whom the root awaits. All
 -- are told from the list of steps and the answers; what the bank keeps for its own work (its `awaited` sets, its records) is not asked.
 use Prim.Native.Nat.{ℕ, suc}
+use mathlib.Core.Path.{_≡_}
 use mathlib.Core.Bool.{Bool, true, false, not, _&&_, cond}
 use mathlib.Core.List.{List, [], _∷_}
 use lib.Dec.{eqb, ltb}
@@ -38,6 +39,10 @@ rootOf s = s .bank .tree .root
 
 abbrev pub columnsOf : World → ℕ
 columnsOf w = w .state .bank .tree .columns
+
+-- document 02, Point 9: `watch=root`, or no word of it
+abbrev pub WatchesRoot : World → Type 0
+WatchesRoot w = w .state .bank .tree .watch ≡ false
 
 -- ---- the accepted orders
 

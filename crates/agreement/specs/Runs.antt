@@ -7,7 +7,7 @@ use lib.Count.{trailingZeros}
 use lib.Dec.{eqb}
 use lib.ListN.{replicate}
 use Rattle.column.specs.Sets.{single, selected}
-use Rattle.column.specs.Trees.{treeOf, every, climbsIn, treeRefusal}
+use Rattle.column.specs.Trees.{ascending, treeBy, treeOf, every, climbsIn, treeRefusal}
 use Rattle.column.specs.Columns.{stateRefusal}
 use Rattle.column.specs.Steps as core
 use Rattle.column.specs.declared.tree.Tree.{Tree}
@@ -122,6 +122,10 @@ computed r =
 abbrev pub chain : Tree
 chain = treeOf 3 0 (0 ∷ 0 ∷ 1 ∷ replicate 13 0)
 
+-- the same with watch=sender
+abbrev pub watching : Tree
+watching = treeBy 3 0 (0 ∷ 0 ∷ 1 ∷ replicate 13 0) ascending true
+
 -- columns=5, root=2, up=2,0,2,2,3
 abbrev pub fork : Tree
 fork = treeOf 5 2 (2 ∷ 0 ∷ 2 ∷ 2 ∷ 3 ∷ replicate 11 0)
@@ -144,6 +148,8 @@ pub data Case : Type 0 where
   backAfterTakenOver : Case
   backAtLower : Case
   backRefused : Case
+  senderHalted : Case
+  senderRuns : Case
 
 -- the halt of one column
 abbrev halting : ℕ → Step
@@ -237,6 +243,17 @@ row backAtLower =
 row backRefused =
     rowOf chain (Back 3 ∷ Back 1 ∷ Halt 5 ∷ Back 0 ∷ Back 2 ∷ halting 1 ∷ Back 2 ∷ Back 0 ∷ [])
     (4 ∷ 6 ∷ 15 ∷ 14 ∷ 16 ∷ 15 ∷ []) [] (0 ∷ 0 ∷ 0 ∷ []) 0 0 0 true (haltedRoot 0)
+-- under sender, column 1 halts after it served column 2, which takes over and sends to the running root. While the root awaits it does not
+-- acknowledge, nor is it given an order while it sends, or owes. Then column 1 comes back
+row senderHalted =
+    rowOf watching
+    (Order 513 ∷ Send 0 ∷ Take 0 ∷ Send 1 ∷ Take 0 ∷ halting 1 ∷ Note 2 1 ∷ All 2 ∷ Send 2 ∷ Take 0 ∷ Ack 0 ∷ Note 0 1 ∷ Order 9 ∷ Send 0 ∷ Take 0
+    ∷ Ack 2 ∷ Take 0 ∷ Order 9 ∷ Ack 0 ∷ Take 0 ∷ Ack 2 ∷ Back 1 ∷ [])
+    (6 ∷ 7 ∷ 7 ∷ []) (513 ∷ []) (1 ∷ 1 ∷ 1 ∷ []) 7 1 0 true idleRoot
+-- under sender the root halts: column 2, whose sender runs, does not take over, and column 1 does
+row senderRuns =
+    rowOf watching (Order 3 ∷ (serving ++ (halting 0 ∷ Note 2 0 ∷ All 2 ∷ Note 1 0 ∷ All 1 ∷ Send 1 ∷ Send 1 ∷ [])))
+    (6 ∷ []) (3 ∷ []) (1 ∷ 1 ∷ 1 ∷ []) 6 1 0 true (haltedRoot 0)
 
 pub runs-pass : (c : Case) → computed (row c) ≡ (row c, 0, 0, true)
 unfolding refusals given run told perform atRest every closedUp keeping padded places freshPlace bankRefusal packetOf put puts vanished fitting acted delivered rewriting halted haltRefusal backRefusal returned climbsIn treeRefusal stateRefusal selected trailingZeros core.orderRefusal core.sendRefusal core.packetRefusal core.takeRefusal core.ackRefusal core.allRefusal core.noteRefusal core.orderEffect core.sendEffect core.acknowledgementEffect core.receiveEffect core.messageEffect core.ackEffect core.allEffect core.noteEffect
@@ -257,3 +274,5 @@ runs-pass backThenTakenOver = refl
 runs-pass backAfterTakenOver = refl
 runs-pass backAtLower = refl
 runs-pass backRefused = refl
+runs-pass senderHalted = refl
+runs-pass senderRuns = refl

@@ -114,9 +114,9 @@ StepsCore o t running x i c = standing t i c ≡ 0 → core.meant o ≡ coreStep
 
 -- ---- whether the bank stands after a step
 
-abbrev pub TellsNewest : Bool → ℕ → ℕ → ℕ → ℕ → List ℕ → Type 0
-TellsNewest r columns root running count heads =
-    (b : Bank) (doors : List ℕ) → b .tree .columns ≡ columns → b .tree .root ≡ root → Lit running b → b .count ≡ count
+abbrev pub TellsNewest : Bool → ℕ → ℕ → Bool → ℕ → ℕ → List ℕ → Type 0
+TellsNewest r columns root watch running count heads =
+    (b : Bank) (doors : List ℕ) → b .tree .columns ≡ columns → b .tree .root ≡ root → b .tree .watch ≡ watch → Lit running b → b .count ≡ count
     → r ≡ newestStands (state b heads doors)
 
 abbrev pub TellsStill : Bool → Tree → ℕ → ℕ → Column → ℕ → List ℕ → Type 0

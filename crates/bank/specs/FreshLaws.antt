@@ -14,7 +14,7 @@ use Rattle.column.specs.Cases.{compare-cases, equal-cases}
 use Rattle.column.specs.Sets.{has}
 use Rattle.column.specs.SetLaws.{has-none}
 use Rattle.column.specs.Trees.{treeRefusal}
-use Rattle.column.specs.TreeLaws.{tree-sixteen}
+use Rattle.column.specs.TreeLaws.{check-exact, tree-sixteen}
 use Rattle.column.specs.Columns.{fresh, stateRefusal}
 use Rattle.column.specs.StateLaws.{sound-passes}
 use Rattle.column.specs.declared.tree.Tree.{Tree}
@@ -91,6 +91,7 @@ module _ (t : Tree) (e : treeRefusal t ≡ 0) where
         noted-below = none;
         owes-others = has-none i;
         root-whole = λ r. eq-eqb i (t .root) r;
+        sender-below = check-exact t .0 e .root-below;
       })
 
   pub fresh-stands : (heads doors : List ℕ) → Stands (state (freshBank t) heads doors)

@@ -33,7 +33,7 @@ isRefusal (Refused n) = true
 
 -- what column i can do, once each test is known
 pub step-is : {r z s a w : Bool} (t : Tree) (full : Bool) (halted i : ℕ) (c : Column) (other : Step) → c .running ≡ r → eqb (minus halted (c .noted)) 0 ≡ z
-    → canSend t full halted i c ≡ s → canAck full halted c ≡ a → canTakeOver (t .root) i c ≡ w
+    → canSend t full halted i c ≡ s → canAck t full halted i c ≡ a → canTakeOver t i c ≡ w
     → stepOf t full halted i c other
     ≡ cond r (cond z (cond s (Send i) (cond a (Ack i) (cond w (All i) other))) (Note i (lowest (minus halted (c .noted))))) other
 unfolding stepOf

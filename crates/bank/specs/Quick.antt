@@ -5,7 +5,7 @@ use lib.Bits.{bitXor}
 use lib.Dec.{eqb, ltb}
 use Rattle.column.specs.Sets.{has, join, lowest}
 use Rattle.column.specs.Trees.{choose}
-use Rattle.column.specs.Columns.{idle}
+use Rattle.column.specs.Columns.{idle, watched, mayAcknowledge}
 use Rattle.column.specs.declared.tree.Tree.{Tree}
 use Rattle.column.specs.declared.state.Column.{Column}
 use Rattle.bank.specs.Words.{receiverIn}
@@ -27,11 +27,11 @@ canSend t full halted i c =
     let k = choose t (c .send) in
     not (eqb (c .send) 0) && (eqb k i || (has (c .noted) k || fits full halted k))
 
-abbrev pub canAck : Bool → ℕ → Column → Bool
-canAck full halted c = not (eqb (c .owed) 0) && ((c .whole || idle c) && fits full halted (lowest (c .owed)))
+abbrev pub canAck : Tree → Bool → ℕ → ℕ → Column → Bool
+canAck t full halted i c = not (eqb (c .owed) 0) && (mayAcknowledge t i c && fits full halted (lowest (c .owed)))
 
-abbrev pub canTakeOver : ℕ → ℕ → Column → Bool
-canTakeOver root i c = not (eqb i root) && (has (c .noted) root && (not (c .whole) && idle c))
+abbrev pub canTakeOver : Tree → ℕ → Column → Bool
+canTakeOver t i c = not (eqb i (t .root)) && (has (c .noted) (watched t c) && (not (c .whole) && idle c))
 
 -- what column i, which is c, can do, and the other step where it can do nothing
 unfoldable pub stepOf : Tree → Bool → ℕ → ℕ → Column → Step → Step
@@ -39,7 +39,7 @@ stepOf t full halted i c other =
     let new = minus halted (c .noted) in
     cond (c .running)
     (cond (eqb new 0)
-    (cond (canSend t full halted i c) (Send i) (cond (canAck full halted c) (Ack i) (cond (canTakeOver (t .root) i c) (All i) other)))
+    (cond (canSend t full halted i c) (Send i) (cond (canAck t full halted i c) (Ack i) (cond (canTakeOver t i c) (All i) other)))
     (Note i (lowest new)))
     other
 

@@ -18,7 +18,7 @@ use Rattle.column.specs.Digits.{digit-cases, digit-or, digit-xor, has-true, has
 use Rattle.column.specs.SetLaws.{selected-has, lowest-member, within-lt}
 use Rattle.column.specs.TreeLaws.{tree-sixteen}
 use Rattle.column.specs.ChoiceLaws.{choose-lt}
-use Rattle.column.specs.Columns.{idle, standing, stateConditions, stateRefusal}
+use Rattle.column.specs.Columns.{idle, standing, stateConditions, stateRefusal, watched, mayAcknowledge}
 use Rattle.column.specs.RefusalLaws.{passed}
 use Rattle.column.specs.StateLaws.{Sound, sound}
 use Rattle.column.specs.Steps as core
@@ -153,7 +153,7 @@ module _ (s : State) (st : Stands s) (i : ℕ) (h : i < s .bank .tree .columns) 
 
   -- ---- ack
 
-  ack-own : (nobody free : Bool) → eqb (c .owed) 0 ≡ nobody → (c .whole || idle c) ≡ free
+  ack-own : (nobody free : Bool) → eqb (c .owed) 0 ≡ nobody → mayAcknowledge t i c ≡ free
       → core.ackRefusal t i c ≡ cond nobody 6 (cond (not free) 6 0)
   unfolding core.ackRefusal
   ack-own nobody free e f = simp (ok, r, e, f)
@@ -164,9 +164,9 @@ module _ (s : State) (st : Stands s) (i : ℕ) (h : i < s .bank .tree .columns) 
       let p = passed (stateConditions t i c) tt (st .columns i h) in
       members .owed-below (lowest (c .owed)) (lowest-in (c .owed) (not-false _ (p .1 .1 .1 .0)) e)
 
-  pub ack-exact : isRefused (ack s i) ≡ not (canAck full halted c)
+  pub ack-exact : isRefused (ack s i) ≡ not (canAck t full halted i c)
   unfolding perform core.ackEffect
-  ack-exact = exactly (Ack i) ∙ go (eqb (c .owed) 0) refl (c .whole || idle c) refl
+  ack-exact = exactly (Ack i) ∙ go (eqb (c .owed) 0) refl (mayAcknowledge t i c) refl
     where
       room : (running none : Bool) → ((running && none) || false) ≡ not (not none || not running)
       room true true = refl
@@ -176,7 +176,7 @@ module _ (s : State) (st : Stands s) (i : ℕ) (h : i < s .bank .tree .columns) 
       over : Bool
       over = runs b (lowest (c .owed)) && full
 
-      go : (nobody : Bool) → eqb (c .owed) 0 ≡ nobody → (free : Bool) → (c .whole || idle c) ≡ free
+      go : (nobody : Bool) → eqb (c .owed) 0 ≡ nobody → (free : Bool) → mayAcknowledge t i c ≡ free
           → (over || refuses (core.ackRefusal t i c))
           ≡ not (not nobody && (free && fits full halted (lowest (c .owed))))
       go true e free f = ap (λ (n : ℕ). over || refuses n) (ack-own true free e f) ∙ or-true over
@@ -188,7 +188,7 @@ module _ (s : State) (st : Stands s) (i : ℕ) (h : i < s .bank .tree .columns) 
 
   -- ---- all
 
-  all-own : (root noted whole quiet : Bool) → eqb i (t .root) ≡ root → has (c .noted) (t .root) ≡ noted → c .whole ≡ whole → idle c ≡ quiet
+  all-own : (root noted whole quiet : Bool) → eqb i (t .root) ≡ root → has (c .noted) (watched t c) ≡ noted → c .whole ≡ whole → idle c ≡ quiet
       → refuses (core.allRefusal t i c) ≡ not (not root && (noted && (not whole && quiet)))
   unfolding core.allRefusal
   all-own root noted whole quiet e f g z = simp (ok, r, e, f, g, z) (go root noted whole quiet)
@@ -201,9 +201,9 @@ module _ (s : State) (st : Stands s) (i : ℕ) (h : i < s .bank .tree .columns) 
       go false true false true = refl
       go false true false false = refl
 
-  pub all-exact : isRefused (all s i) ≡ not (canTakeOver (t .root) i c)
+  pub all-exact : isRefused (all s i) ≡ not (canTakeOver t i c)
   unfolding perform
-  all-exact = exactly (All i) ∙ all-own (eqb i (t .root)) (has (c .noted) (t .root)) (c .whole) (idle c) refl refl refl refl
+  all-exact = exactly (All i) ∙ all-own (eqb i (t .root)) (has (c .noted) (watched t c)) (c .whole) (idle c) refl refl refl refl
 
   -- ---- note
 

@@ -113,16 +113,16 @@ module _ (s : State) (st : Stands s) (i : ℕ) (h : i < s .bank .tree .columns) 
       ∙ first-notes _
       ∙ ap (λ (y : Step). cond (eqb new 0) y (Note i (lowest new)))
       (ap (λ (y : Step). cond (isRefused (send s i)) y (Send i))
-      (ap (λ (y : Step). cond (isRefused (ack s i)) y (Ack i)) (pick (canTakeOver (t .root) i c) (isRefused (all s i)) (All i) other (all-exact s st i h r))
-      ∙ pick (canAck full halted c) (isRefused (ack s i)) (Ack i) third (ack-exact s st i h r))
+      (ap (λ (y : Step). cond (isRefused (ack s i)) y (Ack i)) (pick (canTakeOver t i c) (isRefused (all s i)) (All i) other (all-exact s st i h r))
+      ∙ pick (canAck t full halted i c) (isRefused (ack s i)) (Ack i) third (ack-exact s st i h r))
       ∙ pick (canSend t full halted i c) (isRefused (send s i)) (Send i) second (send-exact s st i h r))
       ∙ sym (ap (λ (x : Bool). cond x (cond (eqb new 0) (cond (canSend t full halted i c) (Send i) second) (Note i (lowest new))) other) r)
     where
       third : Step
-      third = cond (canTakeOver (t .root) i c) (All i) other
+      third = cond (canTakeOver t i c) (All i) other
 
       second : Step
-      second = cond (canAck full halted c) (Ack i) third
+      second = cond (canAck t full halted i c) (Ack i) third
 
       pick : (p q : Bool) (x y : Step) → q ≡ not p → cond q y x ≡ cond p x y
       pick p q x y e = ap (λ (z : Bool). cond z y x) e ∙ turned p

@@ -12,7 +12,7 @@ use Rattle.column.specs.Cases.{truth, and-left, and-right}
 use Rattle.column.specs.SetLaws.{has-none}
 use Rattle.column.specs.Trees.{every, treeRefusal}
 use Rattle.column.specs.TreeLaws.{every-at, every-all}
-use Rattle.column.specs.Columns.{fresh, standing}
+use Rattle.column.specs.Columns.{fresh, standing, watched}
 use Rattle.column.specs.Steps.{sendConditions, ackConditions, allConditions, sendRefusal, ackRefusal, allRefusal, noteRefusal}
 use Rattle.column.specs.declared.tree.Tree.{Tree}
 use Rattle.column.specs.declared.state.Column.{Column}
@@ -151,7 +151,7 @@ module _ (t : Tree) (i : ℕ) where
 
   fresh-all : refuses (allRefusal t i c) ≡ true
   unfolding allRefusal
-  fresh-all = met (standing t i c) (allConditions t i c) tt (λ p. true≢false (sym (ap not (has-none (t .root))) ∙ p .1 .1 .0))
+  fresh-all = met (standing t i c) (allConditions t i c) tt (λ p. true≢false (sym (ap not (has-none (watched t c))) ∙ p .1 .1 .0))
 
 pub fresh-rests : (t : Tree) → treeRefusal t ≡ 0 → (heads doors : List ℕ) → AtRest (state (freshBank t) heads doors)
 fresh-rests t e heads doors =

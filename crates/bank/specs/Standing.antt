@@ -9,11 +9,11 @@ use Rattle.bank.specs.Banks.{State, state, packetAt, columnStands, packe
 use Rattle.bank.specs.declared.bank.Bank.{Bank}
 use Rattle.bank.specs.Words.{acknowledging, receiverIn, senderIn}
 
-unfoldable pub headStands : ℕ → ℕ → ℕ → ℕ → Bool
-headStands columns root running head =
+unfoldable pub headStands : ℕ → ℕ → Bool → ℕ → ℕ → Bool
+headStands columns root watch running head =
     ltb (receiverIn head) columns
     && (((ltb (senderIn head) columns && not (eqb (senderIn head) (receiverIn head)))
-    && (leb acknowledging head || not (eqb (receiverIn head) root)))
+    && (leb acknowledging head || (not (eqb (receiverIn head) root) || watch)))
     && has running (receiverIn head))
 
 -- n is the refusal of the bank, whatever the doors

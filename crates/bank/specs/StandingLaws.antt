@@ -95,16 +95,17 @@ not-below a b = go (truth (ltb a b))
     go (inr e) = le-leb b a (ltb-false a b e) ∙ ap not (sym e)
 
 -- row 4's conditions one after the other, and the same at once
-table : (to-below from-below same message to-root running : Bool)
-    → (to-below && (((from-below && not same) && (not message || not to-root)) && running))
-    ≡ (eqb (cond (not from-below) 4 (cond (not to-below) 4 (cond same 4 (cond (message && to-root) 4 0)))) 0 && running)
-table false false e m r u = refl
-table false true e m r u = refl
-table true false e m r u = refl
-table true true true m r u = refl
-table true true false true true u = refl
-table true true false true false u = refl
-table true true false false r u = refl
+table : (to-below from-below same message to-root watch running : Bool)
+    → (to-below && (((from-below && not same) && (not message || (not to-root || watch))) && running))
+    ≡ (eqb (cond (not from-below) 4 (cond (not to-below) 4 (cond same 4 (cond (message && (to-root && not watch)) 4 0)))) 0 && running)
+table false false e m r w u = refl
+table false true e m r w u = refl
+table true false e m r w u = refl
+table true true true m r w u = refl
+table true true false true true true u = refl
+table true true false true true false u = refl
+table true true false true false w u = refl
+table true true false false r w u = refl
 
 module _ (b : Bank) (running : ℕ) (lit : (j : ℕ) → j < b .tree .columns → has running j ≡ runs b j) where
   abbrev n : ℕ
@@ -119,18 +120,18 @@ module _ (b : Bank) (running : ℕ) (lit : (j : ℕ) → j < b .tree .columns �
       go false e = refl
 
   -- the doors are not looked at
-  pub head-stands : (head doors : ℕ) → headStands n (b .tree .root) running head ≡ packetStands b (packetOf head doors)
+  pub head-stands : (head doors : ℕ) → headStands n (b .tree .root) (b .tree .watch) running head ≡ packetStands b (packetOf head doors)
   unfolding headStands packetRefusal
   head-stands head doors =
       let to = receiverIn head in
       let from = senderIn head in
-      in-running to ((ltb from n && not (eqb from to)) && (leb acknowledging head || not (eqb to (b .tree .root))))
+      in-running to ((ltb from n && not (eqb from to)) && (leb acknowledging head || (not (eqb to (b .tree .root)) || b .tree .watch)))
       ∙ rw (receiver-of head doors, sender-of head doors, kind-of head doors, not-below from n, not-below to n, not-below head acknowledging)
-      (table (ltb to n) (ltb from n) (eqb from to) (ltb head acknowledging) (eqb to (b .tree .root)) (runs b to))
+      (table (ltb to n) (ltb from n) (eqb from to) (ltb head acknowledging) (eqb to (b .tree .root)) (b .tree .watch) (runs b to))
 
 pub heads-stand : (b : Bank) (heads doors : List ℕ)
     → let n = b .tree .columns in
-    every (λ k. headStands n (b .tree .root) (selected (runs b) n) (getD heads k 0)) (b .count) ≡ packetsStand (state b heads doors)
+    every (λ k. headStands n (b .tree .root) (b .tree .watch) (selected (runs b) n) (getD heads k 0)) (b .count) ≡ packetsStand (state b heads doors)
 heads-stand b heads doors =
     let n = b .tree .columns in
     every-same _ _ (b .count) (λ k h. head-stands b (selected (runs b) n) (selected-has (runs b) n) (getD heads k 0) (getD doors k 0))

@@ -62,11 +62,11 @@ module _ (s : State) where
     unfolding stepOf
     column-turning t full halted c other h =
         let new = minus halted (c .noted) in
-        let third : Step = cond (canTakeOver (t .root) i c) (All i) other in
-        let second : Step = cond (canAck full halted c) (Ack i) third in
+        let third : Step = cond (canTakeOver t i c) (All i) other in
+        let second : Step = cond (canAck t full halted i c) (Ack i) third in
         let first : Step = cond (canSend t full halted i c) (Send i) second in
-        let last : Turning s third = either (canTakeOver (t .root) i c) (All i) other (by-itself (All i) refl own refl refl) h in
-        let later : Turning s second = either (canAck full halted c) (Ack i) third (by-itself (Ack i) refl own refl refl) last in
+        let last : Turning s third = either (canTakeOver t i c) (All i) other (by-itself (All i) refl own refl refl) h in
+        let later : Turning s second = either (canAck t full halted i c) (Ack i) third (by-itself (Ack i) refl own refl refl) last in
         either (c .running) (cond (eqb new 0) first (Note i (lowest new))) other
         (either (eqb new 0) first (Note i (lowest new)) (either (canSend t full halted i c) (Send i) second (by-itself (Send i) refl own refl refl) later)
         (by-itself (Note i (lowest new)) refl own refl refl))

@@ -40,6 +40,7 @@ pub const NO_COLUMN: Column = Column {
     owed: 0,
     noted: 0,
     whole: false,
+    sender: 0,
 };
 
 // Column i of a fresh bank; an unused place holds a column that does not run.

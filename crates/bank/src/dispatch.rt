@@ -17,6 +17,8 @@ use crate::words::receiver_in;
 use column::choice::choose;
 use column::members::has;
 use column::members::lowest;
+use column::refusal::may_acknowledge;
+use column::refusal::watched;
 use column::state::Column;
 use column::tree::Tree;
 ghost use mathlib.Core.Path.{_≡_};
@@ -61,20 +63,20 @@ fn can_send(t: Tree, full: bool, halted: u16, i: usize, c: Column) -> bool
     has(c.noted, k) | fits(full, halted, k)
 }
 
-fn can_ack(full: bool, halted: u16, c: Column) -> bool
-    ensures { λ r. ⌜ r ≡ canAck full halted c ⌝ }
+fn can_ack(t: Tree, full: bool, halted: u16, i: usize, c: Column) -> bool
+    ensures { λ r. ⌜ r ≡ canAck t full halted i c ⌝ }
 {
     let set = c.owed;
     if set == 0 {
         return false;
     }
-    (c.whole | ((c.send == 0) & (c.awaited == 0))) & fits(full, halted, lowest(set))
+    may_acknowledge(t, i, c) & fits(full, halted, lowest(set))
 }
 
-fn can_take_over(root: usize, i: usize, c: Column) -> bool
-    ensures { λ r. ⌜ r ≡ canTakeOver root i c ⌝ }
+fn can_take_over(t: Tree, i: usize, c: Column) -> bool
+    ensures { λ r. ⌜ r ≡ canTakeOver t i c ⌝ }
 {
-    (i != root) & (has(c.noted, root) & (!c.whole & ((c.send == 0) & (c.awaited == 0))))
+    (i != t.root) & (has(c.noted, watched(t, c)) & (!c.whole & ((c.send == 0) & (c.awaited == 0))))
 }
 
 // What column i, which is c, can do: note the lowest column that is halted and not noted, send, acknowledge, take over the bank.
@@ -92,10 +94,10 @@ fn offer_of(t: Tree, full: bool, halted: u16, i: usize, c: Column) -> Offer
     if can_send(t, full, halted, i, c) {
         return Offer::Is(Step::Send(i));
     }
-    if can_ack(full, halted, c) {
+    if can_ack(t, full, halted, i, c) {
         return Offer::Is(Step::Ack(i));
     }
-    if can_take_over(t.root, i, c) {
+    if can_take_over(t, i, c) {
         return Offer::Is(Step::All(i));
     }
     Offer::Nothing

@@ -42,8 +42,12 @@ fn come_back(b: Bank, j: usize) -> Column
     ensures { λ r. ⌜ r ≡ comeBack b j ⌝ }
 {
     let t = b.tree;
-    let c = column_at(b, lowest(running(b)));
-    strike(rejoin(c, halted(b), !runs(b, t.root)), j)
+    let l = lowest(running(b));
+    let sender = l as u8;
+    strike(
+        rejoin(column_at(b, l), halted(b), !runs(b, t.root), sender),
+        j,
+    )
 }
 
 // Every column of the bank has j no longer noted.

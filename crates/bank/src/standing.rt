@@ -35,9 +35,9 @@ fn columns_stand(b: Bank) -> bool
 }
 
 // Row 4 of a packet, by its head.
-fn head_stands(columns: usize, root: usize, running: u16, head: u64) -> bool
+fn head_stands(columns: usize, root: usize, watch: bool, running: u16, head: u64) -> bool
     requires { ⌜ columns ≤ 16 ⌝ }
-    ensures { λ r. ⌜ r ≡ headStands columns root running head ⌝ }
+    ensures { λ r. ⌜ r ≡ headStands columns root watch running head ⌝ }
 {
     let from = sender_in(head);
     let to = receiver_in(head);
@@ -46,18 +46,25 @@ fn head_stands(columns: usize, root: usize, running: u16, head: u64) -> bool
     }
     (from < columns)
         & (from != to)
-        & ((ACKNOWLEDGING <= head) | (to != root))
+        & ((ACKNOWLEDGING <= head) | ((to != root) | watch))
         & ((running >> to) % 2 == 1)
 }
 
-fn heads_stand(columns: usize, root: usize, running: u16, count: usize, heads: &[u64; 512]) -> bool
+fn heads_stand(
+    columns: usize,
+    root: usize,
+    watch: bool,
+    running: u16,
+    count: usize,
+    heads: &[u64; 512],
+) -> bool
     requires { ⌜ (columns ≤ 16) × (count ≤ 512) ⌝ }
-    ensures { λ r. ⌜ r ≡ every (λ (k : ℕ). headStands columns root running (getD (now (heads .entry)) k 0)) count ⌝ }
+    ensures { λ r. ⌜ r ≡ every (λ (k : ℕ). headStands columns root watch running (getD (now (heads .entry)) k 0)) count ⌝ }
 {
     let mut stand = true;
     let mut k: usize = 0;
     while k < count {
-        stand = stand & head_stands(columns, root, running, heads[k]);
+        stand = stand & head_stands(columns, root, watch, running, heads[k]);
         k += 1;
     }
     stand
@@ -78,7 +85,7 @@ pub fn bank_refusal(b: Bank, heads: &[u64; 512]) -> u8
     if CAPACITY < b.count {
         return 4;
     }
-    if !heads_stand(t.columns, t.root, running(b), b.count, heads) {
+    if !heads_stand(t.columns, t.root, t.watch, running(b), b.count, heads) {
         return 4;
     }
     0
@@ -96,17 +103,18 @@ pub fn acting_refusal(b: Bank, i: usize, heads: &[u64; 512]) -> u8
 fn newest_stands(
     columns: usize,
     root: usize,
+    watch: bool,
     running: u16,
     count: usize,
     heads: &[u64; 512],
 ) -> bool
     requires { ⌜ (columns ≤ 16) × (count ≤ 512) ⌝ }
-    ensures { λ r. ⌜ TellsNewest r columns root running count (now (heads .entry)) ⌝ }
+    ensures { λ r. ⌜ TellsNewest r columns root watch running count (now (heads .entry)) ⌝ }
 {
     if count == 0 {
         return true;
     }
-    head_stands(columns, root, running, heads[count - 1])
+    head_stands(columns, root, watch, running, heads[count - 1])
 }
 
 // Row 4 of what a step of column i, which is now c, can have changed.
@@ -124,5 +132,5 @@ pub(crate) fn still_stands(
     if state_refusal(t, i, c) != 0 {
         return false;
     }
-    newest_stands(t.columns, t.root, running, count, heads)
+    newest_stands(t.columns, t.root, t.watch, running, count, heads)
 }

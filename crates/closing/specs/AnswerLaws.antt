@@ -10,7 +10,7 @@ use Rattle.bank.specs.Steps.{accepted}
 use Rattle.fastest.specs.Strategy.{grown, fastestTree, fastestRefusal}
 use Rattle.fastest.specs.StrategyLaws.{made, past-columns, allowed}
 use Rattle.fastest.specs.FastestLaws.{is-scheduled}
-use Rattle.closing.specs.Text.{firstKey, read, unread, startsWith}
+use Rattle.closing.specs.Text.{firstKey, watchKey, read, unread, startsWith}
 use Rattle.closing.specs.Tables.{placedAt, readTable}
 use Rattle.closing.specs.Scripts.{refusedText}
 use Rattle.closing.specs.Requests.{Request, requestOf, tableText, answerText, requestText}
@@ -30,30 +30,30 @@ padded (x ∷ l) (suc k) (suc m) (suc n) e h z =
 
 -- what is written for a request that is not refused, read as a table, gives the fastest tree
 pub fastest-read : (columns delay gap : ℕ) → fastestRefusal columns delay gap ≡ 0 → (rest : List ℕ) → startsWith firstKey rest ≡ false
-    → readTable (tableText (fastestTree columns delay gap) ++ rest)
+    → startsWith watchKey rest ≡ false → readTable (tableText (fastestTree columns delay gap) ++ rest)
     ≡ accepted (placedAt (fastestTree columns delay gap) (length (tableText (fastestTree columns delay gap))))
-fastest-read columns delay gap e rest other =
+fastest-read columns delay gap e rest other unwatched =
     let p = allowed columns delay gap e .possible in
     let wide = made delay gap (p .delays) (p .gaps) (columns - 1) (omega (arith, p .few, p .some)) .wide .up in
-    reads-back (fastestTree columns delay gap) (is-scheduled columns delay gap p .is-tree) wide refl
+    reads-back (fastestTree columns delay gap) (is-scheduled columns delay gap p .is-tree) wide refl refl
     (padded (grown delay gap (columns - 1) .up) 16 16 columns wide (omega arith) (λ c l. past-columns delay gap (columns - 1) c (omega (arith, p .some))))
-    rest other
+    rest other unwatched
 
 pub answer-table : (input : List ℕ) (r : Request) → requestOf input ≡ read r → fastestRefusal (r .columns) (r .delay) (r .gap) ≡ 0
     → requestText input ≡ tableText (fastestTree (r .columns) (r .delay) (r .gap))
 unfolding answerText
 answer-table input r q e = rw (q, e)
 
-nothing-follows : startsWith firstKey [] ≡ false
+nothing-follows : (startsWith firstKey [] ≡ false) × (startsWith watchKey [] ≡ false)
 unfolding startsWith
-nothing-follows = refl
+nothing-follows = (refl, refl)
 
 pub answer-read : (input : List ℕ) (r : Request) → requestOf input ≡ read r → fastestRefusal (r .columns) (r .delay) (r .gap) ≡ 0
     → readTable (requestText input)
     ≡ accepted (placedAt (fastestTree (r .columns) (r .delay) (r .gap)) (length (requestText input)))
 answer-read input r q e =
     let t = fastestTree (r .columns) (r .delay) (r .gap) in
-    rw (answer-table input r q e) (rw (append-nil (tableText t)) at (fastest-read (r .columns) (r .delay) (r .gap) e [] nothing-follows))
+    rw (answer-table input r q e) (rw (append-nil (tableText t)) at (fastest-read (r .columns) (r .delay) (r .gap) e [] (nothing-follows .0) (nothing-follows .1)))
 
 -- ---- the other answers, and the room that a table takes
 

@@ -24,7 +24,7 @@ use Rattle.bank.specs.Rest.{AtRest}
 use Rattle.bank.specs.RestLaws.{fresh-rests}
 use Rattle.bank.specs.declared.step.Step.the-variants.{Order, Take}
 use Rattle.closing.specs.Text.{bytes, allDigits, valueFrom, leadingZero, numeral, startsWith, afterKey}
-use Rattle.closing.specs.Tables.{withFirst, cut, longer, pieces, withNumber, numerals, numeralIn, numbersIn, listedLine, sequenceIn, sequenceLine, joined, thirdLine, secondLine, firstLine, tableRefusal, placedAt, noTree, judged, readTable}
+use Rattle.closing.specs.Tables.{withFirst, cut, longer, pieces, withNumber, numerals, numeralIn, numbersIn, listedLine, sequenceIn, sequenceLine, watchLine, withWatch, furtherIn, joined, thirdLine, secondLine, firstLine, tableRefusal, placedAt, noTree, judged, readTable}
 
 -- ---- banks of the cases
 
@@ -41,14 +41,14 @@ freshState t = state (freshBank t) (replicate capacity 0) (replicate capacity 0)
 abbrev rootAt : ℕ → State
 rootAt number =
     withColumn (freshState one) 0
-    (record { running = true; number = number; doors = 0; send = 0; awaited = 0; owed = 0; noted = 0; whole = true })
+    (record { running = true; number = number; doors = 0; send = 0; awaited = 0; owed = 0; noted = 0; whole = true; sender = 0 })
 
 -- column 1 of two holds a number, and a message from the root is under way
 abbrev messageTo : ℕ → ℕ → State
 messageTo number sent =
     withPacket
     (withColumn (freshState two) 1
-    (record { running = true; number = number; doors = 7; send = 0; awaited = 0; owed = 0; noted = 0; whole = false }))
+    (record { running = true; number = number; doors = 7; send = 0; awaited = 0; owed = 0; noted = 0; whole = false; sender = 0 }))
     (Message 0 1 sent 9)
 
 -- a message's thirteen bytes: 0 to 1, number 258, doors bytes 1 to 8
@@ -100,14 +100,14 @@ Says message-bytes =
 -- "take of an equal number adds to those owed"
 Says equal-number =
     columnAt (after (perform (messageTo 4 4) (Take 0)) .bank) 1
-    ≡ record { running = true; number = 4; doors = 7; send = 0; awaited = 0; owed = 1; noted = 0; whole = false }
+    ≡ record { running = true; number = 4; doors = 7; send = 0; awaited = 0; owed = 1; noted = 0; whole = false; sender = 0 }
 -- "a lower number is answered with that lower number"
 Says lower-number =
     let s = after (perform (messageTo 4 3) (Take 0)) in
     (s .bank .count ≡ 1) × (packetAt s 0 ≡ Acknowledgement 1 0 3)
 
 pub every-case : (c : Case) → Says c
-unfolding allDigits valueFrom leadingZero numeral startsWith afterKey withFirst cut longer pieces withNumber numerals numeralIn numbersIn listedLine sequenceIn sequenceLine joined thirdLine secondLine firstLine tableRefusal judged every climbsIn treeRefusal selected trailingZeros stateRefusal packetOf closedUp places freshPlace bankRefusal put puts perform fitting acted delivered core.orderRefusal core.packetRefusal core.takeRefusal core.orderEffect core.receiveEffect core.messageEffect packets.read packets.lowValue
+unfolding allDigits valueFrom leadingZero numeral startsWith afterKey withFirst cut longer pieces withNumber numerals numeralIn numbersIn listedLine sequenceIn sequenceLine watchLine withWatch furtherIn joined thirdLine secondLine firstLine tableRefusal judged every climbsIn treeRefusal selected trailingZeros stateRefusal packetOf closedUp places freshPlace bankRefusal put puts perform fitting acted delivered core.orderRefusal core.packetRefusal core.takeRefusal core.orderEffect core.receiveEffect core.messageEffect packets.read packets.lowValue
 every-case table-of-one = refl
 every-case cycle = refl
 every-case fresh-bank = fresh-rests

@@ -1,10 +1,11 @@
--- Worked examples of tables, after document 01, "The bank and its table", and document 02, Point 6.
+-- Worked examples of tables, after document 01, "The bank and its table", and document 02, Points 6 and 9.
 use Prim.Native.Nat.{ℕ}
 use Prim.Native.String.{String}
 use mathlib.Core.Path.{_≡_, refl}
+use mathlib.Core.Bool.{true}
 use mathlib.Core.List.{List, [], _∷_, map}
 use lib.ListN.{replicate}
-use Rattle.column.specs.Trees.{every, climbsIn, treeInSequence, treeOf, treeRefusal}
+use Rattle.column.specs.Trees.{every, climbsIn, ascending, treeBy, treeInSequence, treeOf, treeRefusal}
 use Rattle.bank.specs.Steps.{Outcome, accepted, refused}
 use Rattle.closing.specs.Text.{bytes, allDigits, valueFrom, leadingZero, numeral, startsWith, afterKey}
 use Rattle.closing.specs.Tables.{
@@ -19,6 +20,9 @@ use Rattle.closing.specs.Tables.{
   listedLine,
   sequenceIn,
   sequenceLine,
+  watchLine,
+  withWatch,
+  furtherIn,
   joined,
   thirdLine,
   secondLine,
@@ -85,6 +89,23 @@ rows =
     ∷ row "columns=3\nroot=0\nup=0,0,1\nfirst=2,0,1" (no 1)
     ∷ row "columns=17\nroot=0\nup=0\nfirst=x\n" (no 1)
     ∷ row "columns=17\nroot=0\nup=0\nfirst=0\n" (no 2)
+    -- document 02, Point 9: "A next line beginning `watch=` closes the table, as `watch=root` or `watch=sender`; without it, root."
+    ∷ row "columns=1\nroot=0\nup=0\nwatch=root\nsend=0\n" (accepted (placedAt (treeOf 1 0 (replicate 16 0)) 33))
+    ∷ row "columns=1\nroot=0\nup=0\nwatch=sender\nsend=0\n" (accepted (placedAt (treeBy 1 0 (replicate 16 0) ascending true) 35))
+    ∷ row "columns=1\nroot=0\nup=0\nfirst=0\nwatch=sender\n" (accepted (placedAt (treeBy 1 0 (replicate 16 0) (replicate 16 0) true) 43))
+    -- it closes the table: what follows is none of it
+    ∷ row "columns=1\nroot=0\nup=0\nwatch=root\nwatch=sender\n" (accepted (placedAt (treeOf 1 0 (replicate 16 0)) 33))
+    ∷ row "columns=1\nroot=0\nup=0\nwatch=sender\nfirst=0\n" (accepted (placedAt (treeBy 1 0 (replicate 16 0) ascending true) 35))
+    ∷ row "columns=1\nroot=0\nup=0\nsend=0\nwatch=sender\n" (accepted (placedAt (treeOf 1 0 (replicate 16 0)) 22))
+    -- another word, and an end that is missing; 1 comes before 2 and 3
+    ∷ row "columns=1\nroot=0\nup=0\nwatch=\n" (no 1)
+    ∷ row "columns=1\nroot=0\nup=0\nwatch=roots\n" (no 1)
+    ∷ row "columns=1\nroot=0\nup=0\nwatch=Sender\n" (no 1)
+    ∷ row "columns=1\nroot=0\nup=0\nwatch=root" (no 1)
+    ∷ row "columns=1\nroot=0\nup=0\nwatch=sender" (no 1)
+    ∷ row "columns=1\nroot=0\nup=0\nfirst=0\nwatch=0\n" (no 1)
+    ∷ row "columns=17\nroot=0\nup=0\nwatch=x\n" (no 1)
+    ∷ row "columns=17\nroot=0\nup=0\nwatch=sender\n" (no 2)
     -- "three lines, each ended by byte 10, in this order"
     ∷ row "root=0\ncolumns=3\nup=0,0,1\n" (no 1)
     ∷ row "columns=3\nroot=0\nup=0,0,1" (no 1)
@@ -92,6 +113,6 @@ rows =
     ∷ []
 
 pub table-answers : map (λ r. readTable (bytes (r .text))) rows ≡ map (λ r. r .answer) rows
-unfolding withFirst cut longer pieces withNumber numerals numeralIn numbersIn listedLine sequenceIn sequenceLine joined thirdLine secondLine firstLine
+unfolding withFirst cut longer pieces withNumber numerals numeralIn numbersIn listedLine sequenceIn sequenceLine watchLine withWatch furtherIn joined thirdLine secondLine firstLine
     tableRefusal judged allDigits valueFrom leadingZero numeral startsWith afterKey every climbsIn treeRefusal
 table-answers = refl

@@ -1,15 +1,16 @@
 -- What the reader of a table makes of its lines. Assumes nothing.
 use Prim.Native.Nat.{ℕ, _+_, _-_, _≤_, _<_}
-use mathlib.Core.Path.{_≡_, refl, ap, _∙_}
-use mathlib.Core.Bool.{Bool, true, false, cond}
+use mathlib.Core.Path.{_≡_, refl, sym, ap, _∙_}
+use mathlib.Core.Bool.{Bool, true, false, _&&_, cond}
 use mathlib.Core.List.{List}
 use native.Mathlib.Omega.{arith}
 use lib.Dec.{eqb}
 use lib.ListN.{length, take, drop}
-use Rattle.column.specs.Trees.{ascending, treeInSequence}
+use lib.Seq.{drop-drop}
+use Rattle.column.specs.Trees.{ascending, treeBy}
 use Rattle.column.specs.declared.tree.Tree.{Tree}
 use Rattle.bank.specs.Steps.{Outcome, accepted, refused}
-use Rattle.closing.specs.Text.{columnsKey, rootKey, upKey, firstKey, newline, Reading, read, unread, startsWith}
+use Rattle.closing.specs.Text.{columnsKey, rootKey, upKey, firstKey, watchKey, watchesRoot, watchesSender, newline, Reading, read, unread, startsWith}
 use Rattle.closing.specs.Tables.{
   keyed,
   numbers,
@@ -20,6 +21,12 @@ use Rattle.closing.specs.Tables.{
   listedLine,
   sequenceIn,
   sequenceLine,
+  WatchLine,
+  watchLine,
+  Further,
+  withWatch,
+  furtherIn,
+  furtherLines,
   joined,
   countedRefusal,
   tableRefusal,
@@ -32,6 +39,8 @@ use Rattle.closing.specs.Cutting.{Found, line-ended, line-unended, line-
 use Rattle.closing.specs.NumberLists.{listOf, held}
 use Rattle.closing.specs.declared.table.NumberList.{NumberList}
 use Rattle.closing.specs.declared.table.SequenceRead.{SequenceRead}
+use Rattle.closing.specs.declared.table.WatchRead.{WatchRead}
+use Rattle.closing.specs.declared.table.FurtherRead.{FurtherRead}
 
 -- ---- the sequence's line as the reader holds it
 
@@ -50,6 +59,9 @@ sequenceMeant s = cond (s .good) (read (heldSequence (s .named) (s .list) (s .en
 -- what a table without the line holds in its place
 abbrev pub noList : NumberList
 noList = record { count = 0; numbers = ascending }
+
+abbrev pub unlistedRead : Bool → ℕ → SequenceRead
+unlistedRead good end = record { good = good; named = false; list = noList; end = end }
 
 abbrev pub sequenceHeld : Sequence → ℕ → HeldSequence
 sequenceHeld unlisted end = heldSequence false noList end
@@ -95,6 +107,121 @@ module _ (s : List ℕ) (at : ℕ) (h : at ≤ length s) where
         go (read l) = ap (λ (k : ℕ). read (heldSequence true (listOf l) k)) size
         go unread = refl
 
+-- ---- the watch's line, and both lines after the third
+
+pub record HeldWatch : Type 0 where
+  pub watch : Bool
+  pub end : ℕ
+
+abbrev pub watchedRead : Bool → Bool → ℕ → WatchRead
+watchedRead good watch end = record { good = good; watch = watch; end = end }
+
+abbrev pub watchMeant : WatchRead → Reading HeldWatch
+watchMeant w = cond (w .good) (read (record { watch = w .watch; end = w .end })) unread
+
+-- a line from a place on
+unfoldable pub watchFrom : ℕ → Reading WatchLine → Reading HeldWatch
+watchFrom at (read w) = read (record { watch = w .watch; end = at + w .size })
+watchFrom at unread = unread
+
+module _ (s : List ℕ) (at : ℕ) where
+  pub watch-none : startsWith watchKey (drop at s) ≡ false → watchFrom at (watchLine (drop at s)) ≡ read (record { watch = false; end = at })
+  unfolding watchFrom watchLine
+  watch-none e =
+      let same : at + 0 ≡ at = omega arith in
+      rw e (ap (λ (k : ℕ). read (record { watch = false; end = k })) same)
+
+  module _ (e : startsWith watchKey (drop at s) ≡ true) where
+    pub watch-root : startsWith watchesRoot (drop at s) ≡ true → watchFrom at (watchLine (drop at s)) ≡ read (record { watch = false; end = at + 11 })
+    unfolding watchFrom watchLine
+    watch-root f = rw (e, f)
+
+    module _ (f : startsWith watchesRoot (drop at s) ≡ false) where
+      pub watch-sender : startsWith watchesSender (drop at s) ≡ true → watchFrom at (watchLine (drop at s)) ≡ read (record { watch = true; end = at + 13 })
+      unfolding watchFrom watchLine
+      watch-sender g = rw (e, f, g)
+
+      pub watch-unread : startsWith watchesSender (drop at s) ≡ false → watchFrom at (watchLine (drop at s)) ≡ unread
+      unfolding watchFrom watchLine
+      watch-unread g = rw (e, f, g)
+
+-- whether the table names its sequence, the numbers of that, the watch, and the place after the table
+pub record HeldFurther : Type 0 where
+  pub named : Bool
+  pub list : NumberList
+  pub watch : Bool
+  pub end : ℕ
+
+abbrev pub heldFurther : HeldSequence → HeldWatch → HeldFurther
+heldFurther q w = record { named = q .named; list = q .list; watch = w .watch; end = w .end }
+
+abbrev pub furtherMeant : FurtherRead → Reading HeldFurther
+furtherMeant f = cond (f .good) (read (record { named = f .named; list = f .list; watch = f .watch; end = f .end })) unread
+
+-- lines from a place on
+unfoldable pub furtherFrom : ℕ → Reading Further → Reading HeldFurther
+furtherFrom at (read f) = read (heldFurther (sequenceHeld (f .sequence) at) (record { watch = f .watch; end = at + f .size }))
+furtherFrom at unread = unread
+
+-- a sequence and the watch that is read after it
+unfoldable pub furtherWith : HeldSequence → Reading HeldWatch → Reading HeldFurther
+furtherWith q (read w) = read (heldFurther q w)
+furtherWith q unread = unread
+
+unfoldable pub furtherOf : Reading HeldSequence → List ℕ → Reading HeldFurther
+furtherOf (read q) s = furtherWith q (watchFrom (q .end) (watchLine (drop (q .end) s)))
+furtherOf unread s = unread
+
+module _ (at : ℕ) where
+  further-with : (q : Sequence) (n : ℕ) (w : Reading WatchLine)
+      → furtherFrom at (withWatch (record { sequence = q; size = n }) w) ≡ furtherWith (sequenceHeld q (at + n)) (watchFrom (at + n) w)
+  unfolding furtherFrom withWatch furtherWith watchFrom
+  further-with unlisted n (read w) = ap (λ (k : ℕ). read (heldFurther (heldSequence false noList at) (record { watch = w .watch; end = k }))) (omega arith)
+  further-with (listed l) n (read w) = ap (λ (k : ℕ). read (heldFurther (heldSequence true (listOf l) at) (record { watch = w .watch; end = k }))) (omega arith)
+  further-with q n unread = refl
+
+  -- the place after the sequence's line
+  further-held : (q : Sequence) (n : ℕ) (s : List ℕ)
+      → furtherWith (sequenceHeld q (at + n)) (watchFrom (at + n) (watchLine (drop (at + n) s))) ≡ furtherOf (read (sequenceHeld q (at + n))) s
+  unfolding furtherOf
+  further-held unlisted n s = refl
+  further-held (listed l) n s = refl
+
+  pub further-is : (s : List ℕ) → furtherFrom at (furtherLines (drop at s)) ≡ furtherOf (heldFrom at (sequenceLine (drop at s))) s
+  unfolding furtherFrom furtherIn furtherOf heldFrom
+  further-is s = go (sequenceLine (drop at s))
+    where
+      go : (r : Reading SequenceLine) → furtherFrom at (furtherIn r (drop at s)) ≡ furtherOf (heldFrom at r) s
+      go (read q) =
+          further-with (q .sequence) (q .size) (watchLine (drop (q .size) (drop at s)))
+          ∙ ap (λ (l : List ℕ). furtherWith (sequenceHeld (q .sequence) (at + q .size)) (watchFrom (at + q .size) (watchLine l))) (drop-drop (q .size) at s)
+          ∙ further-held (q .sequence) (q .size) s
+      go unread = refl
+
+-- a sequence and a watch as they are read, one after the other
+pub further-both : (s : SequenceRead) (w : WatchRead) (input : List ℕ)
+    → watchMeant w ≡ watchFrom (s .end) (watchLine (drop (s .end) input))
+    → furtherMeant (record { good = s .good && w .good; named = s .named; list = s .list; watch = w .watch; end = w .end })
+    ≡ furtherOf (sequenceMeant s) input
+unfolding furtherOf furtherWith
+further-both s w input e = go (s .good) (w .good) ∙ ap (λ (x : Reading HeldWatch). both (s .good) x) e
+    ∙ out (s .good)
+  where
+    both : Bool → Reading HeldWatch → Reading HeldFurther
+    both good x = cond good (furtherWith (heldSequence (s .named) (s .list) (s .end)) x) unread
+
+    go : (g h : Bool)
+        → cond (g && h) (read (heldFurther (heldSequence (s .named) (s .list) (s .end)) (record { watch = w .watch; end = w .end }))) unread
+        ≡ both g (cond h (read (record { watch = w .watch; end = w .end })) unread)
+    go true true = refl
+    go true false = refl
+    go false h = refl
+
+    out : (g : Bool) → both g (watchFrom (s .end) (watchLine (drop (s .end) input)))
+        ≡ furtherOf (cond g (read (heldSequence (s .named) (s .list) (s .end))) unread) input
+    out true = refl
+    out false = refl
+
 -- ---- the lines as they are held
 
 -- a tree with the counts of its parents and of its sequence
@@ -102,36 +229,36 @@ unfoldable pub treeJudged : Tree → ℕ → ℕ → ℕ → Outcome Placed
 treeJudged t parents sequence end =
     cond (eqb (countedRefusal t parents sequence) 0) (accepted (placedAt t end)) (refused (countedRefusal t parents sequence) noTree)
 
-abbrev pub countHeld : HeldSequence → ℕ → ℕ
+abbrev pub countHeld : HeldFurther → ℕ → ℕ
 countHeld q columns = cond (q .named) (q .list .count) columns
 
--- what parents and a sequence make of the two lines before them
-unfoldable pub heldJudged : ℕ → ℕ → Reading NumberList → Reading HeldSequence → Outcome Placed
+-- what parents and the lines after them make of the two lines before them
+unfoldable pub heldJudged : ℕ → ℕ → Reading NumberList → Reading HeldFurther → Outcome Placed
 heldJudged columns root (read p) (read q) =
-    treeJudged (treeInSequence columns root (p .numbers) (q .list .numbers)) (p .count) (countHeld q columns) (q .end)
+    treeJudged (treeBy columns root (p .numbers) (q .list .numbers) (q .watch)) (p .count) (countHeld q columns) (q .end)
 heldJudged columns root (read p) unread = refused 1 noTree
 heldJudged columns root unread q = refused 1 noTree
 
 -- three lines, and what follows them from a place on
 abbrev pub linesJudged : List ℕ → List ℕ → List ℕ → List ℕ → ℕ → Outcome Placed
 linesJudged one two three rest at =
-    judged (joined (keyed columnsKey 2 one) (keyed rootKey 2 two) (numbers upKey three) (sequenceLine rest) at)
+    judged (joined (keyed columnsKey 2 one) (keyed rootKey 2 two) (numbers upKey three) (furtherLines rest) at)
 
-pub judged-held : (columns root : ℕ) (one two : Reading ℕ) (up : Reading (List ℕ)) (s : Reading SequenceLine) (at : ℕ)
-    (p : Reading NumberList) (q : Reading HeldSequence)
-    → one ≡ read columns → two ≡ read root → held up ≡ p → heldFrom at s ≡ q → judged (joined one two up s at) ≡ heldJudged columns root p q
-unfolding judged joined heldJudged heldFrom held treeJudged tableRefusal
+pub judged-held : (columns root : ℕ) (one two : Reading ℕ) (up : Reading (List ℕ)) (s : Reading Further) (at : ℕ)
+    (p : Reading NumberList) (q : Reading HeldFurther)
+    → one ≡ read columns → two ≡ read root → held up ≡ p → furtherFrom at s ≡ q → judged (joined one two up s at) ≡ heldJudged columns root p q
+unfolding judged joined heldJudged furtherFrom held treeJudged tableRefusal
 judged-held columns root one two up s at p q e f h k =
-    rw (e, f) (go up s ∙ ap (λ (x : Reading NumberList). heldJudged columns root x (heldFrom at s)) h ∙ ap (heldJudged columns root p) k)
+    rw (e, f) (go up s ∙ ap (λ (x : Reading NumberList). heldJudged columns root x (furtherFrom at s)) h ∙ ap (heldJudged columns root p) k)
   where
-    listing : (l : List ℕ) (y : Sequence) (n : ℕ)
-        → judged (joined (read columns) (read root) (read l) (read (record { sequence = y; size = n })) at)
-        ≡ heldJudged columns root (read (listOf l)) (read (sequenceHeld y (at + n)))
-    listing l unlisted n = refl
-    listing l (listed y) n = refl
+    listing : (l : List ℕ) (y : Sequence) (w : Bool) (n : ℕ)
+        → judged (joined (read columns) (read root) (read l) (read (record { sequence = y; watch = w; size = n })) at)
+        ≡ heldJudged columns root (read (listOf l)) (read (heldFurther (sequenceHeld y at) (record { watch = w; end = at + n })))
+    listing l unlisted w n = refl
+    listing l (listed y) w n = refl
 
-    go : (up : Reading (List ℕ)) (s : Reading SequenceLine)
-        → judged (joined (read columns) (read root) up s at) ≡ heldJudged columns root (held up) (heldFrom at s)
-    go (read l) (read x) = listing l (x .sequence) (x .size)
+    go : (up : Reading (List ℕ)) (s : Reading Further)
+        → judged (joined (read columns) (read root) up s at) ≡ heldJudged columns root (held up) (furtherFrom at s)
+    go (read l) (read x) = listing l (x .sequence) (x .watch) (x .size)
     go (read l) unread = refl
     go unread s = refl

@@ -9,15 +9,15 @@ use lib.Dec.{eqb, ltb}
 use lib.ListN.{length, take, length-append, length-take}
 use borrow.Author.Tests.{eq-eqb, ne-eqb, le-ltb, eqb-true}
 use Rattle.column.specs.Cases.{truth, and-left, and-right}
-use Rattle.column.specs.Trees.{every, ascending, treeInSequence, IsTree}
+use Rattle.column.specs.Trees.{every, ascending, treeBy, IsTree}
 use Rattle.column.specs.TreeLaws.{every-at, check-exact}
 use Rattle.column.specs.Refusals.{first}
 use Rattle.column.specs.declared.tree.Tree.{Tree}
 use Rattle.bank.specs.Steps.{accepted}
-use Rattle.closing.specs.Text.{columnsKey, rootKey, upKey, firstKey, newline, comma, decimalIn, decimal, Reading, read, unread, allDigits, valueFrom, leadingZero, numeral, startsWith, afterKey}
+use Rattle.closing.specs.Text.{columnsKey, rootKey, upKey, firstKey, watchKey, newline, comma, decimalIn, decimal, Reading, read, unread, allDigits, valueFrom, leadingZero, numeral, startsWith, afterKey}
 use Rattle.closing.specs.Closing.{moreDivided, divided}
 use Rattle.closing.specs.DividedLaws.{Columns, columns-taken}
-use Rattle.closing.specs.Tables.{ended, withFirst, cut, longer, pieces, withNumber, numerals, numeralIn, keyed, numbersIn, numbers, unlisted, sequenceLine, Table, joined, thirdLine, secondLine, firstLine, tableOf, sixteen, treeIn, countedRefusal, tableRefusal, placedAt, judged, readTable}
+use Rattle.closing.specs.Tables.{ended, withFirst, cut, longer, pieces, withNumber, numerals, numeralIn, keyed, numbersIn, numbers, unlisted, sequenceLine, watchLine, withWatch, furtherIn, Table, joined, thirdLine, secondLine, firstLine, tableOf, sixteen, treeIn, countedRefusal, tableRefusal, placedAt, judged, readTable}
 use Rattle.closing.specs.Requests.{tableText}
 
 -- ---- texts without a byte
@@ -159,6 +159,7 @@ module _ (t : Tree) where
         root = t .root;
         up = up;
         sequence = unlisted;
+        watch = false;
         end = length one + 1 + (length two + 1) + (length three + 1) + 0;
       }
 
@@ -177,9 +178,9 @@ module _ (t : Tree) where
     up-small : Columns up
     up-small = columns-taken (t .up) (t .columns) (λ c l. omega (arith, is .parent-below c l, is .sixteen))
 
-    table-read : (rest : List ℕ) → startsWith firstKey rest ≡ false → tableOf (tableText t ++ rest) ≡ read table
-    unfolding firstLine secondLine thirdLine joined sequenceLine
-    table-read rest other =
+    table-read : (rest : List ℕ) → startsWith firstKey rest ≡ false → startsWith watchKey rest ≡ false → tableOf (tableText t ++ rest) ≡ read table
+    unfolding firstLine secondLine thirdLine joined sequenceLine furtherIn watchLine withWatch
+    table-read rest other unwatched =
         rw (
           text-lines rest,
           cut-line one (two ++ (newline ∷ (three ++ (newline ∷ rest))))
@@ -191,6 +192,7 @@ module _ (t : Tree) where
           root-read (t .root) (omega (arith, is .root-below, is .sixteen)),
           up-read up (omega (arith, up-length, is .some)) up-small,
           other,
+          unwatched,
         )
 
     -- "Tables are checked in the order 1, 2, 3": none applies
@@ -204,11 +206,11 @@ module _ (t : Tree) where
           check-exact t .1 is,
         )
 
-    -- what is written as a table is read as the same tree, whatever follows it, unless that names a sequence
-    pub reads-back : t .first ≡ ascending → sixteen up ≡ t .up → (rest : List ℕ) → startsWith firstKey rest ≡ false
-        → readTable (tableText t ++ rest) ≡ accepted (placedAt t (length (tableText t)))
+    -- what is written as a table is read as the same tree, whatever follows it, unless that names a sequence or a watch
+    pub reads-back : t .first ≡ ascending → t .watch ≡ false → sixteen up ≡ t .up → (rest : List ℕ) → startsWith firstKey rest ≡ false
+        → startsWith watchKey rest ≡ false → readTable (tableText t ++ rest) ≡ accepted (placedAt t (length (tableText t)))
     unfolding judged tableRefusal
-    reads-back unnamed held rest other =
-        rw (table-read rest other)
-        (let same : treeIn table ≡ t = ap₂ (treeInSequence (t .columns) (t .root)) held (sym unnamed) in
+    reads-back unnamed by-root held rest other unwatched =
+        rw (table-read rest other unwatched)
+        (let same : treeIn table ≡ t = λ k. treeBy (t .columns) (t .root) (held k) (sym unnamed k) (sym by-root k) in
         rw (same, counted, text-length))

@@ -1,14 +1,14 @@
--- The bank's table as text, after document 01, "The bank and its table", and document 02, Point 6.
+-- The bank's table as text, after document 01, "The bank and its table", and document 02, Points 6 and 9.
 use Prim.Native.Nat.{ℕ, _+_}
-use mathlib.Core.Bool.{Bool, not, cond}
+use mathlib.Core.Bool.{Bool, true, false, not, cond}
 use mathlib.Core.List.{List, [], _∷_, _++_}
 use lib.Dec.{eqb, ltb}
-use lib.ListN.{length, take, replicate}
+use lib.ListN.{length, take, drop, replicate}
 use Rattle.column.specs.Refusals.{first, earlier}
-use Rattle.column.specs.Trees.{ascending, treeInSequence, treeOf, treeRefusal}
+use Rattle.column.specs.Trees.{ascending, treeBy, treeOf, treeRefusal}
 use Rattle.column.specs.declared.tree.Tree.{Tree}
 use Rattle.bank.specs.Steps.{Outcome, accepted, refused}
-use Rattle.closing.specs.Text.{columnsKey, rootKey, upKey, firstKey, newline, comma, Reading, read, unread, numeral, startsWith, afterKey}
+use Rattle.closing.specs.Text.{columnsKey, rootKey, upKey, firstKey, watchKey, watchesRoot, watchesSender, newline, comma, Reading, read, unread, numeral, startsWith, afterKey}
 
 -- ---- lines and pieces
 
@@ -84,18 +84,50 @@ sequenceIn unended = unread
 unfoldable pub sequenceLine : List ℕ → Reading SequenceLine
 sequenceLine s = cond (startsWith firstKey s) (sequenceIn (cut s)) (read (record { sequence = unlisted; size = 0 }))
 
+-- whom columns watch, true where it is who sent their record, and how many bytes the watch's line takes
+pub record WatchLine : Type 0 where
+  pub watch : Bool
+  pub size : ℕ
+
+-- document 02, Point 9: "A next line beginning `watch=` closes the table, as `watch=root` or `watch=sender`; without it, root."
+unfoldable pub watchLine : List ℕ → Reading WatchLine
+watchLine s =
+    cond (startsWith watchKey s)
+    (cond (startsWith watchesRoot s) (read (record { watch = false; size = length watchesRoot }))
+    (cond (startsWith watchesSender s) (read (record { watch = true; size = length watchesSender })) unread))
+    (read (record { watch = false; size = 0 }))
+
+-- the lines after the third, and how many bytes they take
+pub record Further : Type 0 where
+  pub sequence : Sequence
+  pub watch : Bool
+  pub size : ℕ
+
+unfoldable pub withWatch : SequenceLine → Reading WatchLine → Reading Further
+withWatch s (read w) = read (record { sequence = s .sequence; watch = w .watch; size = s .size + w .size })
+withWatch s unread = unread
+
+-- the watch's line is looked for after the sequence's
+unfoldable pub furtherIn : Reading SequenceLine → List ℕ → Reading Further
+furtherIn (read s) rest = withWatch s (watchLine (drop (s .size) rest))
+furtherIn unread rest = unread
+
+abbrev pub furtherLines : List ℕ → Reading Further
+furtherLines rest = furtherIn (sequenceLine rest) rest
+
 -- the numbers of a table, and how many bytes it takes
 pub record Table : Type 0 where
   pub columns : ℕ
   pub root : ℕ
   pub up : List ℕ
   pub sequence : Sequence
+  pub watch : Bool
   pub end : ℕ
 
--- three lines that take `size` bytes, and the sequence's
-unfoldable pub joined : Reading ℕ → Reading ℕ → Reading (List ℕ) → Reading SequenceLine → ℕ → Reading Table
+-- three lines that take `size` bytes, and those after them
+unfoldable pub joined : Reading ℕ → Reading ℕ → Reading (List ℕ) → Reading Further → ℕ → Reading Table
 joined (read columns) (read root) (read up) (read s) size =
-    read (record { columns = columns; root = root; up = up; sequence = s .sequence; end = size + s .size })
+    read (record { columns = columns; root = root; up = up; sequence = s .sequence; watch = s .watch; end = size + s .size })
 joined (read columns) (read root) (read up) unread size = unread
 joined (read columns) (read root) unread s size = unread
 joined (read columns) unread up s size = unread
@@ -104,7 +136,7 @@ joined unread root up s size = unread
 -- "three lines, each ended by byte 10, in this order"
 unfoldable pub thirdLine : List ℕ → List ℕ → Cut → Reading Table
 thirdLine one two (ended three rest) =
-    joined (keyed columnsKey 2 one) (keyed rootKey 2 two) (numbers upKey three) (sequenceLine rest)
+    joined (keyed columnsKey 2 one) (keyed rootKey 2 two) (numbers upKey three) (furtherLines rest)
     (length one + 1 + (length two + 1) + (length three + 1))
 thirdLine one two unended = unread
 
@@ -131,7 +163,7 @@ sequenceOf unlisted = ascending
 sequenceOf (listed l) = sixteen l
 
 abbrev pub treeIn : Table → Tree
-treeIn t = treeInSequence (t .columns) (t .root) (sixteen (t .up)) (sequenceOf (t .sequence))
+treeIn t = treeBy (t .columns) (t .root) (sixteen (t .up)) (sequenceOf (t .sequence)) (t .watch)
 
 -- how many columns a sequence lists, of so many
 abbrev pub countListed : Sequence → ℕ → ℕ

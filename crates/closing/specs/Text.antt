@@ -27,6 +27,16 @@ upKey = bytes "up="
 abbrev pub firstKey : List ℕ
 firstKey = bytes "first="
 
+abbrev pub watchKey : List ℕ
+watchKey = bytes "watch="
+
+-- the two lines that name a watch, with their ends
+abbrev pub watchesRoot : List ℕ
+watchesRoot = bytes "watch=root\n"
+
+abbrev pub watchesSender : List ℕ
+watchesSender = bytes "watch=sender\n"
+
 abbrev pub delayKey : List ℕ
 delayKey = bytes "delay="
 

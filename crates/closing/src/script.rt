@@ -245,6 +245,7 @@ pub fn start() -> Run
                 root: 0,
                 up: [0; 16],
                 first: ASCENDING,
+                watch: false,
             },
             columns: [NO_COLUMN; 16],
             count: 0,

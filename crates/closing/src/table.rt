@@ -1,4 +1,4 @@
-// A bank's table as text: three lines that give a tree, and where there is a fourth of its own, the tree's sequence.
+// A bank's table as text: three lines that give a tree, and where there are more of its own, the tree's sequence and whom columns watch.
 use crate::reading::Number;
 use crate::reading::keyed;
 use crate::reading::numeral;
@@ -11,14 +11,14 @@ use column::tree::ASCENDING;
 use column::tree::Tree;
 use column::tree::tree_refusal;
 ghost use Prim.Native.Nat.{_^_, _<_, _≤_};
-ghost use mathlib.Core.Bool.{false, cond};
-ghost use lib.ListN.{drop};
+ghost use mathlib.Core.Bool.{false};
+ghost use lib.ListN.{length, drop};
 ghost use mathlib.Core.Path.{_≡_};
 ghost use Rattle.bank.specs.Steps.{answered, refused};
-ghost use Rattle.closing.specs.Text.{read, unread};
-ghost use Rattle.closing.specs.Tables.{numbers, pieces, numerals, sequenceLine, countedRefusal, placedAt, noTree, readTable};
+ghost use Rattle.closing.specs.Text.{read, startsWith};
+ghost use Rattle.closing.specs.Tables.{numbers, pieces, numerals, sequenceLine, watchLine, furtherLines, countedRefusal, placedAt, noTree, readTable};
 ghost use Rattle.closing.specs.NumberLists.{withOne, lineMeant, held};
-ghost use Rattle.closing.specs.TableLaws.{heldSequence, sequenceMeant, noList, heldFrom, treeJudged, heldJudged, linesJudged};
+ghost use Rattle.closing.specs.TableLaws.{sequenceMeant, heldFrom, watchMeant, watchFrom, furtherMeant, furtherFrom, unlistedRead, watchedRead, treeJudged, heldJudged, linesJudged};
 
 // The numbers of a line: how many, and the first sixteen.
 struct NumberList {
@@ -39,6 +39,27 @@ struct SequenceRead {
     list: NumberList,
     end: usize,
 }
+
+// The line of the watch, where the table has it: whether it is of its form, whether senders are watched, and the place after it.
+struct WatchRead {
+    good: bool,
+    watch: bool,
+    end: usize,
+}
+
+// The lines after the third: whether they are of their form, whether the sequence is there, its numbers, the watch, and the place after them.
+struct FurtherRead {
+    good: bool,
+    named: bool,
+    list: NumberList,
+    watch: bool,
+    end: usize,
+}
+
+// The bytes of `watch=root` and of `watch=sender`, with their ends.
+const WATCHES_ROOT: usize = 11;
+
+const WATCHES_SENDER: usize = 13;
 
 // What stands in the place of a list that is not read.
 const NO_LIST: NumberList = NumberList {
@@ -99,8 +120,16 @@ fn numbers_of(line: &[u8], key: &[u8]) -> ListLine
     numbers_in(&line[key.len()..])
 }
 
+// Whether the input has a key from a place on.
+fn begins(input: &[u8], at: usize, key: &[u8]) -> bool
+    requires { do ⌜ at ≤ (← ⟦input.len()⟧) ⌝ }
+    ensures { λ r. ⌜ r ≡ startsWith (now (key .entry)) (drop at (now (input .entry))) ⌝ }
+{
+    starts_with(&input[at..], key)
+}
+
 fn unlisted(good: bool, end: usize) -> SequenceRead
-    ensures { λ r. ⌜ sequenceMeant r ≡ cond good (read (heldSequence false noList end)) unread ⌝ }
+    ensures { λ r. ⌜ r ≡ unlistedRead good end ⌝ }
 {
     SequenceRead {
         good,
@@ -113,9 +142,9 @@ fn unlisted(good: bool, end: usize) -> SequenceRead
 // The sequence of a table whose third line ends at a place of the input.
 fn read_sequence(input: &[u8], at: usize) -> SequenceRead
     requires { do ⌜ at ≤ (← ⟦input.len()⟧) ⌝ }
-    ensures { λ r. ⌜ sequenceMeant r ≡ heldFrom at (sequenceLine (drop at (now (input .entry)))) ⌝ }
+    ensures { λ r. ⌜ (sequenceMeant r ≡ heldFrom at (sequenceLine (drop at (now (input .entry))))) × (r .end ≤ length (now (input .entry))) ⌝ }
 {
-    if !starts_with(&input[at..], b"first=") {
+    if !begins(input, at, b"first=") {
         return unlisted(true, at);
     }
     let to = find(input, at, input.len(), b'\n');
@@ -133,6 +162,46 @@ fn read_sequence(input: &[u8], at: usize) -> SequenceRead
     }
 }
 
+fn watched(good: bool, watch: bool, end: usize) -> WatchRead
+    ensures { λ r. ⌜ r ≡ watchedRead good watch end ⌝ }
+{
+    WatchRead { good, watch, end }
+}
+
+// The watch of a table whose lines before it end at a place of the input.
+fn read_watch(input: &[u8], at: usize) -> WatchRead
+    requires { do ⌜ at ≤ (← ⟦input.len()⟧) ⌝ }
+    ensures { λ r. ⌜ watchMeant r ≡ watchFrom at (watchLine (drop at (now (input .entry)))) ⌝ }
+{
+    if !begins(input, at, b"watch=") {
+        return watched(true, false, at);
+    }
+    if begins(input, at, b"watch=root\n") {
+        return watched(true, false, at + WATCHES_ROOT);
+    }
+    if begins(input, at, b"watch=sender\n") {
+        return watched(true, true, at + WATCHES_SENDER);
+    }
+    watched(false, false, at)
+}
+
+// The lines of a table after its third, which ends at a place of the input.
+fn read_further(input: &[u8], at: usize) -> FurtherRead
+    requires { do ⌜ at ≤ (← ⟦input.len()⟧) ⌝ }
+    ensures { λ r. ⌜ furtherMeant r ≡ furtherFrom at (furtherLines (drop at (now (input .entry)))) ⌝ }
+{
+    let s = read_sequence(input, at);
+    let w = read_watch(input, s.end);
+    let list = s.list;
+    FurtherRead {
+        good: s.good & w.good,
+        named: s.named,
+        list,
+        watch: w.watch,
+        end: w.end,
+    }
+}
+
 fn refused(number: u8) -> Table
     ensures { λ r. ⌜ answered (r .answer) (placedAt (r .tree) (r .end)) ≡ refused number noTree ⌝ }
 {
@@ -143,6 +212,7 @@ fn refused(number: u8) -> Table
             root: 0,
             up: [0; 16],
             first: ASCENDING,
+            watch: false,
         },
         end: 0,
     }
@@ -173,26 +243,27 @@ fn judge(tree: Tree, parents: usize, listed: usize, end: usize) -> Table
     }
 }
 
-// What parents and a sequence make of the columns and the root.
-fn join(columns: usize, root: usize, parents: NumberList, sequence: SequenceRead) -> Table
-    ensures { λ r. ⌜ answered (r .answer) (placedAt (r .tree) (r .end)) ≡ heldJudged columns root (read parents) (sequenceMeant sequence) ⌝ }
+// What parents and the lines after them make of the columns and the root.
+fn join(columns: usize, root: usize, parents: NumberList, further: FurtherRead) -> Table
+    ensures { λ r. ⌜ answered (r .answer) (placedAt (r .tree) (r .end)) ≡ heldJudged columns root (read parents) (furtherMeant further) ⌝ }
 {
-    if !sequence.good {
+    if !further.good {
         return refused(1);
     }
     let up = parents.numbers;
-    let list = sequence.list;
+    let list = further.list;
     let first = list.numbers;
     let tree = Tree {
         columns,
         root,
         up,
         first,
+        watch: further.watch,
     };
-    if sequence.named {
-        return judge(tree, parents.count, list.count, sequence.end);
+    if further.named {
+        return judge(tree, parents.count, list.count, further.end);
     }
-    judge(tree, parents.count, columns, sequence.end)
+    judge(tree, parents.count, columns, further.end)
 }
 
 // The table of three lines, and of what stands at a place of the input after them.
@@ -210,7 +281,7 @@ fn read_lines(one: &[u8], two: &[u8], three: &[u8], input: &[u8], at: usize) -> 
                     return refused(1);
                 }
                 let parents = line.list;
-                join(columns, root, parents, read_sequence(input, at))
+                join(columns, root, parents, read_further(input, at))
             }
         },
     }

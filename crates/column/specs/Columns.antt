@@ -1,6 +1,6 @@
 -- What a column holds, after document 01, "What a column holds", and what row 4 asks of it.
 use Prim.Native.Nat.{ℕ}
-use mathlib.Core.Bool.{Bool, true, false, not, _&&_}
+use mathlib.Core.Bool.{Bool, true, false, not, _&&_, _||_, cond}
 use mathlib.Core.List.{List, [], _∷_}
 use lib.Dec.{eqb, leb}
 use Rattle.column.specs.Refusals.{first, earlier, Given, given, refused, givenUnless}
@@ -15,9 +15,10 @@ use Rattle.column.specs.declared.state.FreshColumn.the-variants.{Is, Ref
 abbrev pub highest : ℕ
 highest = 65535
 
--- "Fresh: all columns run, number 0, doors clear, sets empty, goal own subtree; the root's goal is always the whole bank."
+-- "Fresh: all columns run, number 0, doors clear, sets empty, goal own subtree; the root's goal is always the whole bank."; document 02, Point 9:
+-- "Each column keeps who sent its record: the root when fresh"
 abbrev pub fresh : Tree → ℕ → Column
-fresh t i = record { running = true; number = 0; doors = 0; send = 0; awaited = 0; owed = 0; noted = 0; whole = eqb i (t .root) }
+fresh t i = record { running = true; number = 0; doors = 0; send = 0; awaited = 0; owed = 0; noted = 0; whole = eqb i (t .root); sender = t .root }
 
 -- the values of each case of `FreshColumn`
 abbrev pub freshMeant : FreshColumn → Given Column
@@ -37,6 +38,7 @@ stateConditions t i c =
     ∷ (4, not (within (c .noted) (t .columns)))
     ∷ (4, has (c .owed) i)
     ∷ (4, eqb i (t .root) && not (c .whole))
+    ∷ (4, leb (t .columns) (c .sender))
     ∷ []
 
 unfoldable pub stateRefusal : Tree → ℕ → Column → ℕ
@@ -50,6 +52,14 @@ standing t i c = earlier (treeRefusal t) (stateRefusal t i c)
 abbrev pub idle : Column → Bool
 idle c = eqb (c .send) 0 && eqb (c .awaited) 0
 
+-- whose halt lets a column take over the bank: "Under sender, `all` asks that this sender is noted, in place of the root."
+abbrev pub watched : Tree → Column → ℕ
+watched t c = cond (t .watch) (c .sender) (t .root)
+
+-- "the goal is the whole bank or both other sets are empty"; under sender the root's "`ack` is 6 while it sends or awaits"
+abbrev pub mayAcknowledge : Tree → ℕ → Column → Bool
+mayAcknowledge t i c = (c .whole && not (t .watch && eqb i (t .root))) || idle c
+
 -- the column halted; all else that it holds is kept
 abbrev pub stopped : Column → Column
 stopped c =
@@ -62,6 +72,7 @@ stopped c =
       owed = c .owed;
       noted = c .noted;
       whole = c .whole;
+      sender = c .sender;
     }
 
 -- the column with other sets to send to, to await, and to owe
@@ -76,4 +87,5 @@ withSets c s a o =
       owed = o;
       noted = c .noted;
       whole = c .whole;
+      sender = c .sender;
     }

@@ -5,9 +5,10 @@ use Rattle.column.specs.Sets.{without}
 use Rattle.column.specs.declared.state.Column.{Column}
 
 -- "The column runs with the record of the lowest running column and empty sets. It has noted exactly the columns that remain halted": c is
--- the column that it copies, `noted` the set of these columns, `whole` its goal
-abbrev pub rejoined : Column → ℕ → Bool → Column
-rejoined c noted whole =
+-- the column that it copies, `noted` the set of these columns, `whole` its goal; document 02, Point 9: it "keeps who sent its record: .. the column copied
+-- from after coming back"
+abbrev pub rejoined : Column → ℕ → Bool → ℕ → Column
+rejoined c noted whole sender =
     record {
       running = true;
       number = c .number;
@@ -17,6 +18,7 @@ rejoined c noted whole =
       owed = 0;
       noted = noted;
       whole = whole;
+      sender = sender;
     }
 
 -- "all others strike it from those noted"
@@ -31,4 +33,5 @@ struck c j =
       owed = c .owed;
       noted = without (c .noted) j;
       whole = c .whole;
+      sender = c .sender;
     }

@@ -1,12 +1,13 @@
 -- What row 4's tests decide: a law for each of its conditions, both ways.
 -- Assumes nothing.
 use Prim.Native.Nat.{ℕ, _^_, _≤_, _<_}
-use mathlib.Core.Path.{_≡_, ap}
-use mathlib.Core.Bool.{true, false, not}
+use mathlib.Core.Path.{_≡_, sym, ap, _∙_}
+use mathlib.Core.Bool.{true, false, not, _&&_, true≢false}
+use mathlib.Core.Logic.{_⊎_, inl, inr}
 use native.Mathlib.Omega.{arith}
 use lib.Dec.{eqb}
 use borrow.Author.Tests.{eq-eqb, ne-eqb, eqb-true, eqb-false, leb-false, lt-leb, le-leb, not-false}
-use Rattle.column.specs.Cases.{and-none, none-and}
+use Rattle.column.specs.Cases.{truth, and-none, none-and}
 use Rattle.column.specs.RefusalLaws.{passed, passes, earlier-none}
 use Rattle.column.specs.Sets.{has, within}
 use Rattle.column.specs.SetLaws.{within-lt, lt-within, member-lt, members-lt}
@@ -34,6 +35,8 @@ pub record Sound (t : Tree) (i : ℕ) (c : Column) : Type 0 where
   pub owes-others : has (c .owed) i ≡ false
   -- "a root with a goal other than the whole bank"
   pub root-whole : i ≡ t .root → c .whole ≡ true
+  -- who sent its record is "a column number" too
+  pub sender-below : c .sender < t .columns
 
 -- what the types of the code say: sets are masks of sixteen columns
 pub record Masks (c : Column) : Type 0 where
@@ -61,6 +64,7 @@ sound t i c e =
       noted-below = members (c .noted) n (p .1 .1 .1 .1 .0);
       owes-others = p .1 .1 .1 .1 .1 .0;
       root-whole = λ r. not-false (c .whole) (and-none (eqb i (t .root)) (not (c .whole)) (p .1 .1 .1 .1 .1 .1 .0) (eq-eqb i (t .root) r));
+      sender-below = leb-false n (c .sender) (p .1 .1 .1 .1 .1 .1 .1 .0);
     }
 
 pub sound-passes : (t : Tree) (i : ℕ) (c : Column) → Masks c → Sound t i c → stateRefusal t i c ≡ 0
@@ -81,7 +85,7 @@ sound-passes t i c m s =
                 s .owes-others,
                 (
                   none-and (eqb i (t .root)) (not (c .whole)) (λ r. ap not (s .root-whole (eqb-true i (t .root) r))),
-                  tt,
+                  (lt-leb n (c .sender) (s .sender-below), tt),
                 ),
               ),
             ),
@@ -98,8 +102,8 @@ pub record Acceptable (t : Tree) (p : Packet) : Type 0 where
   pub sender-below : sender p < t .columns
   pub receiver-below : receiver p < t .columns
   pub apart : sender p ≡ receiver p → ⊥
-  -- "a message to the root"
-  pub not-to-root : isMessage p ≡ true → receiver p ≡ t .root → ⊥
+  -- "a message to the root"; "Under sender a running root may also be sent a message, which is then not 4"
+  pub not-to-root : t .watch ≡ false → isMessage p ≡ true → receiver p ≡ t .root → ⊥
 
 pub acceptable : (t : Tree) (p : Packet) → packetRefusal t p ≡ 0 → Acceptable t p
 unfolding packetRefusal
@@ -109,7 +113,10 @@ acceptable t p e =
       sender-below = leb-false (t .columns) (sender p) (q .0);
       receiver-below = leb-false (t .columns) (receiver p) (q .1 .0);
       apart = eqb-false (sender p) (receiver p) (q .1 .1 .0);
-      not-to-root = λ m. eqb-false (receiver p) (t .root) (and-none (isMessage p) (eqb (receiver p) (t .root)) (q .1 .1 .1 .0) m);
+      not-to-root =
+          λ o m r.
+          let e = and-none (isMessage p) (eqb (receiver p) (t .root) && not (t .watch)) (q .1 .1 .1 .0) m in
+          true≢false (sym (not-false (t .watch) (and-none (eqb (receiver p) (t .root)) (not (t .watch)) e (eq-eqb (receiver p) (t .root) r))) ∙ o);
     }
 
 pub acceptable-passes : (t : Tree) (p : Packet) → Acceptable t p → packetRefusal t p ≡ 0
@@ -122,12 +129,17 @@ acceptable-passes t p a =
         (
           ne-eqb (sender p) (receiver p) (a .apart),
           (
-            none-and (isMessage p) (eqb (receiver p) (t .root)) (λ m. ne-eqb (receiver p) (t .root) (a .not-to-root m)),
+            none-and (isMessage p) (eqb (receiver p) (t .root) && not (t .watch))
+                (λ m. none-and (eqb (receiver p) (t .root)) (not (t .watch)) (λ r. closed m (eqb-true (receiver p) (t .root) r) (truth (t .watch)))),
             tt,
           ),
         ),
       ),
     )
+  where
+    closed : isMessage p ≡ true → receiver p ≡ t .root → (t .watch ≡ true) ⊎ (t .watch ≡ false) → not (t .watch) ≡ false
+    closed m r (inl o) = ap not o
+    closed m r (inr o) = absurd (a .not-to-root o m r)
 
 -- ---- the steps' own conditions of row 4
 

@@ -7,7 +7,7 @@ use mathlib.Core.List.{List, [], _∷_, map}
 use lib.Count.{trailingZeros}
 use lib.ListN.{replicate}
 use Rattle.column.specs.Sets.{selected}
-use Rattle.column.specs.Trees.{treeInSequence, treeOf, every, climbsIn, treeRefusal}
+use Rattle.column.specs.Trees.{ascending, treeBy, treeInSequence, treeOf, every, climbsIn, treeRefusal}
 use Rattle.column.specs.Columns.{stateRefusal, standing}
 use Rattle.column.specs.Steps.{accepted, packetRefusal, orderRefusal, orderEffect, sendRefusal, sendEffect, send, takeRefusal, acknowledgementEffect, receiveEffect, messageEffect, ackRefusal, ackEffect, ack, allRefusal, noteRefusal, noteEffect, haltRefusal, haltEffect}
 use Rattle.column.specs.declared.tree.Tree.{Tree}
@@ -22,6 +22,10 @@ three = treeOf 3 0 (0 ∷ 0 ∷ 1 ∷ replicate 13 0)
 abbrev farthest : Tree
 farthest = treeInSequence 3 0 (0 ∷ 0 ∷ 1 ∷ replicate 13 0) (2 ∷ 1 ∷ 0 ∷ replicate 13 0)
 
+-- the same, and columns watch who sent their record
+abbrev watching : Tree
+watching = treeBy 3 0 (0 ∷ 0 ∷ 1 ∷ replicate 13 0) ascending true
+
 abbrev many : Tree
 many = treeOf 17 0 (replicate 16 0)
 
@@ -30,10 +34,13 @@ astray = treeOf 3 0 (0 ∷ 7 ∷ 1 ∷ replicate 13 0)
 
 -- a column by its sets to send to, awaited, owed and noted; order number 4, doors 9
 abbrev column : Bool → ℕ → ℕ → ℕ → ℕ → Bool → Column
-column running s a o n whole = record { running = running; number = 4; doors = 9; send = s; awaited = a; owed = o; noted = n; whole = whole }
+column running s a o n whole = record { running = running; number = 4; doors = 9; send = s; awaited = a; owed = o; noted = n; whole = whole; sender = 0 }
 
 abbrev numbered : ℕ → Column → Column
-numbered k c = record { running = c .running; number = k; doors = c .doors; send = c .send; awaited = c .awaited; owed = c .owed; noted = c .noted; whole = c .whole }
+numbered k c = record { running = c .running; number = k; doors = c .doors; send = c .send; awaited = c .awaited; owed = c .owed; noted = c .noted; whole = c .whole; sender = c .sender }
+
+abbrev sentBy : ℕ → Column → Column
+sentBy k c = record { running = c .running; number = c .number; doors = c .doors; send = c .send; awaited = c .awaited; owed = c .owed; noted = c .noted; whole = c .whole; sender = k }
 
 -- a root and another column, running and halted, with nothing to do
 abbrev root : Column
@@ -66,6 +73,10 @@ refusals =
     -- "a root with a goal other than the whole bank", halted or not
     ∷ (haltRefusal three 0 other, 4)
     ∷ (haltRefusal three 0 haltedOther, 4)
+    -- who sent a record is a column number, whoever is watched
+    ∷ (sendRefusal three 2 (sentBy 3 haltedOther), 4)
+    ∷ (sendRefusal watching 2 (sentBy 3 haltedOther), 4)
+    ∷ (sendRefusal watching 2 (sentBy 2 haltedOther), 5)
     -- "also an order to a lone core that isn't the root": before 5
     ∷ (orderRefusal three 1 haltedOther, 4)
     -- "any packet with an end not below columns, equal ends, .. another addressee .., or a message to the root": before 5
@@ -109,6 +120,24 @@ refusals =
     ∷ (orderRefusal three 0 (numbered 65535 (column true 0 2 0 0 true)), 7)
     ∷ (orderRefusal three 0 (numbered 65535 root), 8)
     ∷ (orderRefusal three 0 (numbered 65534 root), 0)
+    -- "Under sender, `all` asks that this sender is noted, in place of the root."
+    ∷ (allRefusal watching 2 (sentBy 1 (column true 0 0 0 1 false)), 6)
+    ∷ (allRefusal watching 2 (sentBy 1 (column true 0 0 0 2 false)), 0)
+    ∷ (allRefusal three 2 (sentBy 1 (column true 0 0 0 2 false)), 6)
+    -- "a running root may also be sent a message, which is then not 4"
+    ∷ (takeRefusal watching 0 root (Message 1 0 5 0), 0)
+    ∷ (takeRefusal watching 0 haltedRoot (Message 1 0 5 0), 5)
+    -- "its `ack` is 6 while it sends or awaits": the root's, and nobody else's
+    ∷ (ackRefusal watching 0 (column true 2 0 2 0 true), 6)
+    ∷ (ackRefusal watching 0 (column true 0 2 2 0 true), 6)
+    ∷ (ackRefusal watching 0 (column true 0 0 2 0 true), 0)
+    ∷ (ackRefusal watching 1 (column true 4 4 1 1 true), 0)
+    ∷ (ackRefusal three 0 (column true 2 2 2 0 true), 0)
+    -- "an order is 7 while it owes anyone": before 8
+    ∷ (orderRefusal watching 0 (column true 0 0 2 0 true), 7)
+    ∷ (orderRefusal watching 0 (numbered 65535 (column true 0 0 2 0 true)), 7)
+    ∷ (orderRefusal watching 0 root, 0)
+    ∷ (orderRefusal three 0 (column true 0 0 2 0 true), 0)
     ∷ []
 
 pub every-refusal : map (λ r. r .0) refusals ≡ map (λ r. r .1) refusals
@@ -119,7 +148,7 @@ every-refusal = refl
 
 -- an order leaves those awaited, owed and noted as they are
 order-owing : orderEffect three 0 (column true 0 0 2 4 true) 77
-    ≡ accepted (record { running = true; number = 5; doors = 77; send = 2; awaited = 0; owed = 2; noted = 4; whole = true }) [] false
+    ≡ accepted (record { running = true; number = 5; doors = 77; send = 2; awaited = 0; owed = 2; noted = 4; whole = true; sender = 0 }) [] false
 unfolding orderEffect selected
 order-owing = refl
 
@@ -170,9 +199,15 @@ take-left = refl
 
 -- a higher number is received: those noted stay
 take-received : messageEffect three 1 (column true 0 4 0 1 true) 0 5 77
-    ≡ accepted (record { running = true; number = 5; doors = 77; send = 4; awaited = 0; owed = 1; noted = 1; whole = false }) [] false
+    ≡ accepted (record { running = true; number = 5; doors = 77; send = 4; awaited = 0; owed = 1; noted = 1; whole = false; sender = 0 }) [] false
 unfolding messageEffect receiveEffect selected
 take-received = refl
+
+-- "a higher number leaves its goal the whole bank": the root's
+take-received-root : messageEffect watching 0 root 2 5 77
+    ≡ accepted (record { running = true; number = 5; doors = 77; send = 2; awaited = 0; owed = 4; noted = 0; whole = true; sender = 2 }) [] false
+unfolding messageEffect receiveEffect selected
+take-received-root = refl
 
 -- "if awaited, it is no longer, and its children join the set to send to", and only then
 note-awaited : noteEffect three (column true 0 6 0 0 true) 1 ≡ accepted (column true 4 4 0 2 true) [] false

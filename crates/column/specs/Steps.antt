@@ -8,7 +8,7 @@ use Rattle.column.specs.Refusals.{first, earlier}
 use Rattle.column.specs.Sets.{has, single, join, insert, without, lowest}
 use Rattle.column.specs.Trees.{choose, children}
 use Rattle.column.specs.Packets.{isMessage, sender, receiver}
-use Rattle.column.specs.Columns.{highest, standing, idle, stopped, withSets}
+use Rattle.column.specs.Columns.{highest, standing, idle, watched, mayAcknowledge, stopped, withSets}
 use Rattle.column.specs.declared.tree.Tree.{Tree}
 use Rattle.column.specs.declared.state.Column.{Column}
 use Rattle.column.specs.declared.packet.Packet.{Packet}
@@ -41,12 +41,14 @@ unless n c effect = cond (eqb n 0) effect (refused n c)
 
 -- ---- order (doors): "at the running root with both 'send' and 'await' sets empty"
 
--- "4: also an order to a lone core that isn't the root", "7: order while the root sends or awaits", "8: order with the root at number 65,535"
+-- "4: also an order to a lone core that isn't the root", "7: order while the root sends or awaits", and under sender "7 while it owes anyone", "8: order with
+-- the root at number 65,535"
 abbrev pub orderConditions : Tree → ℕ → Column → List (ℕ × Bool)
 orderConditions t i c =
     (4, not (eqb i (t .root)))
     ∷ (5, not (c .running))
     ∷ (7, not (idle c))
+    ∷ (7, t .watch && not (eqb (c .owed) 0))
     ∷ (8, eqb (c .number) highest)
     ∷ []
 
@@ -66,6 +68,7 @@ orderEffect t i c doors =
       owed = c .owed;
       noted = c .noted;
       whole = c .whole;
+      sender = c .sender;
     })
     []
     false
@@ -101,13 +104,14 @@ send t i c = unless (sendRefusal t i c) c (sendEffect t i c)
 
 -- ---- take (a packet)
 
--- "any packet with an end not below columns, equal ends, .. or a message to the root"
+-- "any packet with an end not below columns, equal ends, .. or a message to the root"; "Under sender a running root may also be sent a message, which is
+-- then not 4"
 abbrev pub packetConditions : Tree → Packet → List (ℕ × Bool)
 packetConditions t p =
     (4, leb (t .columns) (sender p))
     ∷ (4, leb (t .columns) (receiver p))
     ∷ (4, eqb (sender p) (receiver p))
-    ∷ (4, isMessage p && eqb (receiver p) (t .root))
+    ∷ (4, isMessage p && (eqb (receiver p) (t .root) && not (t .watch)))
     ∷ []
 
 unfoldable pub packetRefusal : Tree → Packet → ℕ
@@ -150,7 +154,8 @@ receiveEffect t i c from number doors =
       awaited = 0;
       owed = single from;
       noted = c .noted;
-      whole = false;
+      whole = eqb i (t .root);
+      sender = from;
     })
     []
     false
@@ -181,7 +186,7 @@ abbrev pub ackConditions : Tree → ℕ → Column → List (ℕ × Bool)
 ackConditions t i c =
     (5, not (c .running))
     ∷ (6, eqb (c .owed) 0)
-    ∷ (6, not (c .whole || idle c))
+    ∷ (6, not (mayAcknowledge t i c))
     ∷ []
 
 unfoldable pub ackRefusal : Tree → ℕ → Column → ℕ
@@ -194,13 +199,14 @@ ackEffect i c = acknowledgeLowest i c false
 abbrev pub ack : Tree → ℕ → Column → Result
 ack t i c = unless (ackRefusal t i c) c (ackEffect i c)
 
--- ---- all (i): "i is not the root, has noted the root, has goal own subtree, and neither sends nor awaits"
+-- ---- all (i): "i is not the root, has noted the root, has goal own subtree, and neither sends nor awaits"; under sender it has noted who sent
+-- its record
 
 abbrev pub allConditions : Tree → ℕ → Column → List (ℕ × Bool)
 allConditions t i c =
     (5, not (c .running))
     ∷ (6, eqb i (t .root))
-    ∷ (6, not (has (c .noted) (t .root)))
+    ∷ (6, not (has (c .noted) (watched t c)))
     ∷ (6, c .whole)
     ∷ (6, not (idle c))
     ∷ []
@@ -221,6 +227,7 @@ allEffect t c =
       owed = c .owed;
       noted = c .noted;
       whole = true;
+      sender = c .sender;
     })
     []
     false
@@ -254,6 +261,7 @@ noteEffect t c j =
       owed = c .owed;
       noted = insert (c .noted) j;
       whole = c .whole;
+      sender = c .sender;
     })
     []
     false

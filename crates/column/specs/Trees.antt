@@ -21,8 +21,12 @@ abbrev pub ascending : List ℕ
 ascending = risingFrom 0 16
 
 -- a tree by its parts
+abbrev pub treeBy : ℕ → ℕ → List ℕ → List ℕ → Bool → Tree
+treeBy columns root up first watch = record { columns = columns; root = root; up = up; first = first; watch = watch }
+
+-- a tree that names no watch: document 02, Point 9, "without it, root"
 abbrev pub treeInSequence : ℕ → ℕ → List ℕ → List ℕ → Tree
-treeInSequence columns root up first = record { columns = columns; root = root; up = up; first = first }
+treeInSequence columns root up first = treeBy columns root up first false
 
 -- a tree that names no sequence
 abbrev pub treeOf : ℕ → ℕ → List ℕ → Tree

@@ -148,7 +148,8 @@ fn message_effect(
     c.send = children_of(t, i);
     c.awaited = 0;
     c.owed = single(from);
-    c.whole = false;
+    c.whole = i == t.root;
+    c.sender = from as u8;
     done(c)
 }
 

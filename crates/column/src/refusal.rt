@@ -13,7 +13,7 @@ use crate::state::standing;
 use crate::tree::Tree;
 ghost use mathlib.Core.Path.{_≡_};
 ghost use Rattle.column.specs.Refusals.{first, earlier};
-ghost use Rattle.column.specs.Columns.{idle};
+ghost use Rattle.column.specs.Columns.{idle, watched, mayAcknowledge};
 ghost use Rattle.column.specs.Steps.{packetRefusal, orderConditions, orderRefusal, sendConditions, sendRefusal, takeConditions, takeRefusal};
 ghost use Rattle.column.specs.Steps.{ackConditions, ackRefusal, allConditions, allRefusal, noteConditions, noteRefusal, haltRefusal};
 
@@ -23,17 +23,36 @@ fn idle(c: Column) -> bool
     (c.send == 0) & (c.awaited == 0)
 }
 
-// Of an order to column i: 4 where that is not the root, 5, 7 while it sends or awaits, 8 at the highest number.
+// Whose halt, once it is noted, lets the column take over the bank: the root's, or that of the one that sent its record.
+pub fn watched(t: Tree, c: Column) -> usize
+    ensures { λ r. ⌜ r ≡ watched t c ⌝ }
+{
+    if t.watch {
+        return c.sender as usize;
+    }
+    t.root
+}
+
+// Whether column i may acknowledge to those that it owes: it neither sends nor awaits, or its goal is the whole bank; of the root, where
+// senders are watched, only the former.
+pub fn may_acknowledge(t: Tree, i: usize, c: Column) -> bool
+    ensures { λ r. ⌜ r ≡ mayAcknowledge t i c ⌝ }
+{
+    (c.whole & !(t.watch & (i == t.root))) | idle(c)
+}
+
+// Of an order to column i: 4 where that is not the root, 5, 7 while it sends or awaits, or owes where senders are watched, 8 at the highest number.
 pub(crate) fn order_conditions(n: u8, t: Tree, i: usize, c: Column) -> u8
     ensures { λ r. ⌜ r ≡ earlier n (first (orderConditions t i c)) ⌝ }
 {
     let mut m = refuse_if(n, i != t.root, 4);
     m = refuse_if(m, !c.running, 5);
     m = refuse_if(m, !idle(c), 7);
+    m = refuse_if(m, t.watch & (c.owed != 0), 7);
     refuse_if(m, c.number == HIGHEST, 8)
 }
 
-// Of an order to column i, which must be the root: 2 to 5, 7 while it sends or awaits, 8 at the highest number.
+// Of an order to column i, which must be the root: 2 to 5, 7 while it sends or awaits, or owes where senders are watched, 8 at the highest number.
 pub fn order_refusal(t: Tree, i: usize, c: Column) -> u8
     ensures { λ r. ⌜ r ≡ orderRefusal t i c ⌝ }
 {
@@ -64,7 +83,7 @@ pub(crate) fn packet_refusal(t: Tree, p: Packet) -> u8
     let mut n = refuse_if(0, t.columns <= from, 4);
     n = refuse_if(n, t.columns <= to, 4);
     n = refuse_if(n, from == to, 4);
-    refuse_if(n, is_message(p) & (to == t.root), 4)
+    refuse_if(n, is_message(p) & ((to == t.root) & !t.watch), 4)
 }
 
 // Of a packet given to column i: 4 where it is for another one, 5.
@@ -83,34 +102,34 @@ pub fn take_refusal(t: Tree, i: usize, c: Column, p: Packet) -> u8
     take_conditions(n, t, i, c, p)
 }
 
-// Of an acknowledgement by column i: 5, 6 where nobody is owed, or the goal is its own subtree and it still sends or awaits.
+// Of an acknowledgement by column i: 5, 6 where nobody is owed, or it may not acknowledge yet.
 pub(crate) fn ack_conditions(n: u8, t: Tree, i: usize, c: Column) -> u8
     ensures { λ r. ⌜ r ≡ earlier n (first (ackConditions t i c)) ⌝ }
 {
     let mut m = refuse_if(n, !c.running, 5);
     m = refuse_if(m, c.owed == 0, 6);
-    refuse_if(m, !(c.whole | idle(c)), 6)
+    refuse_if(m, !may_acknowledge(t, i, c), 6)
 }
 
-// Of an acknowledgement by column i: 2 to 5, 6 where nobody is owed, or the goal is its own subtree and it still sends or awaits.
+// Of an acknowledgement by column i: 2 to 5, 6 where nobody is owed, or it may not acknowledge yet.
 pub fn ack_refusal(t: Tree, i: usize, c: Column) -> u8
     ensures { λ r. ⌜ r ≡ ackRefusal t i c ⌝ }
 {
     ack_conditions(standing(t, i, c), t, i, c)
 }
 
-// Of a takeover by column i: 5, 6 at the root, with the root not noted, after another takeover, or while it sends or awaits.
+// Of a takeover by column i: 5, 6 at the root, with the one that it watches not noted, after another takeover, or while it sends or awaits.
 pub(crate) fn all_conditions(n: u8, t: Tree, i: usize, c: Column) -> u8
     ensures { λ r. ⌜ r ≡ earlier n (first (allConditions t i c)) ⌝ }
 {
     let mut m = refuse_if(n, !c.running, 5);
     m = refuse_if(m, i == t.root, 6);
-    m = refuse_if(m, !has(c.noted, t.root), 6);
+    m = refuse_if(m, !has(c.noted, watched(t, c)), 6);
     m = refuse_if(m, c.whole, 6);
     refuse_if(m, !idle(c), 6)
 }
 
-// Of a takeover by column i: 2 to 5, 6 at the root, with the root not noted, after another takeover, or while it sends or awaits.
+// Of a takeover by column i: 2 to 5, 6 at the root, with the one that it watches not noted, after another takeover, or while it sends or awaits.
 pub fn all_refusal(t: Tree, i: usize, c: Column) -> u8
     ensures { λ r. ⌜ r ≡ allRefusal t i c ⌝ }
 {

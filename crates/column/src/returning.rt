@@ -5,9 +5,9 @@ use crate::state::Column;
 ghost use mathlib.Core.Path.{_≡_};
 ghost use Rattle.column.specs.Returns.{rejoined, struck};
 
-// A column that comes back with the record of c, the set of columns that remain halted, and its goal.
-pub fn rejoin(c: Column, noted: u16, whole: bool) -> Column
-    ensures { λ r. ⌜ r ≡ rejoined c noted whole ⌝ }
+// A column that comes back with the record of c, which `sender` sent it, the set of columns that remain halted, and its goal.
+pub fn rejoin(c: Column, noted: u16, whole: bool, sender: u8) -> Column
+    ensures { λ r. ⌜ r ≡ rejoined c noted whole sender ⌝ }
 {
     Column {
         running: true,
@@ -18,6 +18,7 @@ pub fn rejoin(c: Column, noted: u16, whole: bool) -> Column
         owed: 0,
         noted,
         whole,
+        sender,
     }
 }
 

@@ -21,6 +21,8 @@ pub struct Column {
     pub running: bool,
     // The goal: the whole bank, or its own subtree.
     pub whole: bool,
+    // Who sent its record.
+    pub sender: u8,
 }
 
 pub enum FreshColumn {
@@ -36,6 +38,7 @@ pub fn fresh(t: Tree, i: usize) -> FreshColumn
     if n != 0 {
         return FreshColumn::Refused(n);
     }
+    let sender = t.root as u8;
     FreshColumn::Is(Column {
         running: true,
         number: 0,
@@ -45,6 +48,7 @@ pub fn fresh(t: Tree, i: usize) -> FreshColumn
         owed: 0,
         noted: 0,
         whole: i == t.root,
+        sender,
     })
 }
 
@@ -53,10 +57,12 @@ pub fn state_refusal(t: Tree, i: usize, c: Column) -> u8
     ensures { λ r. ⌜ r ≡ stateRefusal t i c ⌝ }
 {
     let members = c.send | c.awaited | c.owed | c.noted;
+    let sender = c.sender as usize;
     let mut n = refuse_if(0, t.columns <= i, 4);
     n = refuse_if(n, !within(members, t.columns), 4);
     n = refuse_if(n, has(c.owed, i), 4);
-    refuse_if(n, (i == t.root) & !c.whole, 4)
+    n = refuse_if(n, (i == t.root) & !c.whole, 4);
+    refuse_if(n, t.columns <= sender, 4)
 }
 
 // What every step tests first: 2 or 3 of the tree, then 4 of the state, else 0.

@@ -21,6 +21,8 @@ pub struct Tree {
     pub up: [usize; 16],
     // The owner's sequence, in which send serves: every column exactly once.
     pub first: [usize; 16],
+    // Whether a column watches the one that sent its record, and not the root.
+    pub watch: bool,
 }
 
 pub enum Members {

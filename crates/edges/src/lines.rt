@@ -16,6 +16,7 @@ const TREE: Tree = Tree {
     root: 0,
     up: [0, 0, 1, 0, 0, 0, 0, 0, 0, 0, 0, 0, 0, 0, 0, 0],
     first: ASCENDING,
+    watch: false,
 };
 
 fn performed(x: Step) -> Answer {

@@ -19,6 +19,7 @@ const TREE: Tree = Tree {
     root: 0,
     up: [0; 16],
     first: ASCENDING,
+    watch: false,
 };
 
 // The lister's list is the longest.

@@ -37,6 +37,7 @@ pub fn fastest(columns: usize, delay: usize, gap: usize) -> Plan
                 root: 0,
                 up: [0; 16],
                 first: ASCENDING,
+                watch: false,
             },
         };
     }
@@ -49,6 +50,7 @@ pub fn fastest(columns: usize, delay: usize, gap: usize) -> Plan
             root: 0,
             up,
             first: ASCENDING,
+            watch: false,
         },
     }
 }

@@ -2,7 +2,7 @@
 -- Assumes nothing.
 use Prim.Native.Nat.{ℕ, zero, suc}
 use mathlib.Core.Path.{_≡_, refl, sym, ap}
-use mathlib.Core.Bool.{Bool, true, false, not, _&&_, _||_, cond, and-eq-true-iff}
+use mathlib.Core.Bool.{Bool, true, false, not, _&&_, _||_, cond, and-true, and-eq-true-iff}
 use mathlib.Core.List.{[], _∷_}
 use native.Mathlib.Omega.{arith}
 use lib.Dec.{eqb}
@@ -22,7 +22,7 @@ use Rattle.figure.proofs.Owed.{struck, none-acknowledged, lowest-acknow
 module _ (t : Tree) (i : ℕ) where
   ack-refusal : (c : Column) → Ready t i c → ackRefusal t i c ≡ cond (ackGuard t (variablesOf t i c)) 0 6
   unfolding ackRefusal
-  ack-refusal c ready = simp (ready .good, ready .runs, goal-is t i c ready) (go (eqb (c .owed) 0) (c .whole || idle c))
+  ack-refusal c ready = simp (ready .good, ready .runs, ready .watches-root, and-true, goal-is t i c ready) (go (eqb (c .owed) 0) (c .whole || idle c))
     where
       go : (none free : Bool) → _≡_ {A = ℕ} (cond none 6 (cond (not free) 6 0)) (cond (not none && free) 0 6)
       go true free = refl

@@ -30,7 +30,7 @@ module _ (t : Tree) (i : ℕ) (c : Column) (ready : Ready t i c) (root : i ≡ t
   broadcast-refusal : orderRefusal t i c ≡ cond (broadcastGuard (variablesOf t i c)) (last c) 7
   unfolding orderRefusal
   broadcast-refusal =
-      simp (ready .good, ready .runs, eq-eqb i (t .root) root)
+      simp (ready .good, ready .runs, ready .watches-root, eq-eqb i (t .root) root)
       (cond-rests (eqb (c .send) 0) (eqb (c .awaited) 0) 7 (last c))
 
   module _ (doors : ℕ) where

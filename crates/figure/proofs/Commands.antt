@@ -4,7 +4,7 @@ use Prim.Native.Nat.{ℕ, zero, suc}
 use mathlib.Core.Path.{_≡_, refl, sym, ap, _∙_}
 use mathlib.Core.Bool.{Bool, true, false, not, _&&_, cond, and-true, and-comm, false≢true}
 use lib.Dec.{eqb, eqb·suc-zero}
-use borrow.Author.Tests.{eq-eqb}
+use borrow.Author.Tests.{eq-eqb, eqb-true}
 use Rattle.column.specs.Sets.{single, selected}
 use Rattle.column.specs.SetLaws.{has-single}
 use Rattle.column.specs.Trees.{parent, children}
@@ -34,6 +34,14 @@ goal-is t i c ready = go (c .whole) (stands t i c (ready .good) .root-whole)
     go : (w : Bool) → (eqb i (t .root) && not w) ≡ false → eqb (cond w (t .root) i) (t .root) ≡ w
     go true e = eq-eqb (t .root) (t .root) refl
     go false e = sym (and-true (eqb i (t .root))) ∙ e
+
+-- the goal own subtree, or the whole bank at the root: r = i
+pub own-goal : (t : Tree) (i : ℕ) → cond (eqb i (t .root)) (t .root) i ≡ i
+own-goal t i = go (eqb i (t .root)) refl
+  where
+    go : (b : Bool) → eqb i (t .root) ≡ b → cond b (t .root) i ≡ i
+    go true e = sym (eqb-true i (t .root) e)
+    go false e = refl
 
 -- a step that is accepted, by the column after it
 pub makes-of : {t : Tree} {i : ℕ} {after : Column} {made : Made} → variablesOf t i after ≡ made .variables → after .running ≡ true

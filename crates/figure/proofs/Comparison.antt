@@ -1,11 +1,9 @@
 -- The step comparison with Figure 3.2.
 -- Assumes nothing.
 use Prim.Native.Nat.{ℕ}
-use mathlib.Core.Path.{_≡_, refl, sym, ap}
-use mathlib.Core.Bool.{Bool, true, false, cond}
-use lib.Dec.{eqb}
-use borrow.Author.Tests.{eqb-true}
+use mathlib.Core.Path.{ap}
 use Rattle.figure.specs.Comparison.{Comparison, Beginning}
+use Rattle.figure.proofs.Commands.{own-goal}
 use Rattle.figure.proofs.Send.{send-compares}
 use Rattle.figure.proofs.Note.{note-compares}
 use Rattle.figure.proofs.Take.{acknowledgement-compares, message-compares}
@@ -25,9 +23,4 @@ comparison t i c ready = record {
 }
 
 pub beginning : Beginning
-beginning t i =
-    ap (λ (x : ℕ). record { seqno = 0; info = 0; sendto = 0; ackfrom = 0; ackto = 0; r = x }) (go (eqb i (t .root)) refl)
-  where
-    go : (b : Bool) → eqb i (t .root) ≡ b → cond b (t .root) i ≡ i
-    go true e = sym (eqb-true i (t .root) e)
-    go false e = refl
+beginning t i = ap (λ (x : ℕ). record { seqno = 0; info = 0; sendto = 0; ackfrom = 0; ackto = 0; r = x }) (own-goal t i)

@@ -64,8 +64,10 @@ module _ (t : Tree) (i : ℕ) (c : Column) (ready : Ready t i c) where
         noted = rows .noted;
         not-itself = has-without (c .owed) next i ∙ ap (λ (b : Bool). b && not (eqb i next)) (rows .not-itself);
         root-whole = rows .root-whole;
+        sender = rows .sender;
       });
       runs = ready .runs;
+      watches-root = ready .watches-root;
     }
 
     one-less : ones (struck c .owed) + 1 ≡ ones (c .owed)

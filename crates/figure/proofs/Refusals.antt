@@ -31,6 +31,7 @@ pub record Stands (t : Tree) (i : ℕ) (c : Column) : Type 0 where
   pub noted : within (c .noted) (t .columns) ≡ true
   pub not-itself : has (c .owed) i ≡ false
   pub root-whole : (eqb i (t .root) && not (c .whole)) ≡ false
+  pub sender : leb (t .columns) (c .sender) ≡ false
 
 module _ (t : Tree) (i : ℕ) (c : Column) where
   pub stands : standing t i c ≡ 0 → Stands t i c
@@ -47,11 +48,12 @@ module _ (t : Tree) (i : ℕ) (c : Column) where
         noted = not-false _ (p .1 .1 .1 .1 .0);
         not-itself = p .1 .1 .1 .1 .1 .0;
         root-whole = p .1 .1 .1 .1 .1 .1 .0;
+        sender = p .1 .1 .1 .1 .1 .1 .1 .0;
       }
 
   pub standing-of : Stands t i c → standing t i c ≡ 0
   unfolding stateRefusal
-  standing-of s = simp (s .tree, s .below, s .send, s .awaited, s .owed, s .noted, s .not-itself, s .root-whole)
+  standing-of s = simp (s .tree, s .below, s .send, s .awaited, s .owed, s .noted, s .not-itself, s .root-whole, s .sender)
 
 -- "A bank has 1 to 16 columns", so that sixteen digits hold each of its sets
 pub set-lt : (t : Tree) (m : ℕ) → treeRefusal t ≡ 0 → within m (t .columns) ≡ true → m < 2 ^ 16

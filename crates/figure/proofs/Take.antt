@@ -1,7 +1,7 @@
 -- The step take and the commands `??ack(a)` and `??msg(new)`.
 -- Assumes nothing.
 use Prim.Native.Nat.{ℕ, suc, _<_, _≤_}
-use mathlib.Core.Path.{_≡_, refl, sym, ap, subst, _∙_}
+use mathlib.Core.Path.{_≡_, refl, sym, ap, ap₂, subst, _∙_}
 use mathlib.Core.Bool.{Bool, true, false, cond}
 use mathlib.Core.List.{[]}
 use native.Mathlib.Omega.{arith}
@@ -19,7 +19,7 @@ use Rattle.column.specs.declared.packet.Packet.the-variants.{Message, Acknowled
 use Rattle.figure.specs.Figure.{Variables, Made, makes, aborts, SUCC, ackAll, acknowledgementCommand, messageCommand}
 use Rattle.figure.specs.Comparison.{variablesOf, Ready, Makes, Passes, AcknowledgementCompares, MessageCompares, repeatTake, RepeatMakes}
 use Rattle.figure.proofs.Refusals.{goes}
-use Rattle.figure.proofs.Commands.{successors, makes-of, makes-either, makes-goes}
+use Rattle.figure.proofs.Commands.{successors, own-goal, makes-of, makes-either, makes-goes}
 use Rattle.figure.proofs.Owed.{struck, none-acknowledged, lowest-acknowledged, serve-all, served}
 
 take-refusal : (t : Tree) (i : ℕ) (c : Column) → Ready t i c → (p : Packet) → Passes t i c p → takeRefusal t i c p ≡ 0
@@ -110,7 +110,7 @@ module _ (t : Tree) (i from number doors : ℕ) where
     nobody-owed n c ready none higher = rw (takes c ready higher, eq-eqb (c .owed) 0 none) (record {
       through = refl;
       put = sym (none-acknowledged i (variablesOf t i c) none);
-      variables = ap renewed (sym (successors t i));
+      variables = ap₂ (λ (s r : ℕ). record { seqno = number; info = doors; sendto = s; ackfrom = 0; ackto = single from; r = r }) (sym (successors t i)) (own-goal t i);
       keeps-noted = refl;
       keeps-running = ready .runs;
     })

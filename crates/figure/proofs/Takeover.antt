@@ -17,7 +17,7 @@ module _ (t : Tree) (i : ℕ) (c : Column) (ready : Ready t i c) where
   takeover-refusal : allRefusal t i c ≡ cond (takeoverGuard t i (c .noted) (variablesOf t i c)) 0 6
   unfolding allRefusal
   takeover-refusal =
-      simp (ready .good, ready .runs, goal-is t i c ready)
+      simp (ready .good, ready .runs, ready .watches-root, goal-is t i c ready)
       (go (eqb i (t .root)) (has (c .noted) (t .root)) (c .whole) (eqb (c .send) 0) (eqb (c .awaited) 0))
     where
       go : (root noted whole sent none : Bool)

@@ -34,10 +34,12 @@ abbrev pub numberOf : Result → ℕ
 numberOf (accepted c put left) = 0
 numberOf (refused n c) = n
 
--- a running column in a state that rows 2 to 4 let pass
+-- a running column in a state that rows 2 to 4 let pass. The figure watches the root: what the report's last optimisation changes in it is told
+-- in docs/REPORT.md
 pub record Ready (t : Tree) (i : ℕ) (c : Column) : Type 0 where
   pub good : standing t i c ≡ 0
   pub runs : c .running ≡ true
+  pub watches-root : t .watch ≡ false
 
 -- nobody awaited is noted: so it is with a fresh column, and every step keeps it (`Apartness`, below)
 abbrev pub Apart : Column → Type 0

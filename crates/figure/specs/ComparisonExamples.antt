@@ -24,7 +24,7 @@ three = treeOf 3 0 (0 ∷ 0 ∷ 1 ∷ replicate 13 0)
 
 -- a running column by its sets to send to, awaited, owed and noted, and its goal; order number 4, doors 9
 abbrev column : ℕ → ℕ → ℕ → ℕ → Bool → Column
-column s a o n whole = record { running = true; number = 4; doors = 9; send = s; awaited = a; owed = o; noted = n; whole = whole }
+column s a o n whole = record { running = true; number = 4; doors = 9; send = s; awaited = a; owed = o; noted = n; whole = whole; sender = 0 }
 
 -- the root with nothing to do, with column 1 to send to, and awaiting column 1
 abbrev idle : Column
@@ -86,10 +86,10 @@ pub record Compared : Type 0 where
 pub compared : Comparison → Compared
 unfolding every climbsIn treeRefusal stateRefusal steps.packetRefusal steps.noteRefusal acknowledgementCommand
 compared compares =
-    let at-idle = compares three 0 idle (record { good = refl; runs = refl }) in
-    let at-sending = compares three 0 sending (record { good = refl; runs = refl }) in
-    let at-awaiting = compares three 0 awaiting (record { good = refl; runs = refl }) in
-    let at-owing = compares three 1 owing (record { good = refl; runs = refl }) in
+    let at-idle = compares three 0 idle (record { good = refl; runs = refl; watches-root = refl }) in
+    let at-sending = compares three 0 sending (record { good = refl; runs = refl; watches-root = refl }) in
+    let at-awaiting = compares three 0 awaiting (record { good = refl; runs = refl; watches-root = refl }) in
+    let at-owing = compares three 1 owing (record { good = refl; runs = refl; watches-root = refl }) in
     record {
       send = at-sending .send .does refl;
       note = at-awaiting .note 1 refl refl .does refl;

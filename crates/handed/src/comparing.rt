@@ -48,6 +48,9 @@ fn fields() {
     c = NO_COLUMN;
     c.whole = true;
     field(b"whole", c);
+    c = NO_COLUMN;
+    c.sender = 1;
+    field(b"sender", c);
 }
 
 fn trees() {
@@ -59,10 +62,13 @@ fn trees() {
     let mut first = TREE;
     up.up[15] = 1;
     first.first[15] = 1;
+    let mut watch = TREE;
+    watch.watch = true;
     compared(b"columns", with_tree(quiet(), columns));
     compared(b"root", with_tree(quiet(), root));
     compared(b"the last parent", with_tree(quiet(), up));
     compared(b"the last place of the sequence", with_tree(quiet(), first));
+    compared(b"watch", with_tree(quiet(), watch));
 }
 
 pub fn cases() {

@@ -25,6 +25,7 @@ pub fn with_junk(s: State) -> State {
     let mut b = s.bank;
     let mut c = member(65535, 65535, 65535, 65535);
     c.whole = true;
+    c.sender = 255;
     let mut columns = [c; 16];
     let held = b.columns;
     columns[0] = held[0];

@@ -14,6 +14,7 @@ mod resting;
 mod returning;
 mod same;
 mod state;
+mod watching;
 
 fn main() {
     comparing::cases();
@@ -26,4 +27,5 @@ fn main() {
     resting::cases();
     dispatching::cases();
     returning::cases();
+    watching::cases();
 }

@@ -28,6 +28,7 @@ fn tree(columns: usize, root: usize, first: usize, second: usize, third: usize) 
         root,
         up: [first, second, third, 0, 0, 0, 0, 0, 0, 0, 0, 0, 0, 0, 0, 0],
         first: ASCENDING,
+        watch: false,
     }
 }
 

@@ -53,12 +53,14 @@ fn refused() {
         root: 0,
         up,
         first: ASCENDING,
+        watch: false,
     };
     let rootless = Tree {
         columns: 3,
         root: 3,
         up,
         first: ASCENDING,
+        watch: false,
     };
     with_and_without(b"17 columns", with_tree(s, seventeen));
     with_and_without(b"root 3", with_tree(s, rootless));

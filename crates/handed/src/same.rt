@@ -13,6 +13,7 @@ fn same_column(a: Column, b: Column) -> bool {
         & (a.owed == b.owed)
         & (a.noted == b.noted)
         & (a.whole == b.whole)
+        & (a.sender == b.sender)
 }
 
 // The set of places, of all sixteen, at which the columns differ.
@@ -29,7 +30,7 @@ pub fn rewritten(a: Bank, b: Bank) -> u16 {
 }
 
 fn same_tree(a: Tree, b: Tree) -> bool {
-    let mut same = (a.columns == b.columns) & (a.root == b.root);
+    let mut same = (a.columns == b.columns) & (a.root == b.root) & (a.watch == b.watch);
     let mut i: usize = 0;
     while i < 16 {
         same = same & (a.up[i] == b.up[i]) & (a.first[i] == b.first[i]);

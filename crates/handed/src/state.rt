@@ -32,6 +32,7 @@ pub const TREE: Tree = Tree {
     root: 0,
     up: [0, 0, 1, 0, 0, 0, 0, 0, 0, 0, 0, 0, 0, 0, 0, 0],
     first: ASCENDING,
+    watch: false,
 };
 
 pub fn member(send: u16, awaited: u16, owed: u16, noted: u16) -> Column {
@@ -44,6 +45,7 @@ pub fn member(send: u16, awaited: u16, owed: u16, noted: u16) -> Column {
         owed,
         noted,
         whole: false,
+        sender: 0,
     }
 }
 

@@ -47,6 +47,7 @@ fn exchange() {
         root: ROOT,
         up: [ROOT; 16],
         first: ASCENDING,
+        watch: false,
     };
     let FreshColumn::Is(root) = fresh(t, ROOT) else {
         return;

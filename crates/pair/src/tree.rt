@@ -17,6 +17,7 @@ const TREE: Tree = Tree {
     root: 2,
     up: [2, 0, 2, 2, 1, 0, 0, 0, 0, 0, 0, 0, 0, 0, 0, 0],
     first: ASCENDING,
+    watch: false,
 };
 
 fn print_members(name: &[u8], answer: Members) {

@@ -31,6 +31,7 @@ fn column(lap: u64, whole: bool) -> Column {
         owed: 0,
         noted: 0,
         whole,
+        sender: 0,
     }
 }
 

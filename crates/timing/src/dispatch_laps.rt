@@ -31,6 +31,7 @@ fn star() -> Tree {
         root: 0,
         up: [0; 16],
         first: ASCENDING,
+        watch: false,
     }
 }
 

@@ -9,6 +9,7 @@ pub fn heap(columns: usize) -> Tree {
         root: 0,
         up: [0, 0, 0, 1, 1, 2, 2, 3, 3, 4, 4, 5, 5, 6, 6, 7],
         first: ASCENDING,
+        watch: false,
     }
 }
 

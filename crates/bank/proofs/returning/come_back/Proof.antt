@@ -1,4 +1,6 @@
 use borrow.Author.Needs.{needs}
+use native.Mathlib.Omega.{arith}
+use lib.Count.{trailing-le}
 use mathlib.Core.Path.{_∙_}
 use Rattle.bank.proofs.returning.come_back.Statement.{statement}
 use Rattle.bank.proofs.returning.come_back.Tie as tie
@@ -8,6 +10,9 @@ running-requires c κs = search needs
 
 lowest-requires : tie.Need-lowest-requires
 lowest-requires c κs = search needs
+
+cast-sender : tie.Need-cast-sender
+cast-sender c = omega (arith, c .lowest .ensures, trailing-le 16 (c .before .running .result))
 
 column-at-requires : tie.Need-column-at-requires
 column-at-requires c κs = search needs
@@ -47,6 +52,7 @@ come-back-spec =
     (tie.spec
     running-requires
     lowest-requires
+    cast-sender
     column-at-requires
     halted-requires
     runs-requires

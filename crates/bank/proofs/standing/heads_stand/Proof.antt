@@ -11,11 +11,11 @@ use Rattle.bank.proofs.standing.heads_stand.Statement.{statement}
 use Rattle.bank.proofs.standing.heads_stand.Tie as tie
 
 abbrev Inv-loop : tie.InvT-loop
-Inv-loop columns root running count heads stand₀ k₀ stand k =
-    (k ≤ count) × (stand ≡ every (λ (j : ℕ). headStands columns root running (getD heads j 0)) k)
+Inv-loop columns root watch running count heads stand₀ k₀ stand k =
+    (k ≤ count) × (stand ≡ every (λ (j : ℕ). headStands columns root watch running (getD heads j 0)) k)
 
 abbrev μ-loop : tie.MeasureT-loop
-μ-loop columns root running count heads stand₀ k₀ stand k = count - k
+μ-loop columns root watch running count heads stand₀ k₀ stand k = count - k
 
 loop-holds : tie.Need-loop-holds Inv-loop μ-loop
 unfolding every
@@ -45,7 +45,7 @@ loop-again c =
 returns : tie.Need-returns Inv-loop μ-loop
 returns c =
     let a = c .before .before .args in
-    c .before .loop .inv .1 ∙ ap (every (λ (j : ℕ). headStands (a .columns) (a .root) (a .running) (getD (a .heads .now) j 0))) (omega arith)
+    c .before .loop .inv .1 ∙ ap (every (λ (j : ℕ). headStands (a .columns) (a .root) (a .watch) (a .running) (getD (a .heads .now) j 0))) (omega arith)
 
 pub heads-stand-spec : {M : Type 1} → statement M
 heads-stand-spec =

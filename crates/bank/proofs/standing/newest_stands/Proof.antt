@@ -8,7 +8,7 @@ use Rattle.bank.proofs.standing.newest_stands.Statement.{statement}
 use Rattle.bank.proofs.standing.newest_stands.Tie as tie
 
 returns : tie.Need-returns
-returns c = λ b doors n root lit count. rw (eq-eqb (b .count) 0 (count ∙ c .if1 .taken))
+returns c = λ b doors n root watch lit count. rw (eq-eqb (b .count) 0 (count ∙ c .if1 .taken))
 
 sub-head-stands : tie.Need-sub-head-stands
 sub-head-stands c = search needs
@@ -24,13 +24,13 @@ head-stands-requires c κs = search needs
 
 returns-2 : tie.Need-returns-2
 returns-2 c =
-    λ b doors n root lit count.
+    λ b doors n root watch lit count.
     let e = c .before .before in
     let a = e .before .args in
     let some : b .count ≡ 0 → ⊥ = λ z. e .if1 .left (sym count ∙ z) in
     rw (ne-eqb (b .count) 0 some)
     (c .head-stands .ensures
-    ∙ rw (sym n, sym root, sym count) (head-stands b (a .running) lit (getD (a .heads .now) (b .count - 1) 0) (getD doors (b .count - 1) 0)))
+    ∙ rw (sym n, sym root, sym watch, sym count) (head-stands b (a .running) lit (getD (a .heads .now) (b .count - 1) 0) (getD doors (b .count - 1) 0)))
 
 pub newest-stands-spec : {M : Type 1} → statement M
 newest-stands-spec =

@@ -30,7 +30,7 @@ returns-2 c =
     λ b doors handed.
     let e = c .before in
     let a = e .before .before .args in
-    c .newest-stands .ensures b doors (ap (λ (t : Tree). t .columns) (handed .tree-is)) (ap (λ (t : Tree). t .root) (handed .tree-is)) (handed .lit) (handed .count-is)
+    c .newest-stands .ensures b doors (ap (λ (t : Tree). t .columns) (handed .tree-is)) (ap (λ (t : Tree). t .root) (handed .tree-is)) (ap (λ (t : Tree). t .watch) (handed .tree-is)) (handed .lit) (handed .count-is)
     ∙ sym (rw (eq-eqb (stateRefusal (b .tree) (a .i) (columnAt b (a .i))) 0 (sym (refusal (e .before) b handed) ∙ e .if1 .left)))
 
 pub still-stands-spec : {M : Type 1} → statement M

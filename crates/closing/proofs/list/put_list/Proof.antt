@@ -148,7 +148,12 @@ put-all-requires-2 : tie.Need-put-all-requires-2
 put-all-requires-2 c κs = room-end (c .before .before .before .before)
 
 same-length : tie.Need-same-length
-same-length c = search needs
+same-length c =
+    let e = c .before .before .before .before .before .before .before in
+    let d = fourth e in
+    let k = third d in
+    let o = second k in
+    search (needs, c .before .before .put-all2 .kept .0, e .put-doors .kept .0, d .put-all .kept .0, k .put-field3 .kept .0, o .put-field2 .kept .0, first o .put-field .kept .0)
 
 returns : tie.Need-returns
 unfolding listText

@@ -9,7 +9,7 @@ refused-requires c κs = search needs
 
 returns : tie.Need-returns
 unfolding heldJudged
-returns c = rw (not-true (c .before .before .before .args .sequence .good) (c .before .if1 .taken)) (c .refused .ensures)
+returns c = rw (not-true (c .before .before .before .args .further .good) (c .before .if1 .taken)) (c .refused .ensures)
 
 judge-requires : tie.Need-judge-requires
 judge-requires c κs = search needs
@@ -20,7 +20,7 @@ returns-2 c =
     let n = c .before in
     let e = n .before .before .before .before in
     let a = e .before .before .args in
-    rw (not-false (a .sequence .good) (e .if1 .left), n .if2 .taken) (c .judge .ensures)
+    rw (not-false (a .further .good) (e .if1 .left), n .if2 .taken) (c .judge .ensures)
 
 judge-requires-2 : tie.Need-judge-requires-2
 judge-requires-2 c κs = search needs
@@ -31,7 +31,7 @@ returns-3 c =
     let n = c .before in
     let e = n .before .before .before .before in
     let a = e .before .before .args in
-    rw (not-false (a .sequence .good) (e .if1 .left), n .if2 .left) (c .judge2 .ensures)
+    rw (not-false (a .further .good) (e .if1 .left), n .if2 .left) (c .judge2 .ensures)
 
 pub join-spec : {M : Type 1} → statement M
 join-spec =

@@ -3,9 +3,9 @@ use mathlib.Core.Bool.{Bool, true, false, cond}
 use lib.ListN.{drop}
 use borrow.Author.Tests.{not-true, not-false}
 use Rattle.closing.specs.Text.{columnsKey, rootKey, upKey, Reading, read, unread}
-use Rattle.closing.specs.Tables.{keyed, numbers, sequenceLine, joined, judged}
+use Rattle.closing.specs.Tables.{keyed, numbers, furtherLines, joined, judged}
 use Rattle.closing.specs.Readings.{numberMeant}
-use Rattle.closing.specs.TableLaws.{HeldSequence, heldFrom, heldJudged, linesJudged, judged-held}
+use Rattle.closing.specs.TableLaws.{HeldFurther, furtherFrom, heldJudged, linesJudged, judged-held}
 use borrow.Author.Needs.{needs}
 use Rattle.closing.proofs.table.read_lines.Statement.{statement}
 use Rattle.closing.proofs.table.read_lines.Tie as tie
@@ -15,7 +15,7 @@ lines-are : (p : tie.After-numbers-of) (good : Bool) → p .numbers-of .result .
     → let r = p .before .before .before in
     let k = r .before .before .before .before .before in
     let a = k .before .before .before .before .before .before .before .before .args in
-    (q : Reading HeldSequence) → heldFrom (a .at) (sequenceLine (drop (a .at) (a .input .now))) ≡ q
+    (q : Reading HeldFurther) → furtherFrom (a .at) (furtherLines (drop (a .at) (a .input .now))) ≡ q
     → linesJudged (a .one .now) (a .two .now) (a .three .now) (drop (a .at) (a .input .now)) (a .at)
     ≡ heldJudged (k .columns .given .0 .0) (r .root .given .0 .0) (cond good (read (p .numbers-of .result .list)) unread) q
 lines-are p good g q h =
@@ -23,7 +23,7 @@ lines-are p good g q h =
     let k = r .before .before .before .before .before in
     let a = k .before .before .before .before .before .before .before .before .args in
     judged-held _ _ (keyed columnsKey 2 (a .one .now)) (keyed rootKey 2 (a .two .now)) (numbers upKey (a .three .now))
-    (sequenceLine (drop (a .at) (a .input .now))) (a .at) _ q
+    (furtherLines (drop (a .at) (a .input .now))) (a .at) _ q
     (sym (k .before .before .keyed .ensures) ∙ ap numberMeant (k .columns .given .1))
     (sym (r .before .before .keyed2 .ensures) ∙ ap numberMeant (r .root .given .1))
     (sym (p .numbers-of .ensures) ∙ ap (λ b. cond b (read (p .numbers-of .result .list)) unread) g)
@@ -74,8 +74,8 @@ returns c =
     let p = c .before .before .before in
     rw (lines-are p false (not-true _ (c .before .if1 .taken)) _ refl) (c .refused3 .ensures)
 
-read-sequence-requires : tie.Need-read-sequence-requires
-read-sequence-requires c κs = search needs
+read-further-requires : tie.Need-read-further-requires
+read-further-requires c κs = search needs
 
 join-requires : tie.Need-join-requires
 join-requires c κs = search needs
@@ -101,7 +101,7 @@ returns-4 : tie.Need-returns-4
 returns-4 c =
     let w = c .before in
     let e = w .before .before in
-    rw (lines-are (e .before .before) true (not-false _ (e .if1 .left)) _ (sym (w .read-sequence .ensures))) (c .join .ensures)
+    rw (lines-are (e .before .before) true (not-false _ (e .if1 .left)) _ (sym (w .read-further .ensures))) (c .join .ensures)
 
 pub read-lines-spec : {M : Type 1} → statement M
 read-lines-spec =
@@ -121,7 +121,7 @@ read-lines-spec =
     numbers-of-requires
     refused-requires-3
     returns
-    read-sequence-requires
+    read-further-requires
     join-requires
     returns-2
     returns-3

@@ -44,13 +44,16 @@ children-of-requires c κs = search needs
 single-requires : tie.Need-single-requires
 single-requires c κs = search needs
 
+cast-c : tie.Need-cast-c
+cast-c c = search needs
+
 done-requires-2 : tie.Need-done-requires-2
 done-requires-2 c κs = search needs
 
 returns-4 : tie.Need-returns-4
 unfolding messageEffect receiveEffect
 returns-4 c =
-    let s = c .before in
+    let s = c .before .before in
     let k = s .before in
     let e = k .before .before .before in
     c .done2 .ensures
@@ -76,5 +79,6 @@ message-effect-spec =
     returns-3
     children-of-requires
     single-requires
+    cast-c
     done-requires-2
     returns-4)

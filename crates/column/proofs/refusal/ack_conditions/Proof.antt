@@ -10,21 +10,21 @@ refuse-if-requires c κs = search needs
 refuse-if-requires-2 : tie.Need-refuse-if-requires-2
 refuse-if-requires-2 c κs = search needs
 
-idle-requires : tie.Need-idle-requires
-idle-requires c κs = search needs
+may-acknowledge-requires : tie.Need-may-acknowledge-requires
+may-acknowledge-requires c κs = search needs
 
 refuse-if-requires-3 : tie.Need-refuse-if-requires-3
 refuse-if-requires-3 c κs = search needs
 
 returns : tie.Need-returns
 returns c =
-    let idle = c .before .before in
-    let unowed = idle .before in
+    let may = c .before in
+    let unowed = may .before in
     let halted = unowed .before .before in
     let a = halted .before .before .args in
     rw (
       c .refuse-if3 .ensures,
-      idle .idle .ensures,
+      may .may-acknowledge .ensures,
       unowed .refuse-if2 .ensures,
       halted .refuse-if .ensures,
     ) (in-turn (a .n) (ackConditions (a .t) (a .i) (a .c)) tt)
@@ -35,6 +35,6 @@ ack-conditions-spec =
     (tie.spec
     refuse-if-requires
     refuse-if-requires-2
-    idle-requires
+    may-acknowledge-requires
     refuse-if-requires-3
     returns)

@@ -10,6 +10,9 @@ refuse-if-requires c κs = search needs
 refuse-if-requires-2 : tie.Need-refuse-if-requires-2
 refuse-if-requires-2 c κs = search needs
 
+watched-requires : tie.Need-watched-requires
+watched-requires c κs = search needs
+
 has-requires : tie.Need-has-requires
 has-requires c κs = search needs
 
@@ -29,7 +32,8 @@ returns : tie.Need-returns
 returns c =
     let whole = c .before .before in
     let unnoted = whole .before in
-    let root = unnoted .before .before in
+    let watching = unnoted .before .before in
+    let root = watching .before in
     let halted = root .before .before in
     let a = halted .before .before .args in
     rw (
@@ -38,6 +42,7 @@ returns c =
       whole .refuse-if4 .ensures,
       unnoted .refuse-if3 .ensures,
       unnoted .before .has .ensures,
+      watching .watched .ensures,
       root .refuse-if2 .ensures,
       halted .refuse-if .ensures,
     ) (in-turn (a .n) (allConditions (a .t) (a .i) (a .c)) tt)
@@ -48,6 +53,7 @@ all-conditions-spec =
     (tie.spec
     refuse-if-requires
     refuse-if-requires-2
+    watched-requires
     has-requires
     refuse-if-requires-3
     refuse-if-requires-4

@@ -19,14 +19,19 @@ refuse-if-requires-3 c κs = search needs
 refuse-if-requires-4 : tie.Need-refuse-if-requires-4
 refuse-if-requires-4 c κs = search needs
 
+refuse-if-requires-5 : tie.Need-refuse-if-requires-5
+refuse-if-requires-5 c κs = search needs
+
 returns : tie.Need-returns
 returns c =
-    let busy = c .before .before in
+    let owing = c .before .before in
+    let busy = owing .before .before .before in
     let halted = busy .before .before in
     let other = halted .before .before in
     let a = other .before .before .args in
     rw (
-      c .refuse-if4 .ensures,
+      c .refuse-if5 .ensures,
+      owing .refuse-if4 .ensures,
       busy .refuse-if3 .ensures,
       busy .before .idle .ensures,
       halted .refuse-if2 .ensures,
@@ -42,4 +47,5 @@ order-conditions-spec =
     idle-requires
     refuse-if-requires-3
     refuse-if-requires-4
+    refuse-if-requires-5
     returns)

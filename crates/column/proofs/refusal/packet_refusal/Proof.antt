@@ -28,7 +28,7 @@ refuse-if-requires-4 c κs = search needs
 returns : tie.Need-returns
 unfolding packetRefusal
 returns c =
-    let message = c .before .before in
+    let message = c .before .before .before in
     let equal = message .before in
     let receiver = equal .before in
     let sender = receiver .before .before in

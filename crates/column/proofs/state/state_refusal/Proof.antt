@@ -22,11 +22,15 @@ tests t i c =
     ∷ (4, not (within (join (join (join (c .send) (c .awaited)) (c .owed)) (c .noted)) (t .columns)))
     ∷ (4, has (c .owed) i)
     ∷ (4, eqb i (t .root) && not (c .whole))
+    ∷ (4, leb (t .columns) (c .sender))
     ∷ []
 
 together : (t : Tree) (i : ℕ) (c : Column) → first (tests t i c) ≡ stateRefusal t i c
 unfolding stateRefusal
 together t i c = simp (within-join, cond-and)
+
+cast-sender : tie.Need-cast-sender
+cast-sender c = search needs
 
 refuse-if-requires : tie.Need-refuse-if-requires
 refuse-if-requires c κs = search needs
@@ -46,14 +50,19 @@ refuse-if-requires-3 c κs = search needs
 refuse-if-requires-4 : tie.Need-refuse-if-requires-4
 refuse-if-requires-4 c κs = search needs
 
+refuse-if-requires-5 : tie.Need-refuse-if-requires-5
+refuse-if-requires-5 c κs = search needs
+
 returns : tie.Need-returns
 returns c =
-    let owing = c .before .before .before in
+    let whole = c .before .before in
+    let owing = whole .before .before .before in
     let outside = owing .before .before in
     let beyond = outside .before .before in
-    let a = beyond .before .before .before .before .before .args in
+    let a = beyond .before .before .before .before .before .before .args in
     rw (
-      c .refuse-if4 .ensures,
+      c .refuse-if5 .ensures,
+      whole .refuse-if4 .ensures,
       owing .refuse-if3 .ensures,
       owing .before .has .ensures,
       outside .refuse-if2 .ensures,
@@ -65,10 +74,12 @@ pub state-refusal-spec : {M : Type 1} → statement M
 state-refusal-spec =
     tie.close
     (tie.spec
+    cast-sender
     refuse-if-requires
     within-requires
     refuse-if-requires-2
     has-requires
     refuse-if-requires-3
     refuse-if-requires-4
+    refuse-if-requires-5
     returns)
