@@ -39,7 +39,7 @@ bool bank_at_rest(const struct bank *b);
 uint16_t halted_columns(const struct bank *b);
 
 static inline bool packet_stands(const struct tree *t, uint16_t running, const struct packet *p) {
-    return p->from < t->columns && p->to < t->columns && p->from != p->to && (p->kind != 1 || p->to != t->root || t->watch) && (running >> p->to & 1);
+    return p->from < t->columns && p->to < t->columns && p->from != p->to && (p->kind != MESSAGE || p->to != t->root || t->watch) && (running >> p->to & 1);
 }
 
 /* The packet of a column's step; where it has no place the column is again as it was. */

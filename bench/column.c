@@ -78,7 +78,7 @@ struct packet send_effect(const struct tree *t, size_t i, struct column *c) {
         return (struct packet){0};
     }
     c->awaited |= 1u << k;
-    return (struct packet){1, (uint8_t)i, (uint8_t)k, c->number, c->doors};
+    return (struct packet){MESSAGE, (uint8_t)i, (uint8_t)k, c->number, c->doors};
 }
 
 struct answer send(const struct tree *t, size_t i, struct column *c) {
@@ -95,11 +95,11 @@ struct answer send(const struct tree *t, size_t i, struct column *c) {
 struct packet ack_effect(size_t i, struct column *c) {
     size_t k = lowest(c->owed);
     c->owed &= ~(1u << k);
-    return (struct packet){2, (uint8_t)i, (uint8_t)k, c->number, 0};
+    return (struct packet){ACKNOWLEDGEMENT, (uint8_t)i, (uint8_t)k, c->number, 0};
 }
 
 struct answer take_effect(const struct tree *t, size_t i, struct column *c, struct packet p) {
-    if (p.kind == 2) {
+    if (p.kind == ACKNOWLEDGEMENT) {
         if (p.number == c->number)
             c->awaited &= ~(1u << p.from);
         return refused(0);
@@ -109,7 +109,7 @@ struct answer take_effect(const struct tree *t, size_t i, struct column *c, stru
         return refused(0);
     }
     if (p.number < c->number)
-        return (struct answer){.put = {2, (uint8_t)i, p.from, p.number, 0}};
+        return (struct answer){.put = {ACKNOWLEDGEMENT, (uint8_t)i, p.from, p.number, 0}};
     if (c->owed)
         return (struct answer){.left = true, .put = ack_effect(i, c)};
     c->number = p.number;
@@ -126,7 +126,7 @@ struct answer take(const struct tree *t, size_t i, struct column *c, struct pack
     uint8_t refusal = standing(t, i, c);
     if (refusal)
         return refused(refusal);
-    if (p.from >= t->columns || p.to >= t->columns || p.from == p.to || (p.kind == 1 && p.to == t->root && !t->watch) || p.to != i)
+    if (p.from >= t->columns || p.to >= t->columns || p.from == p.to || (p.kind == MESSAGE && p.to == t->root && !t->watch) || p.to != i)
         return refused(4);
     if (!c->running)
         return refused(5);

@@ -17,17 +17,19 @@ struct tree {
 
 struct column {
     uint64_t doors;
+    uint32_t number;
     uint16_t send, awaited, owed, noted;
-    uint16_t number;
     bool running;
     bool whole;
     uint8_t sender;
 };
 
+enum { NO_PACKET = 0, MESSAGE = 3, ACKNOWLEDGEMENT = 4 };
+
 struct packet {
-    uint8_t kind; /* 0: none, 1: message, 2: acknowledgement */
+    uint8_t kind;
     uint8_t from, to;
-    uint16_t number;
+    uint32_t number;
     uint64_t doors;
 };
 
@@ -78,7 +80,7 @@ static inline uint8_t order_refusal(const struct tree *t, const struct column *c
         return 5;
     if (!idle(c) || (t->watch && c->owed))
         return 7;
-    return c->number == 65535 ? 8 : 0;
+    return c->number == UINT32_MAX ? 8 : 0;
 }
 
 uint8_t tree_refusal(const struct tree *t);

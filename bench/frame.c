@@ -12,11 +12,11 @@ static uint64_t doors_in(const uint8_t *bytes) {
 static size_t read_packet(const uint8_t *bytes, size_t size, struct packet *p) {
     if (size < ACKNOWLEDGEMENT_SIZE)
         return 0;
-    size_t used = bytes[0] == 1 ? MESSAGE_SIZE : bytes[0] == 2 ? ACKNOWLEDGEMENT_SIZE : 0;
+    size_t used = bytes[0] == MESSAGE ? MESSAGE_SIZE : bytes[0] == ACKNOWLEDGEMENT ? ACKNOWLEDGEMENT_SIZE : 0;
     if (used == 0 || size < used || bytes[1] > 15 || bytes[2] > 15 || bytes[1] == bytes[2])
         return 0;
-    uint16_t number = (uint16_t)(bytes[3] << 8 | bytes[4]);
-    *p = (struct packet){bytes[0], bytes[1], bytes[2], number, used == MESSAGE_SIZE ? doors_in(bytes + 5) : 0};
+    uint32_t number = (uint32_t)bytes[3] << 24 | (uint32_t)bytes[4] << 16 | (uint32_t)bytes[5] << 8 | bytes[6];
+    *p = (struct packet){bytes[0], bytes[1], bytes[2], number, used == MESSAGE_SIZE ? doors_in(bytes + ACKNOWLEDGEMENT_SIZE) : 0};
     return used;
 }
 

@@ -3,7 +3,7 @@
 #define FRAME_H
 #include "column.h"
 
-enum { FRAME_PACKETS = 512, MESSAGE_SIZE = 13, ACKNOWLEDGEMENT_SIZE = 5 };
+enum { FRAME_PACKETS = 512, MESSAGE_SIZE = 15, ACKNOWLEDGEMENT_SIZE = 7 };
 
 struct frame {
     size_t count;

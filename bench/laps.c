@@ -21,8 +21,8 @@ static struct column column_lap(char letter, uint64_t lap) {
     switch (letter) {
     case 'o': order(&t, 0, &c, lap); break;
     case 's': c.send = 6; send(&t, 0, &c); break;
-    case 'm': take(&t, 1, &c, (struct packet){1, 0, 1, 1000, lap}); break;
-    case 'e': c.awaited = 6; take(&t, 0, &c, (struct packet){2, 2, 0, c.number, 0}); break;
+    case 'm': take(&t, 1, &c, (struct packet){MESSAGE, 0, 1, 1000, lap}); break;
+    case 'e': c.awaited = 6; take(&t, 0, &c, (struct packet){ACKNOWLEDGEMENT, 2, 0, c.number, 0}); break;
     case 'a': c.owed = 9; ack(&t, 2, &c); break;
     case 'l': c.noted = 1; all(&t, 3, &c); break;
     case 'n': c.awaited = 6; note(&t, 0, &c, 1); break;
@@ -44,7 +44,7 @@ static uint64_t column_laps(char letter, uint64_t laps) {
 /* ---- a frame of 512 messages, in each lap the doors of another one the lap's */
 
 static uint64_t frame_laps(uint64_t laps) {
-    static const uint8_t message[MESSAGE_SIZE] = {1, 0, 1, 1, 2, 1, 2, 3, 4, 5, 6, 7, 8};
+    static const uint8_t message[MESSAGE_SIZE] = {MESSAGE, 0, 1, 1, 2, 3, 4, 1, 2, 3, 4, 5, 6, 7, 8};
     static uint8_t bytes[FRAME_PACKETS * MESSAGE_SIZE];
     static struct frame frame;
     for (size_t i = 0; i < sizeof bytes; i++)

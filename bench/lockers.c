@@ -3,7 +3,7 @@
 #include <string.h>
 #include <unistd.h>
 
-enum { LIMIT = 65536, LONGEST_LIST = 224 };
+enum { LIMIT = 65536, LONGEST_LIST = 229 };
 
 struct cursor {
     const uint8_t *at, *end;

@@ -1,5 +1,5 @@
 #!/usr/bin/env python3
-"""The script program of document 01, with Points 1, 2, 6, 7 and 9 of document 02, written from the papers: sets as sets, packets as tuples, text by patterns. Beside the bank stand the words of
+"""The script program of document 01, with Points 1, 2, 6, 7, 9 and 10 of document 02, written from the papers: sets as sets, packets as tuples, text by patterns. Beside the bank stand the words of
 demand 3 (received, awaits), tracked from the steps and their answers. `tell` is told in words which condition or branch each line met.
 
     python3 tests/model.py < script
@@ -9,7 +9,7 @@ import sys
 
 LIMIT = 65536
 CAPACITY = 512
-HIGHEST = 65535
+HIGHEST = 4294967295
 NUMERAL = r"(0|[1-9][0-9]?)"
 NUMERALS = "({0}(?:,{0})*)".format(NUMERAL.replace("(", "(?:"))
 STEPS = {"order": r"order=([0-9a-f]{16})", "take": r"take=(0|[1-9][0-9]{0,2})", "note": rf"note={NUMERAL},{NUMERAL}", "halt": f"halt={NUMERALS}",

@@ -1,25 +1,37 @@
-"""The readers of packets and of frames of document 02, Point 5, written from the papers. `tell` is told in words which way each frame went. The
-parameters of `Reader` are what the papers say; others make wrong readers."""
+"""The readers of packets and of frames of document 02, Point 5, and the converter of Point 10, written from the papers. `tell` is told in words which
+way each frame went. The parameters of `Reader` and `Converter` are what the papers say; others make wrong ones."""
 from model import Refused, refuse
 
-MESSAGE, ACKNOWLEDGEMENT = 1, 2
+# 'kind 1 .. number (two bytes, high first)'; 'New messages have kind 3 .. new acknowledgements kind 4 .., four bytes of number, high first'
+OLD, NEW = (1, 2, 2), (3, 4, 4)
+
+
+def fields_of(data, sizes, number_bytes, highest=15, order="big"):
+    """The packet at the start, as kind, from, to, number and a message's doors, and how many bytes it used."""
+    size = sizes.get(data[0]) if data else None
+    refuse(12, not size and "no such kind")
+    refuse(12, len(data) < size and f"too few bytes for kind {data[0]}")
+    kind, sender, receiver = data[:3]
+    refuse(12, max(sender, receiver) > highest and "an end above 15")
+    refuse(12, sender == receiver and "equal ends")
+    doors = 3 + number_bytes
+    fields = kind, sender, receiver, int.from_bytes(data[3:doors], order)
+    return (fields + (int.from_bytes(data[doors:doors + 8], "little"),) if kind == min(sizes) else fields), size
+
+
+def sizes_of(width):
+    """'A message is 13 bytes .. An acknowledgement is 5 bytes'; 'New messages have .. 15 bytes, new acknowledgements .. 7 bytes'."""
+    message, acknowledgement, number_bytes = width
+    return {message: 3 + number_bytes + 8, acknowledgement: 3 + number_bytes}
 
 
 class Reader:
-    def __init__(self, message=13, acknowledgement=5, most=512, highest=15, tell=lambda words: None):
-        self.sizes = {MESSAGE: message, ACKNOWLEDGEMENT: acknowledgement}
-        self.most, self.highest, self.tell = most, highest, tell
+    def __init__(self, message=15, acknowledgement=7, most=512, highest=15, order="big", tell=lambda words: None):
+        self.sizes = {NEW[0]: message, NEW[1]: acknowledgement}
+        self.most, self.highest, self.order, self.tell = most, highest, order, tell
 
     def packet(self, data):
-        """The packet at the start, as kind, from, to, number and a message's doors, and how many bytes it used."""
-        size = self.sizes.get(data[0]) if data else None
-        refuse(12, not size and "no such kind")
-        refuse(12, len(data) < size and f"too few bytes for kind {data[0]}")
-        kind, sender, receiver = data[:3]
-        refuse(12, max(sender, receiver) > self.highest and "an end above 15")
-        refuse(12, sender == receiver and "equal ends")
-        fields = kind, sender, receiver, int.from_bytes(data[3:5], "big")
-        return (fields + (int.from_bytes(data[5:13], "little"),) if kind == MESSAGE else fields), size
+        return fields_of(data, self.sizes, NEW[2], self.highest, self.order)
 
     def packets(self, data):
         """'takes packets until the frame ends'."""
@@ -70,13 +82,82 @@ class EmptyRefused(Reader):
         return super().packets(data)
 
 
+class OldKindsRead(Reader):
+    def packet(self, data):
+        if data and data[0] in sizes_of(OLD):
+            return fields_of(data, sizes_of(OLD), OLD[2])
+        return super().packet(data)
+
+
 WRONG = {
     "the last packet dropped": LastDropped(),
     "packets before a bad one yielded": YieldsBeforeBad(),
     "511 the most": Reader(most=511),
     "513 the most": Reader(most=513),
-    "an acknowledgement of thirteen bytes": Reader(acknowledgement=13),
-    "a message of twelve bytes": Reader(message=12),
+    "an acknowledgement of fifteen bytes": Reader(acknowledgement=15),
+    "a message of fourteen bytes": Reader(message=14),
     "column 16 passes": Reader(highest=16),
     "an empty frame refused": EmptyRefused(),
+    "the old kinds read": OldKindsRead(),
+    "a number low first": Reader(order="little"),
+}
+
+
+class Converter:
+    """'A converter, answering as the writer does, turns one packet (any byte after it is 12) of the old kinds into the new and back'."""
+
+    def __init__(self, highest=65535, answered=15, old="big", new="big", after=False, tell=lambda words: None):
+        self.highest, self.answered, self.order, self.after, self.tell = highest, answered, {OLD: old, NEW: new}, after, tell
+
+    def checked(self, data, number):
+        """'18 for narrowing a number above 65,535, after 12'."""
+        refuse(18, number > self.highest and "a number above 65,535")
+
+    def converted(self, data):
+        old = bool(data) and data[0] in OLD[:2]
+        source, target = (OLD, NEW) if old else (NEW, OLD)
+        packet, used = fields_of(data, sizes_of(source), source[2], order=self.order[source])
+        refuse(12, not self.after and len(data) > used and "a byte after the packet")
+        kind, sender, receiver, number, *doors = packet
+        if not old:
+            self.checked(data, number)
+        self.tell(f"{'widened' if old else 'narrowed'} kind {kind}" + (", number 65,535" if number == 65535 else ""))
+        head = bytes([target[source.index(kind)], sender, receiver]) + (number % 256 ** target[2]).to_bytes(target[2], self.order[target])
+        return head + b"".join(word.to_bytes(8, "little") for word in doors)
+
+    def line(self, data):
+        """What the program frames prints: the packet's size or the refusal, and 'fifteen bytes', 'those past the packet 0'."""
+        try:
+            bytes_ = self.converted(data)
+        except Refused as refusal:
+            self.tell(f"refused {refusal}")
+            return f"unconverted={refusal.number} {bytes(self.answered).hex()}"
+        return f"converted={len(bytes_)} {bytes_.ljust(self.answered, bytes(1)).hex()}"
+
+
+class HighBeforeBad(Converter):
+    """18 before 12: the number is looked at first."""
+
+    def converted(self, data):
+        if len(data) >= 7 and data[0] in NEW[:2]:
+            self.checked(data, int.from_bytes(data[3:7], "big"))
+        return super().converted(data)
+
+
+class OnlyWidens(Converter):
+    def converted(self, data):
+        refuse(12, (not data or data[0] not in OLD[:2]) and "no old kind")
+        return super().converted(data)
+
+
+WRONG_CONVERTERS = {
+    "the high bytes dropped": Converter(highest=4294967295),
+    "65,534 the highest": Converter(highest=65534),
+    "65,536 narrowed": Converter(highest=65536),
+    "18 before 12": HighBeforeBad(),
+    "thirteen bytes answered": Converter(answered=13),
+    "a byte after the packet passes": Converter(after=True),
+    "an old number low first": Converter(old="little"),
+    "a new number low first": Converter(new="little"),
+    "a new packet not narrowed": OnlyWidens(),
 }

@@ -363,7 +363,7 @@ EQUAL = [
      "if number >= column.number:\n            column.awaited",
      "an acknowledgement has the number of a message that its receiver sent, and numbers rise"),
     ("no full network", "len(self.network) == CAPACITY", "False", "the fullest network that is known has 420 packets"),
-    ("no highest number", "root.number == HIGHEST", "False", "65,535 orders do not fit into a script"),
+    ("no highest number", "root.number == HIGHEST", "False", "4,294,967,295 orders do not fit into a script"),
     ("those noted are asked before itself", "if c == i:\n            self.tell(\"send to itself\")\n        elif c in column.noted:",
      "if c == i and c not in column.noted:\n            pass\n        elif c in column.noted:", "nobody notes itself"),
     ("an order clears those owed", "root.doors = doors", "root.doors, root.owed = doors, set()", "a root that owes is given no order"),

@@ -1,4 +1,5 @@
-"""The frame reader beside the model of tests/model_frames.py: random frames with bytes dropped, doubled and changed, and document 02's limits."""
+"""The frame reader and the converter beside the models of tests/model_frames.py: random frames with bytes dropped, doubled and changed, random packets
+of both widths, and document 02's limits."""
 import collections
 import os
 import random
@@ -12,22 +13,31 @@ PROGRAM = os.path.join(ROOT, "target", "bin", "frames")
 LIMIT = 65536
 SEEDS = (1, 2, 3)
 FRAMES = 3000
+PACKETS = 3000
 LEAST = 10
-TOLD = ["accepted", "accepted, empty", "accepted, 512 packets", "bad at the start", "bad after packets",
-        *(f"refused 12: {words}" for words in ("no such kind", "too few bytes for kind 1", "too few bytes for kind 2", "an end above 15", "equal ends",
-                                               "more than 512 packets"))]
+REFUSED = [f"refused 12: {words}" for words in ("no such kind", "too few bytes for kind 3", "too few bytes for kind 4", "an end above 15", "equal ends")]
+TOLD = ["accepted", "accepted, empty", "accepted, 512 packets", "bad at the start", "bad after packets", *REFUSED, "refused 12: more than 512 packets"]
+CONVERTED = ["widened kind 1", "widened kind 2", "narrowed kind 3", "narrowed kind 4", "widened kind 1, number 65,535", "widened kind 2, number 65,535",
+             "narrowed kind 3, number 65,535", "narrowed kind 4, number 65,535", *REFUSED, "refused 12: too few bytes for kind 1",
+             "refused 12: too few bytes for kind 2", "refused 12: a byte after the packet", "refused 18: a number above 65,535"]
 
 
-def packet(rng):
+def number(rng, size):
+    """A number of so many bytes, often one at which the answers change."""
+    return rng.choice((0, 1, 65534, 65535, 65536, 256 ** size - 1, rng.randrange(256 ** size), rng.randrange(65536))) % 256 ** size
+
+
+def packet(rng, width=model_frames.NEW):
     sender, receiver = rng.sample(range(16), 2)
-    head = bytes([sender, receiver]) + rng.randrange(65536).to_bytes(2, "big")
-    return b"\1" + head + rng.randbytes(8) if rng.random() < 0.5 else b"\2" + head
+    message, acknowledgement, size = width
+    head = bytes([sender, receiver]) + number(rng, size).to_bytes(size, "big")
+    return bytes([message]) + head + rng.randbytes(8) if rng.random() < 0.5 else bytes([acknowledgement]) + head
 
 
 def run_of_bytes(rng, frame):
     """Where a run of bytes begins and ends, as many as a packet has or fewer."""
     at = rng.randrange(len(frame))
-    return at, min(len(frame), at + rng.choice((1, 2, 5, 8, 13)))
+    return at, min(len(frame), at + rng.choice((1, 2, 7, 8, 15)))
 
 
 def dropped(rng, frame):
@@ -42,7 +52,7 @@ def doubled(rng, frame):
 
 def changed(rng, frame):
     at = rng.randrange(len(frame))
-    return frame[:at] + bytes([rng.choice((0, 1, 2, 3, 15, 16, rng.randrange(256)))]) + frame[at + 1:]
+    return frame[:at] + bytes([rng.choice((0, 1, 2, 3, 4, 5, 15, 16, rng.randrange(256)))]) + frame[at + 1:]
 
 
 def cut(rng, frame):
@@ -57,15 +67,34 @@ DAMAGES = [whole, dropped, doubled, changed, cut]
 
 
 def random_frame(rng):
-    """A frame of a few packets, or of about 512; and what was done to it."""
+    """A frame of a few packets, or of about 512, a few of them with one of the old kinds among them; and what was done to it."""
     count = rng.randrange(12) if rng.random() < 0.9 else rng.choice((510, 511, 512, 512, 513, 514))
-    frame = b"".join(packet(rng) for _ in range(count))
+    found = [packet(rng) for _ in range(count)]
+    if rng.random() < 0.1:
+        found.insert(rng.randrange(len(found) + 1), packet(rng, model_frames.OLD))
+    frame = b"".join(found)
     damage = rng.choice(DAMAGES) if frame else whole
     return damage.__name__, damage(rng, frame)
 
 
+def ends_changed(rng, data):
+    at = rng.choice((1, 2))
+    return data[:at] + bytes([rng.choice((data[3 - at], 16, 15, 255))]) + data[at + 1:]
+
+
+def lengthened(rng, data):
+    return data + rng.randbytes(rng.choice((1, 1, 2, 8)))
+
+
+def random_packet(rng):
+    """One packet of either width, or what was made of it."""
+    whole_packet = packet(rng, rng.choice((model_frames.OLD, model_frames.NEW)))
+    return rng.choice((whole, whole, whole, lengthened, cut, changed, ends_changed))(rng, whole_packet)
+
+
 def printed(frames):
-    """What the program prints for the frames, after what it prints for none; as many of them at a time as it reads."""
+    """The two lines that the program prints for each frame, what it reads as and what it is converted into, after what it prints for none; as many of
+    them at a time as it reads."""
     edges = subprocess.run([PROGRAM], input=b"", capture_output=True, check=True).stdout.decode().splitlines()
     lines, batch = [], b""
     for frame in frames + [None]:
@@ -76,7 +105,7 @@ def printed(frames):
             batch = b""
         if frame is not None:
             batch += len(frame).to_bytes(2, "big") + frame
-    return lines
+    return lines[::2], lines[1::2]
 
 
 class Frames(unittest.TestCase):
@@ -86,7 +115,7 @@ class Frames(unittest.TestCase):
             made = [random_frame(rng) for _ in range(FRAMES)]
             met = collections.Counter()
             reader = model_frames.Reader(tell=lambda words: met.update([words]))
-            lines = printed([frame for _, frame in made])
+            lines, _ = printed([frame for _, frame in made])
             self.assertEqual(len(lines), FRAMES)
             for (damage, frame), line in zip(made, lines):
                 self.assertEqual(line, reader.line(frame), frame.hex())
@@ -96,14 +125,45 @@ class Frames(unittest.TestCase):
             for name, wrong in model_frames.WRONG.items():
                 self.assertTrue(any(wrong.line(frame) != line for (_, frame), line in zip(made, lines)), f"seed {seed}: {name}")
 
+    def test_random_packets_of_both_widths_are_converted_as_the_model_does(self):
+        for seed in SEEDS:
+            rng = random.Random(seed)
+            made = [random_packet(rng) for _ in range(PACKETS)]
+            met = collections.Counter()
+            model = model_frames.Converter(tell=lambda words: met.update([words]))
+            _, lines = printed(made)
+            self.assertEqual(lines, [model.line(data) for data in made])
+            self.assertEqual({words: met[words] for words in CONVERTED if met[words] < LEAST}, {}, f"seed {seed}")
+            for name, wrong in model_frames.WRONG_CONVERTERS.items():
+                self.assertTrue(any(wrong.line(data) != line for data, line in zip(made, lines)), f"seed {seed}: {name}")
+
+    def test_what_is_converted_is_converted_back(self):
+        """'What the converter widens, it narrows to the same bytes', and the other way round where it is not refused."""
+        rng = random.Random(4)
+        made = [random_packet(rng) for _ in range(PACKETS)]
+        accepted = [(data, line.split()) for data, line in zip(made, printed(made)[1]) if line.startswith("converted=")]
+        self.assertGreater(len(accepted), PACKETS // 4)
+        back = printed([bytes.fromhex(digits)[:int(size[len("converted="):])] for _, (size, digits) in accepted])[1]
+        self.assertEqual(back, [f"converted={len(data)} {data.ljust(15, bytes(1)).hex()}" for data, _ in accepted])
+
+    def test_every_kind_length_end_and_telling_number_is_converted_as_the_model_does(self):
+        made = []
+        for kind in range(7):
+            for size in (2, 4):
+                for ends in (b"\0\1", b"\17\0", b"\1\1", b"\20\0", b"\0\20"):
+                    for told in (0, 255, 256, 65535, 65536, 65537, 4294967295):
+                        data = bytes([kind]) + ends + (told % 256 ** size).to_bytes(size, "big") + bytes(range(1, 14))
+                        made += [data[:length] for length in range(18)]
+        self.assertEqual(printed(made)[1], [model_frames.Converter().line(data) for data in made])
+
     def test_every_short_frame_of_few_values(self):
-        """Frames of up to five bytes 0, 1, 2 and 16, and acknowledgements of these with a byte more."""
-        values = (0, 1, 2, 16)
+        """Frames of up to five bytes 0, 2, 4 and 16, and acknowledgements of these with two and three bytes more."""
+        values = (0, 2, 4, 16)
         frames = [b""]
         for length in range(1, 6):
             frames += [bytes(values[n // 4 ** k % 4] for k in range(length)) for n in range(4 ** length)]
-        frames += [frame + b"\1" for frame in frames if len(frame) == 5 and frame[0] == 2]
-        self.assertEqual(printed(frames), [model_frames.Reader().line(frame) for frame in frames])
+        frames += [frame + more for frame in frames if len(frame) == 5 and frame[0] == 4 for more in (b"\0\1", b"\0\1\4")]
+        self.assertEqual(printed(frames), ([model_frames.Reader().line(frame) for frame in frames], [model_frames.Converter().line(frame) for frame in frames]))
 
     def test_the_limits_are_in_the_stored_output(self):
         with open(os.path.join(ROOT, "crates", "frames", "stdout"), encoding="utf8") as file:
@@ -113,8 +173,9 @@ class Frames(unittest.TestCase):
         for name, answer in stored.items():
             if answer.startswith("refused"):
                 self.assertEqual(answer, "refused=12 filled=0", name)
-        for name in ("513 messages", "513 acknowledgements", "512 messages and a byte", "512 messages, the last of 12 bytes",
-                     "three messages, the second of kind 3"):
+        for name in ("513 messages", "513 acknowledgements", "512 messages and a byte", "512 messages, the last of 14 bytes",
+                     "three messages, the second of kind 5", "a message of kind 1", "an acknowledgement of kind 2",
+                     "three messages, the second of kind 1", "three acknowledgements, the last of kind 2"):
             self.assertEqual(stored[name], "refused=12 filled=0", name)
 
 

@@ -16,10 +16,10 @@ def occupied(doors):
 def packet(data):
     """Kind, from, to, number and doors of the packet at the start, and the bytes after it."""
     kind, sender, receiver = data[0], data[1], data[2]
-    size = {1: 13, 2: 5}[kind]
+    size, doors = {1: (13, 5), 2: (5, 5), 3: (15, 7), 4: (7, 7)}[kind]
     assert size <= len(data), data
     assert sender < 16 and receiver < 16 and sender != receiver, data
-    return (kind, sender, receiver, int.from_bytes(data[3:5], "big"), occupied(data[5:13]) if kind == 1 else None), data[size:]
+    return (kind, sender, receiver, int.from_bytes(data[3:doors], "big"), occupied(data[doors:size]) if kind % 2 else None), data[size:]
 
 
 def packets(frame):
@@ -66,7 +66,7 @@ class Pair(unittest.TestCase):
 
     def test_two_messages_down_in_one_frame_and_two_acknowledgements_up_in_one(self):
         frames = [packets(bytes.fromhex(value)) for key, value in self.exchange if key == "frame"]
-        self.assertEqual(frames, [[(1, 0, 1, 1, DOORS), (1, 0, 2, 1, DOORS)], [(2, 1, 0, 1, None), (2, 2, 0, 1, None)]])
+        self.assertEqual(frames, [[(3, 0, 1, 1, DOORS), (3, 0, 2, 1, DOORS)], [(4, 1, 0, 1, None), (4, 2, 0, 1, None)]])
 
     def test_every_column_holds_the_order_and_awaits_nobody(self):
         values = {key: [value for k, value in self.exchange if k == key] for key in ("column", "number", "doors", "awaited")}
@@ -74,6 +74,21 @@ class Pair(unittest.TestCase):
         self.assertEqual(values["number"], ["1", "1", "1"])
         self.assertEqual([occupied(bytes.fromhex(doors)) for doors in values["doors"]], [DOORS] * 3)
         self.assertEqual(values["awaited"], ["", "", ""])
+
+    def test_the_old_kinds_go_over_the_line_of_an_old_end(self):
+        """Order 65,535 and its acknowledgement, each as it is written, as it goes over the line and as it is on the other side; then 65,536, which is 18."""
+        said = [(key, value) for key, value in self.exchange if key in ("new", "old", "held", "refused")]
+        packet_of = lambda value: packets(bytes.fromhex(value))
+        self.assertEqual([(key, packet_of(value)) for key, value in said[:6]],
+                         [(key, [(kind, *fields)])
+                          for fields, kinds in (((0, 1, 65535, {1}), (3, 1)), ((1, 0, 65535, None), (4, 2)))
+                          for key, kind in (("new", kinds[0]), ("old", kinds[1]), ("new", kinds[0]))])
+        self.assertEqual(said[0], said[2])
+        self.assertEqual(said[3], said[5])
+        self.assertEqual(said[6:8], [("held", "65535"), ("held", "65535")])
+        self.assertEqual((said[8][0], packet_of(said[8][1])), ("new", [(3, 0, 1, 65536, {1})]))
+        self.assertEqual(said[9], ("refused", "18"))
+        self.assertEqual(said[-2:], [("held", "65536"), ("held", "0")])
 
     def test_children_and_subtrees_follow_from_the_parents(self):
         tree = Tree(2, [int(parent) for parent in re.findall(r" up=(\d+)", "\n".join(self.tree))])

@@ -14,8 +14,7 @@ use Rattle.column.specs.RefusalLaws.{passed, earlier-none}
 use Rattle.column.specs.Sets.{single, insert, without, lowest}
 use Rattle.column.specs.Trees.{children}
 use Rattle.column.specs.Columns.{withSets}
-use Rattle.column.specs.Packets.{receiver}
-use Rattle.column.specs.PacketLaws.{numberOf}
+use Rattle.column.specs.Packets.{receiver, numberOf}
 use Rattle.column.specs.StateLaws.{Acceptable, acceptable}
 use Rattle.column.specs.Steps as core
 use Rattle.column.specs.Steps.{takeRefusal, messageEffect, receiveEffect, acknowledgementEffect, haltRefusal, haltEffect}

@@ -10,8 +10,7 @@ use native.Mathlib.Numerals.{add-one}
 use lib.Dec.{eqb}
 use lib.ListN.{length, getD, set, take, drop, length-take, length-set}
 use lib.Seq.{take-suc-set, getD-take, length-take-le}
-use Rattle.column.specs.Packets.{receiver}
-use Rattle.column.specs.PacketLaws.{doorsOf}
+use Rattle.column.specs.Packets.{receiver, doorsOf}
 use Rattle.column.specs.declared.packet.Packet.{Packet}
 use Rattle.bank.specs.Words.{headOf, packetOf, receiverIn}
 use Rattle.bank.specs.WordLaws.{HeadFits, packet-words, receiver-of}

@@ -5,8 +5,7 @@ use mathlib.Core.Bool.{Bool, not, cond}
 use mathlib.Core.List.{List, [], _∷_}
 use lib.Dec.{eqb}
 use lib.ListN.{length, set, take}
-use Rattle.column.specs.Packets.{receiver}
-use Rattle.column.specs.PacketLaws.{doorsOf}
+use Rattle.column.specs.Packets.{receiver, doorsOf}
 use Rattle.column.specs.declared.packet.Packet.{Packet}
 use Rattle.bank.specs.Words.{headOf, receiverIn}
 use Rattle.bank.specs.Lists.{closedUp, keeping, padded, partly}

@@ -6,8 +6,7 @@ use mathlib.Core.Bool.{Bool, true, false, cond}
 use native.Mathlib.Omega.{arith}
 use lib.Dec.{ltb}
 use borrow.Author.Tests.{lt-ltb, le-ltb, ltb-true, ltb-false}
-use Rattle.column.specs.Packets.{isMessage, sender, receiver}
-use Rattle.column.specs.PacketLaws.{numberOf, doorsOf}
+use Rattle.column.specs.Packets.{isMessage, sender, receiver, numberOf, doorsOf}
 use Rattle.column.specs.declared.packet.Packet.{Packet}
 use Rattle.column.specs.declared.packet.Packet.the-variants.{Message, Acknowledgement}
 use Rattle.bank.specs.Words.{numbers, ends, acknowledging, placed, headOf, numberIn, receiverIn, senderIn, packetOf}

@@ -3,19 +3,20 @@
 use Prim.Native.Nat.{ℕ, _+_, _*_, _/_, _%_}
 use mathlib.Core.Bool.{cond}
 use lib.Dec.{ltb}
+use Rattle.column.specs.Columns.{highest}
 use Rattle.column.specs.declared.packet.Packet.{Packet}
 use Rattle.column.specs.declared.packet.Packet.the-variants.{Message, Acknowledgement}
 
 -- how many numbers, ends and pairs of ends a head tells apart: the factors of its parts
 abbrev pub numbers : ℕ
-numbers = 65536
+numbers = highest + 1
 
 abbrev pub ends : ℕ
 ends = 256
 
--- the lowest head of an acknowledgement: numbers * ends * ends
+-- the lowest head of an acknowledgement
 abbrev pub acknowledging : ℕ
-acknowledging = 4294967296
+acknowledging = numbers * ends * ends
 
 abbrev pub placed : ℕ → ℕ → ℕ → ℕ
 placed from to number = (from * ends + to) * numbers + number

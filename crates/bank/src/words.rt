@@ -1,16 +1,17 @@
 // A packet as two words of the network: a head with the kind, the ends and the number, and the doors.
+use column::packet::HIGHEST;
 use column::packet::Number;
 use column::packet::Packet;
 ghost use mathlib.Core.Path.{_≡_};
-ghost use Rattle.column.specs.PacketLaws.{doorsOf};
+ghost use Rattle.column.specs.Packets.{doorsOf};
 ghost use Rattle.bank.specs.Words.{placed, headOf, packetOf, receiverIn, senderIn};
 
 // The factors of a head's parts.
-pub const NUMBERS: u64 = 65536;
+pub const NUMBERS: u64 = HIGHEST as u64 + 1;
 
 pub const ENDS: u64 = 256;
 
-pub const ACKNOWLEDGING: u64 = 4294967296;
+pub const ACKNOWLEDGING: u64 = NUMBERS * ENDS * ENDS;
 
 fn placed(from: u8, to: u8, number: Number) -> u64
     ensures { λ r. ⌜ r ≡ placed from to number ⌝ }

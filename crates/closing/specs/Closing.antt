@@ -15,6 +15,10 @@ use Rattle.closing.specs.Text.{columnKey, numberKey, occupiedKey, doorsK
 use Rattle.closing.specs.declared.list.Listing.{Listing}
 use Rattle.closing.specs.declared.list.Listing.the-variants.{Length, Refused}
 
+-- "the longest list is 229"
+abbrev pub longestList : ℕ
+longestList = 229
+
 -- "Doors rise": the occupied doors among 1 to n
 unfoldable pub doorsUpTo : ℕ → ℕ → List ℕ
 doorsUpTo zero doors = []

@@ -12,6 +12,7 @@ use lib.ListN.{length, take, drop, length-take, length-drop, length-append, take
 use borrow.Author.Tests.{leb-true, leb-false, le-leb, lt-leb}
 use Rattle.column.specs.Cases.{truth}
 use Rattle.column.specs.Refusals.{first}
+use Rattle.column.specs.Columns.{highest}
 use Rattle.column.specs.RefusalLaws.{earlier-none}
 use Rattle.column.specs.TreeLaws.{tree-sixteen}
 use Rattle.column.specs.declared.state.Column.{Column}
@@ -21,17 +22,17 @@ use Rattle.closing.specs.Text.{columnKey, numberKey, occupiedKey, doorsK
 use Rattle.closing.specs.DecimalLaws.{decimal-length}
 use Rattle.closing.specs.DoorLaws.{doors-length}
 use Rattle.closing.specs.Writing.{written-part}
-use Rattle.closing.specs.Closing.{doorsUpTo, moreDivided, divided, listText, listRefusal, Listed, placed}
+use Rattle.closing.specs.Closing.{longestList, doorsUpTo, moreDivided, divided, listText, listRefusal, Listed, placed}
 
--- "The longest list is 224 bytes": two digits of the column, five of the number, two of the count, and all doors
-pub list-longest : (i : ℕ) (c : Column) → i < 16 → c .number < 65536 → c .doors < 2 ^ 64 → length (listText i c) ≤ 224
+-- "the longest list is 229": two digits of the column, ten of the number, two of the count, and all doors
+pub list-longest : (i : ℕ) (c : Column) → i < 16 → c .number ≤ highest → c .doors < 2 ^ 64 → length (listText i c) ≤ longestList
 unfolding listText
 list-longest i c h n d =
     simp length-append
     (omega (
       arith,
       decimal-length 20 1 i (omega arith),
-      decimal-length 20 4 (c .number) (omega arith),
+      decimal-length 20 9 (c .number) (omega arith),
       decimal-length 20 1 (ones (c .doors)) (omega (arith, ones-le 64 (c .doors) d)),
       doors-length (c .doors) 64 (omega arith),
     ))
@@ -101,15 +102,15 @@ list-of-none = refl
 abbrev longest : ℕ → List ℕ
 longest count =
     field columnKey 10
-    ++ (field numberKey 65535
+    ++ (field numberKey highest
     ++ (field occupiedKey count
     ++ (doorsKey ++ (divided (doorsUpTo 64 (2 ^ 64 - 1)) ++ (newline ∷ [])))))
 
-longest-length : length (longest 64) ≡ 224
+longest-length : length (longest 64) ≡ longestList
 unfolding doorsUpTo divided moreDivided decimalIn
 longest-length = refl
 
 -- one of the longest
-pub list-of-all : length (listText 10 (holding 65535 (2 ^ 64 - 1))) ≡ 224
+pub list-of-all : length (listText 10 (holding highest (2 ^ 64 - 1))) ≡ longestList
 unfolding listText
 list-of-all = ap (λ count. length (longest count)) (ones-ones 64) ∙ longest-length

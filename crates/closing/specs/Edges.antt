@@ -51,9 +51,9 @@ messageTo number sent =
     (record { running = true; number = number; doors = 7; send = 0; awaited = 0; owed = 0; noted = 0; whole = false; sender = 0 }))
     (Message 0 1 sent 9)
 
--- a message's thirteen bytes: 0 to 1, number 258, doors bytes 1 to 8
-abbrev thirteen : List ℕ
-thirteen = 1 ∷ 0 ∷ 1 ∷ 1 ∷ 2 ∷ 1 ∷ 2 ∷ 3 ∷ 4 ∷ 5 ∷ 6 ∷ 7 ∷ 8 ∷ []
+-- a message's fifteen bytes: 0 to 1, number 16,909,060, doors bytes 1 to 8
+abbrev fifteen : List ℕ
+fifteen = 3 ∷ 0 ∷ 1 ∷ 1 ∷ 2 ∷ 3 ∷ 4 ∷ 1 ∷ 2 ∷ 3 ∷ 4 ∷ 5 ∷ 6 ∷ 7 ∷ 8 ∷ []
 
 -- ---- the table
 
@@ -87,16 +87,17 @@ Says two-orders = recordOf (perform (after (perform (freshState one) (Order 5)))
 Says second-order =
     let s = after (perform (freshState two) (Order 5)) in
     perform s (Order 6) ≡ bank.refused 7 s
--- "number 65,534 admits an order, 65,535 doesn't"
+-- "number 65,534 admits an order, 65,535 doesn't", moved "to the new limit"
 Says highest-number =
-    (recordOf (perform (rootAt 65534) (Order 6)) 0 ≡ (65535, 6)) × (perform (rootAt 65535) (Order 6) ≡ bank.refused 8 (rootAt 65535))
+    (recordOf (perform (rootAt 4294967294) (Order 6)) 0 ≡ (4294967295, 6))
+    × (perform (rootAt 4294967295) (Order 6) ≡ bank.refused 8 (rootAt 4294967295))
 -- "doors byte 7 = 128 is door 64"
 Says last-door =
     let doors : List ℕ = 0 ∷ 0 ∷ 0 ∷ 0 ∷ 0 ∷ 0 ∷ 0 ∷ 128 ∷ [] in
     (packets.occupied doors 64 ≡ true) × (packets.occupied doors 63 ≡ false) × (packets.occupied doors 1 ≡ false)
--- "message of 13 bytes read, 12 refused"
+-- "message of 13 bytes read, 12 refused", moved "to the new .. size"
 Says message-bytes =
-    (packets.read thirteen ≡ given (packets.part (Message 0 1 258 578437695752307201) 13)) × (packets.read (take 12 thirteen) ≡ refused 12)
+    (packets.read fifteen ≡ given (packets.part (Message 0 1 16909060 578437695752307201) 15)) × (packets.read (take 14 fifteen) ≡ refused 12)
 -- "take of an equal number adds to those owed"
 Says equal-number =
     columnAt (after (perform (messageTo 4 4) (Take 0)) .bank) 1
@@ -107,7 +108,7 @@ Says lower-number =
     (s .bank .count ≡ 1) × (packetAt s 0 ≡ Acknowledgement 1 0 3)
 
 pub every-case : (c : Case) → Says c
-unfolding allDigits valueFrom leadingZero numeral startsWith afterKey withFirst cut longer pieces withNumber numerals numeralIn numbersIn listedLine sequenceIn sequenceLine watchLine withWatch furtherIn joined thirdLine secondLine firstLine tableRefusal judged every climbsIn treeRefusal selected trailingZeros stateRefusal packetOf closedUp places freshPlace bankRefusal put puts perform fitting acted delivered core.orderRefusal core.packetRefusal core.takeRefusal core.orderEffect core.receiveEffect core.messageEffect packets.read packets.lowValue
+unfolding allDigits valueFrom leadingZero numeral startsWith afterKey withFirst cut longer pieces withNumber numerals numeralIn numbersIn listedLine sequenceIn sequenceLine watchLine withWatch furtherIn joined thirdLine secondLine firstLine tableRefusal judged every climbsIn treeRefusal selected trailingZeros stateRefusal packetOf closedUp places freshPlace bankRefusal put puts perform fitting acted delivered core.orderRefusal core.packetRefusal core.takeRefusal core.orderEffect core.receiveEffect core.messageEffect packets.lowValue packets.readIn
 every-case table-of-one = refl
 every-case cycle = refl
 every-case fresh-bank = fresh-rests

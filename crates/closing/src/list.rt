@@ -10,10 +10,13 @@ ghost use mathlib.Core.Path.{_≡_};
 ghost use lib.Dec.{eqb};
 ghost use lib.ListN.{length};
 ghost use Rattle.bank.specs.Banks.{state};
-ghost use Rattle.closing.specs.Closing.{doorsUpTo, divided, listText, listed, placed, RefusesListing};
+ghost use Rattle.closing.specs.Closing.{longestList, doorsUpTo, divided, listText, listed, placed, RefusesListing};
 ghost use Rattle.closing.specs.Closing.{list as Closing·list};
 ghost use Rattle.closing.specs.DoorLaws.{doorText};
 ghost use Rattle.closing.specs.Writing.{Writes};
+
+// "The longest list is 229."
+pub const LONGEST: usize = 229;
 
 pub enum Listing {
     // The bytes that the list takes.
@@ -47,7 +50,7 @@ fn put_doors(out: &mut [u8], at: usize, doors: u64) -> usize
 
 // The four lines, at the start of what is lent.
 pub(crate) fn put_list(out: &mut [u8], i: usize, c: Column) -> usize
-    requires { ⌜ (i < 16) × (224 ≤ length (now out)) ⌝ }
+    requires { ⌜ (i < 16) × (longestList ≤ length (now out)) ⌝ }
     ensures { λ r. ⌜ Writes r (now (out .exit)) (now (out .entry)) 0 (listText i c) ⌝ }
 {
     let number = put_field(out, 0, b"column=", i as u64);
@@ -63,7 +66,7 @@ fn write_list(i: usize, c: Column, out: &mut [u8]) -> Listing
     requires { ⌜ i < 16 ⌝ }
     ensures { λ r. ⌜ listed r (now (out .exit)) ≡ placed (now (out .entry)) 0 (listText i c) ⌝ }
 {
-    let mut scratch = [0u8; 224];
+    let mut scratch = [0u8; LONGEST];
     let n = put_list(&mut scratch, i, c);
     if out.len() < n {
         return Listing::Refused(11);

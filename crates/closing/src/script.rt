@@ -2,6 +2,7 @@
 // their order, as they come or some together, so that no buffer bounds what a script prints.
 use crate::line::Line;
 use crate::line::parse;
+use crate::list::LONGEST;
 use crate::list::list_refusal;
 use crate::list::put_list;
 use crate::table::read_table;
@@ -23,6 +24,7 @@ ghost use mathlib.Core.Path.{_≡_};
 ghost use lib.ListN.{length};
 ghost use Rattle.bank.specs.Banks.{state};
 ghost use Rattle.bank.specs.Performs.{perform};
+ghost use Rattle.closing.specs.Closing.{longestList};
 ghost use Rattle.closing.specs.Lines.{commandOf};
 ghost use Rattle.closing.specs.Scripts.{refusedText, stepsText, restText, answered};
 ghost use Rattle.closing.specs.Advances.{progressOf, startRun, Advanced, laterAdvance, advance};
@@ -58,14 +60,14 @@ fn run_to(bank: Bank, position: usize, over: bool, length: usize) -> Run
 }
 
 fn put_refused(out: &mut [u8], n: u8) -> usize
-    requires { ⌜ 224 ≤ length (now out) ⌝ }
+    requires { ⌜ longestList ≤ length (now out) ⌝ }
     ensures { λ r. ⌜ Writes r (now (out .exit)) (now (out .entry)) 0 (refusedText n) ⌝ }
 {
     put_field(out, 0, b"refused=", n as u64)
 }
 
 fn put_rest(b: Bank, heads: &[u64; 512], doors: &[u64; 512], out: &mut [u8]) -> usize
-    requires { ⌜ 224 ≤ length (now out) ⌝ }
+    requires { ⌜ longestList ≤ length (now out) ⌝ }
     ensures { λ r. ⌜ Writes r (now (out .exit)) (now (out .entry)) 0 (restText (state b (now (heads .entry)) (now (doors .entry)))) ⌝ }
 {
     if at_rest(b, heads, doors) {
@@ -75,7 +77,7 @@ fn put_rest(b: Bank, heads: &[u64; 512], doors: &[u64; 512], out: &mut [u8]) -> 
 }
 
 fn put_step(answer: Answer, out: &mut [u8]) -> usize
-    requires { ⌜ 224 ≤ length (now out) ⌝ }
+    requires { ⌜ longestList ≤ length (now out) ⌝ }
     ensures { λ r. ⌜ WritesStep r (now (out .exit)) (now (out .entry)) answer ⌝ }
 {
     match answer {
@@ -85,7 +87,7 @@ fn put_step(answer: Answer, out: &mut [u8]) -> usize
 }
 
 fn put_steps(steps: usize, out: &mut [u8]) -> usize
-    requires { ⌜ 224 ≤ length (now out) ⌝ }
+    requires { ⌜ longestList ≤ length (now out) ⌝ }
     ensures { λ r. ⌜ Writes r (now (out .exit)) (now (out .entry)) 0 (stepsText steps) ⌝ }
 {
     let end = put_field(out, 0, b"steps=", steps as u64);
@@ -93,7 +95,7 @@ fn put_steps(steps: usize, out: &mut [u8]) -> usize
 }
 
 fn put_dispatched(answer: Answer, steps: usize, out: &mut [u8]) -> usize
-    requires { ⌜ 224 ≤ length (now out) ⌝ }
+    requires { ⌜ longestList ≤ length (now out) ⌝ }
     ensures { λ r. ⌜ WritesDispatch r (now (out .exit)) (now (out .entry)) steps answer ⌝ }
 {
     match answer {
@@ -103,7 +105,7 @@ fn put_dispatched(answer: Answer, steps: usize, out: &mut [u8]) -> usize
 }
 
 fn put_listed(b: Bank, i: usize, heads: &[u64; 512], out: &mut [u8]) -> usize
-    requires { ⌜ 224 ≤ length (now out) ⌝ }
+    requires { ⌜ longestList ≤ length (now out) ⌝ }
     ensures { λ r. ⌜ WritesListed r (now (out .exit)) (now (out .entry)) b (now (heads .entry)) i ⌝ }
 {
     let n = list_refusal(b, i, heads);
@@ -122,7 +124,7 @@ fn perform_line(
     doors: &mut [u64; 512],
     out: &mut [u8],
 ) -> Run
-    requires { ⌜ 224 ≤ length (now out) ⌝ }
+    requires { ⌜ longestList ≤ length (now out) ⌝ }
     ensures { λ r. ⌜ Advanced r (now (heads .exit)) (now (doors .exit)) (now (out .exit)) (now (out .entry)) (stepReplied next (perform (state b (now (heads .entry)) (now (doors .entry))) x)) ⌝ }
 {
     let done = perform(b, x, heads, doors);
@@ -139,7 +141,7 @@ fn dispatch_line(
     doors: &mut [u64; 512],
     out: &mut [u8],
 ) -> Run
-    requires { ⌜ 224 ≤ length (now out) ⌝ }
+    requires { ⌜ longestList ≤ length (now out) ⌝ }
     ensures { λ r. ⌜ Advanced r (now (heads .exit)) (now (doors .exit)) (now (out .exit)) (now (out .entry)) (dispatchReplied next limit (state b (now (heads .entry)) (now (doors .entry)))) ⌝ }
 {
     let done = dispatch(b, limit, heads, doors);
@@ -156,7 +158,7 @@ fn answer_line(
     doors: &mut [u64; 512],
     out: &mut [u8],
 ) -> Run
-    requires { ⌜ 224 ≤ length (now out) ⌝ }
+    requires { ⌜ longestList ≤ length (now out) ⌝ }
     ensures { λ r. ⌜ Advanced r (now (heads .exit)) (now (doors .exit)) (now (out .exit)) (now (out .entry)) (replied next (answered (state b (now (heads .entry)) (now (doors .entry))) (commandOf (now (line .entry))))) ⌝ }
 {
     match parse(line) {
@@ -181,7 +183,7 @@ fn next_line(
     doors: &mut [u64; 512],
     out: &mut [u8],
 ) -> Run
-    requires { ⌜ (224 ≤ length (now out)) × (r .position < length (now input)) ⌝ }
+    requires { ⌜ (longestList ≤ length (now out)) × (r .position < length (now input)) ⌝ }
     ensures { λ q. ⌜ Advanced q (now (heads .exit)) (now (doors .exit)) (now (out .exit)) (now (out .entry)) (nextLine (now (input .entry)) (progressOf r (now (heads .entry)) (now (doors .entry)) (now (out .entry)))) ⌝ }
 {
     let start = r.position;
@@ -201,7 +203,7 @@ fn later(
     doors: &mut [u64; 512],
     out: &mut [u8],
 ) -> Run
-    requires { ⌜ 224 ≤ length (now out) ⌝ }
+    requires { ⌜ longestList ≤ length (now out) ⌝ }
     ensures { λ q. ⌜ Advanced q (now (heads .exit)) (now (doors .exit)) (now (out .exit)) (now (out .entry)) (laterAdvance (now (input .entry)) (progressOf r (now (heads .entry)) (now (doors .entry)) (now (out .entry)))) ⌝ }
 {
     if input.len() <= r.position {
@@ -212,7 +214,7 @@ fn later(
 }
 
 fn first(r: Run, input: &[u8], out: &mut [u8]) -> Run
-    requires { ⌜ 224 ≤ length (now out) ⌝ }
+    requires { ⌜ longestList ≤ length (now out) ⌝ }
     ensures { λ q. ⌜ AdvancedFirst q (now (out .exit)) (now (out .entry)) (now (input .entry)) r ⌝ }
 {
     if LIMIT < input.len() {
@@ -263,10 +265,10 @@ pub fn advance(
     input: &[u8],
     heads: &mut [u64; 512],
     doors: &mut [u64; 512],
-    out: &mut [u8; 224],
+    out: &mut [u8; LONGEST],
 ) -> Run
     ensures { λ q. ⌜ Advanced q (now (heads .exit)) (now (doors .exit)) (now (out .exit)) (now (out .entry)) (advance (now (input .entry)) (progressOf r (now (heads .entry)) (now (doors .entry)) (now (out .entry)))) ⌝ }
-    ensures { λ q. ⌜ q .length ≤ 224 ⌝ }
+    ensures { λ q. ⌜ q .length ≤ longestList ⌝ }
 {
     if r.over {
         let mut done = r;

@@ -1,19 +1,20 @@
 -- What a column holds, after document 01, "What a column holds", and what row 4 asks of it.
-use Prim.Native.Nat.{ℕ}
+use Prim.Native.Nat.{ℕ, _-_, _^_}
 use mathlib.Core.Bool.{Bool, true, false, not, _&&_, _||_, cond}
 use mathlib.Core.List.{List, [], _∷_}
 use lib.Dec.{eqb, leb}
 use Rattle.column.specs.Refusals.{first, earlier, Given, given, refused, givenUnless}
 use Rattle.column.specs.Sets.{has, within}
 use Rattle.column.specs.Trees.{treeRefusal, columnRefusal}
+use Rattle.column.specs.Packets.{numberSize}
 use Rattle.column.specs.declared.tree.Tree.{Tree}
 use Rattle.column.specs.declared.state.Column.{Column}
 use Rattle.column.specs.declared.state.FreshColumn.{FreshColumn}
 use Rattle.column.specs.declared.state.FreshColumn.the-variants.{Is, Refused}
 
--- "order number (16 bits, 0 to 65,535)"
+-- "Records and packets go to 32 bits, and 8 comes at 4,294,967,295."
 abbrev pub highest : ℕ
-highest = 65535
+highest = 256 ^ numberSize - 1
 
 -- "Fresh: all columns run, number 0, doors clear, sets empty, goal own subtree; the root's goal is always the whole bank."; document 02, Point 9:
 -- "Each column keeps who sent its record: the root when fresh"

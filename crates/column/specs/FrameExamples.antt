@@ -1,11 +1,11 @@
 -- Worked examples of frames, after document 02, Point 5. Assumes nothing.
-use Prim.Native.Nat.{ℕ, zero, suc, _≤_}
-use mathlib.Core.Path.{_≡_, refl, sym, ap, _∙_}
+use Prim.Native.Nat.{ℕ, zero, suc}
+use mathlib.Core.Path.{_≡_, refl}
 use mathlib.Core.List.{List, [], _∷_, _++_, map}
 use native.Mathlib.Omega.{arith}
-use lib.ListN.{length, take, replicate}
+use lib.ListN.{take, replicate}
 use Rattle.column.specs.Refusals.{given, refused}
-use Rattle.column.specs.Packets.{lowFirst, lowValue, bytesOf, read}
+use Rattle.column.specs.Packets.{lowFirst, lowValue, bytesIn, readIn}
 use Rattle.column.specs.PacketExamples.{message, messageBytes, acknowledgement, acknowledgementBytes, are-bytes}
 use Rattle.column.specs.Frames.{packetsIn, readFrame, joined}
 use Rattle.column.specs.FrameLaws.{Fine, Joins, frame-write, frame-bad, frame-long, frame-read}
@@ -18,11 +18,11 @@ abbrev twoBytes : List ℕ
 twoBytes = acknowledgementBytes ++ messageBytes
 
 two-joined : joined two ≡ twoBytes
-unfolding joined bytesOf lowFirst
+unfolding joined bytesIn lowFirst
 two-joined = refl
 
 two-read : readFrame twoBytes ≡ given two
-unfolding packetsIn read lowValue
+unfolding packetsIn readIn lowValue
 two-read = refl
 
 -- "An empty frame yields none and is accepted."
@@ -36,16 +36,18 @@ wrong =
     -- a byte after a packet
     (acknowledgementBytes ++ (7 ∷ []))
     -- a kind that is none between two packets
-    ∷ (acknowledgementBytes ++ (3 ∷ messageBytes))
+    ∷ (acknowledgementBytes ++ (5 ∷ messageBytes))
+    -- "the old kinds are now 12", between two packets too
+    ∷ (acknowledgementBytes ++ (2 ∷ 1 ∷ 0 ∷ 0 ∷ 7 ∷ messageBytes))
     -- a message without its last byte, alone and after a packet
-    ∷ take 12 messageBytes
-    ∷ (acknowledgementBytes ++ take 12 messageBytes)
+    ∷ take 14 messageBytes
+    ∷ (acknowledgementBytes ++ take 14 messageBytes)
     -- equal ends in the last packet
-    ∷ (messageBytes ++ (2 ∷ 1 ∷ 1 ∷ 0 ∷ 7 ∷ []))
+    ∷ (messageBytes ++ (4 ∷ 1 ∷ 1 ∷ 0 ∷ 0 ∷ 0 ∷ 7 ∷ []))
     ∷ []
 
-wrong-refused : map readFrame wrong ≡ replicate 5 (refused 12)
-unfolding packetsIn read lowValue
+wrong-refused : map readFrame wrong ≡ replicate 6 (refused 12)
+unfolding packetsIn readIn lowValue
 wrong-refused = refl
 
 -- ---- what the laws of frames ask for holds of these
@@ -67,7 +69,7 @@ one-too-many = frame-long (replicate 512 acknowledgement) messageBytes (fine-cop
 
 -- 511 packets, and part of one
 pub last-partial : readFrame (joined (replicate 511 acknowledgement) ++ take 4 acknowledgementBytes) ≡ refused 12
-unfolding read lowValue
+unfolding readIn lowValue
 last-partial = frame-bad (replicate 511 acknowledgement) (take 4 acknowledgementBytes) 12 (fine-copies 511) (omega arith) (omega arith) refl
 
 pub two-again : Joins twoBytes two

@@ -1,7 +1,7 @@
 -- Laws of frames: packets that are written one after another are read back, and what a frame is read as is written back.
 -- Assumes nothing.
 use Prim.Native.Nat.{ℕ, zero, suc, _+_, _-_, _≤_, _<_}
-use mathlib.Core.Path.{_≡_, refl, sym, ap, ap₂, _∙_}
+use mathlib.Core.Path.{_≡_, refl, sym, ap, _∙_}
 use mathlib.Core.Bool.{Bool, true, false, cond}
 use mathlib.Core.List.{List, [], _∷_, _++_, append-assoc, append-nil}
 use native.Mathlib.Omega.{arith}
@@ -10,8 +10,9 @@ use lib.ListN.{length, drop, length-append}
 use lib.Seq.{drop-append-seam}
 use borrow.Author.Tests.{eqb-true, ne-eqb}
 use Rattle.column.specs.Refusals.{Given, given, refused}
-use Rattle.column.specs.Packets.{Part, part, bytesOf, goodEnds, read}
-use Rattle.column.specs.PacketLaws.{Bytes, bytes-drop, Fits, read-write, write-read, read-rest, Stands}
+use Rattle.column.specs.Packets.{Part, part, wide, bytesIn, bytesOf, goodEnds, read}
+use Rattle.column.specs.NumberLaws.{Bytes, bytes-drop}
+use Rattle.column.specs.PacketLaws.{Fits, read-write, write-read, read-rest, wide-kinds}
 use Rattle.column.specs.Frames.{framePackets, prefixed, followed, packetsIn, readFrame, joined, frameOf}
 use Rattle.column.specs.declared.packet.Packet.{Packet}
 use Rattle.column.specs.declared.packet.Packet.the-variants.{Message, Acknowledgement}
@@ -39,10 +40,10 @@ after-first p ps (refused n) = refl
 -- every packet fits its types, and its ends are good
 abbrev pub Fine : List Packet → Type 0
 Fine [] = Unit {0}
-Fine (p ∷ ps) = ((Fits p) × (goodEnds p ≡ true)) × Fine ps
+Fine (p ∷ ps) = ((Fits wide p) × (goodEnds p ≡ true)) × Fine ps
 
 some-bytes : (p : Packet) → 0 < length (bytesOf p)
-unfolding bytesOf
+unfolding bytesIn
 some-bytes (Message from to number doors) = omega arith
 some-bytes (Acknowledgement from to number) = omega arith
 
@@ -75,7 +76,7 @@ packets-after (suc m) n (p ∷ ps) rest f l =
     let s = joined ps ++ rest in
     let some : 0 < length (bytesOf p ++ s) = simp length-append (omega (arith, some-bytes p)) in
     ap (packetsIn (suc m)) (append-assoc (bytesOf p) (joined ps) rest)
-    ∙ packets-more m (bytesOf p ++ s) (part p (length (bytesOf p))) some (read-write p s (f .0 .0) (f .0 .1))
+    ∙ packets-more m (bytesOf p ++ s) (part p (length (bytesOf p))) some (read-write wide wide-kinds p s (f .0 .0) (f .0 .1))
     ∙ ap (λ l. prefixed p (packetsIn m l)) (drop-append-seam (bytesOf p) s)
     ∙ ap (prefixed p) (packets-after m n ps rest (f .1) (omega arith))
     ∙ after-first p ps (packetsIn n rest)
@@ -135,10 +136,10 @@ packets-read (suc n) s h ps = go (eqb (length s) 0) (read s) refl refl (λ used 
         further (given qs) g e =
             let same : q .packet ∷ qs ≡ ps = cc in
             let rest = k (q .used) qs g in
-            let first = write-read s h q y in
+            let first = write-read wide s h q y in
             rw (← same) (record {
               fine = ((first .fits, first .ends), rest .fine);
-              bytes = ap (λ l. bytesOf (q .packet) ++ l) (rest .bytes) ∙ read-rest s h q y;
+              bytes = ap (λ l. bytesOf (q .packet) ++ l) (rest .bytes) ∙ read-rest wide s h q y;
             })
 
 -- what a frame is read as, written again, is the frame

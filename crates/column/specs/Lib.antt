@@ -17,8 +17,13 @@ pub mod TreeExamples
 pub mod Columns
 pub mod Returns
 pub mod Packets
+pub mod NumberLaws
 pub mod PacketLaws
+pub mod PacketPlaces
+pub mod Conversions
+pub mod ConversionLaws
 pub mod PacketExamples
+pub mod ConversionExamples
 pub mod Frames
 pub mod FrameLaws
 pub mod FramePlaces

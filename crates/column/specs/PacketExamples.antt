@@ -9,8 +9,9 @@ use lib.ListN.{take, replicate}
 use borrow.Author.Tests.{ltb-true}
 use Rattle.column.specs.Cases.{and-left, and-right}
 use Rattle.column.specs.Refusals.{given, refused}
-use Rattle.column.specs.Packets.{lowFirst, lowValue, bytesOf, occupied, write, part, read}
-use Rattle.column.specs.PacketLaws.{Bytes, read-write, write-read, Stands}
+use Rattle.column.specs.Packets.{lowFirst, lowValue, wide, bytesIn, bytesOf, occupied, write, part, readIn, read}
+use Rattle.column.specs.NumberLaws.{Bytes}
+use Rattle.column.specs.PacketLaws.{read-write, write-read, wide-kinds, Stands}
 use Rattle.column.specs.declared.packet.Packet.{Packet}
 use Rattle.column.specs.declared.packet.Packet.the-variants.{Message, Acknowledgement}
 
@@ -19,50 +20,54 @@ abbrev pub message : Packet
 message = Message 0 1 258 578437695752307201
 
 abbrev pub messageBytes : List ℕ
-messageBytes = 1 ∷ 0 ∷ 1 ∷ 1 ∷ 2 ∷ 1 ∷ 2 ∷ 3 ∷ 4 ∷ 5 ∷ 6 ∷ 7 ∷ 8 ∷ []
+messageBytes = 3 ∷ 0 ∷ 1 ∷ 0 ∷ 0 ∷ 1 ∷ 2 ∷ 1 ∷ 2 ∷ 3 ∷ 4 ∷ 5 ∷ 6 ∷ 7 ∷ 8 ∷ []
 
 abbrev pub acknowledgement : Packet
 acknowledgement = Acknowledgement 1 0 7
 
 abbrev pub acknowledgementBytes : List ℕ
-acknowledgementBytes = 2 ∷ 1 ∷ 0 ∷ 0 ∷ 7 ∷ []
+acknowledgementBytes = 4 ∷ 1 ∷ 0 ∷ 0 ∷ 0 ∷ 0 ∷ 7 ∷ []
 
 message-bytes : bytesOf message ≡ messageBytes
-unfolding bytesOf lowFirst
+unfolding bytesIn lowFirst
 message-bytes = refl
 
-message-read : read messageBytes ≡ given (part message 13)
-unfolding read lowValue
+message-read : read messageBytes ≡ given (part message 15)
+unfolding readIn lowValue
 message-read = refl
 
-acknowledgement-written : write acknowledgement ≡ record { size = given 5; bytes = 2 ∷ 1 ∷ 0 ∷ 0 ∷ 7 ∷ replicate 8 0 }
-unfolding write bytesOf lowFirst
+acknowledgement-written : write acknowledgement ≡ record { size = given 7; bytes = 4 ∷ 1 ∷ 0 ∷ 0 ∷ 0 ∷ 0 ∷ 7 ∷ replicate 8 0 }
+unfolding write bytesIn lowFirst
 acknowledgement-written = refl
 
-acknowledgement-read : read (acknowledgementBytes ++ messageBytes) ≡ given (part acknowledgement 5)
-unfolding read lowValue
+acknowledgement-read : read (acknowledgementBytes ++ messageBytes) ≡ given (part acknowledgement 7)
+unfolding readIn lowValue
 acknowledgement-read = refl
 
 -- bytes at whose start no packet stands
 abbrev wrong : List (List ℕ)
 wrong =
-    -- "message of 13 bytes read, 12 refused"
-    take 12 messageBytes
+    -- "message of 13 bytes read, 12 refused", which "move to the new limit and size": 15 and 14
+    take 14 messageBytes
+    -- "the old kinds are now 12": a message and an acknowledgement of two bytes of number, alone and before others
+    ∷ (1 ∷ 0 ∷ 1 ∷ 1 ∷ 2 ∷ 1 ∷ 2 ∷ 3 ∷ 4 ∷ 5 ∷ 6 ∷ 7 ∷ 8 ∷ [])
+    ∷ (2 ∷ 1 ∷ 0 ∷ 0 ∷ 7 ∷ [])
+    ∷ (2 ∷ 1 ∷ 0 ∷ 0 ∷ 7 ∷ messageBytes)
     -- a kind that is none, and a message of an acknowledgement's size
-    ∷ (3 ∷ 0 ∷ 1 ∷ 1 ∷ 2 ∷ 1 ∷ 2 ∷ 3 ∷ 4 ∷ 5 ∷ 6 ∷ 7 ∷ 8 ∷ [])
-    ∷ (1 ∷ 1 ∷ 0 ∷ 0 ∷ 7 ∷ [])
+    ∷ (5 ∷ 0 ∷ 1 ∷ 0 ∷ 0 ∷ 1 ∷ 2 ∷ 1 ∷ 2 ∷ 3 ∷ 4 ∷ 5 ∷ 6 ∷ 7 ∷ 8 ∷ [])
+    ∷ (3 ∷ 1 ∷ 0 ∷ 0 ∷ 0 ∷ 0 ∷ 7 ∷ [])
     -- equal ends, and an end above 15
-    ∷ (2 ∷ 1 ∷ 1 ∷ 0 ∷ 7 ∷ [])
-    ∷ (2 ∷ 16 ∷ 0 ∷ 0 ∷ 7 ∷ [])
+    ∷ (4 ∷ 1 ∷ 1 ∷ 0 ∷ 0 ∷ 0 ∷ 7 ∷ [])
+    ∷ (4 ∷ 16 ∷ 0 ∷ 0 ∷ 0 ∷ 0 ∷ 7 ∷ [])
     -- "4 bytes"
-    ∷ (2 ∷ 1 ∷ 0 ∷ 0 ∷ [])
+    ∷ (4 ∷ 1 ∷ 0 ∷ 0 ∷ [])
     ∷ []
 
-wrong-refused : map read wrong ≡ replicate 6 (refused 12)
-unfolding read lowValue
+wrong-refused : map read wrong ≡ replicate 9 (refused 12)
+unfolding readIn lowValue
 wrong-refused = refl
 
-wrong-ends-refused : write (Acknowledgement 16 0 7) ≡ record { size = refused 12; bytes = replicate 13 0 }
+wrong-ends-refused : write (Acknowledgement 16 0 7) ≡ record { size = refused 12; bytes = replicate 15 0 }
 unfolding write
 wrong-ends-refused = refl
 
@@ -72,9 +77,9 @@ last-door = refl
 
 -- ---- what the laws of packets ask for holds of these
 
-pub message-back : read (bytesOf message ++ acknowledgementBytes) ≡ given (part message 13)
-unfolding bytesOf lowFirst
-message-back = read-write message acknowledgementBytes (record { number = omega arith; doors = omega arith }) refl
+pub message-back : read (bytesOf message ++ acknowledgementBytes) ≡ given (part message 15)
+unfolding bytesIn lowFirst
+message-back = read-write wide wide-kinds message acknowledgementBytes (record { number = omega arith; doors = omega arith }) refl
 
 abbrev pub allBytes : List ℕ → Bool
 allBytes [] = true
@@ -85,5 +90,5 @@ are-bytes [] e i = omega arith
 are-bytes (b ∷ s) e zero = ltb-true b 256 (and-left _ _ e)
 are-bytes (b ∷ s) e (suc i) = are-bytes s (and-right (ltb b 256) _ e) i
 
-pub message-again : Stands messageBytes (part message 13)
-message-again = write-read messageBytes (are-bytes messageBytes refl) (part message 13) message-read
+pub message-again : Stands wide messageBytes (part message 15)
+message-again = write-read wide messageBytes (are-bytes messageBytes refl) (part message 15) message-read

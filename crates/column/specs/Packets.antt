@@ -1,4 +1,5 @@
--- Packets and their bytes, after document 01, "Packets" and "What a column holds"; their reader after document 02, Point 5.
+-- Packets and their bytes, after document 01, "Packets" and "What a column holds"; their reader after document 02, Point 5, their widths after
+-- Point 10.
 use Prim.Native.Nat.{ℕ, zero, suc, _+_, _-_, _*_, _/_, _%_}
 use mathlib.Core.Bool.{Bool, true, false, not, _&&_, cond}
 use mathlib.Core.List.{List, [], _∷_, _++_, reverse}
@@ -8,6 +9,7 @@ use Rattle.column.specs.Refusals.{Given, given, refused}
 use Rattle.column.specs.Sets.{has}
 use Rattle.column.specs.declared.packet.Packet.{Packet}
 use Rattle.column.specs.declared.packet.Packet.the-variants.{Message, Acknowledgement}
+use Rattle.column.specs.declared.codec.Width.{Width}
 use Rattle.column.specs.declared.codec.Reading.{Reading}
 use Rattle.column.specs.declared.codec.Size.{Size}
 use Rattle.column.specs.declared.codec.Written.{Written}
@@ -28,6 +30,14 @@ abbrev pub receiver : Packet → ℕ
 receiver (Message from to number doors) = to
 receiver (Acknowledgement from to number) = to
 
+abbrev pub numberOf : Packet → ℕ
+numberOf (Message from to number doors) = number
+numberOf (Acknowledgement from to number) = number
+
+abbrev pub doorsOf : Packet → ℕ
+doorsOf (Message from to number doors) = doors
+doorsOf (Acknowledgement from to number) = 0
+
 -- ---- numbers in any count of bytes
 
 -- the lowest byte first
@@ -47,35 +57,49 @@ highFirst count n = reverse (lowFirst count n)
 abbrev pub highValue : List ℕ → ℕ
 highValue s = lowValue (reverse s)
 
--- "number (two bytes, high first)", "doors (8 bytes)"
-abbrev pub numberSize : ℕ
-numberSize = 2
-
-abbrev pub doorsSize : ℕ
-doorsSize = 8
-
 -- "Door d, 1 to 64, is occupied when bit (d−1) mod 8, lowest bit 0, of byte (d−1)/8 rounded down is 1"
 abbrev pub occupied : List ℕ → ℕ → Bool
 occupied bytes d = has (getD bytes ((d - 1) / 8) 0) ((d - 1) % 8)
 
+-- ---- widths: the kinds, and how many bytes a number has
+
+-- "four bytes of number, high first"
+abbrev pub numberSize : ℕ
+numberSize = 4
+
+-- "doors (8 bytes)"
+abbrev pub doorsSize : ℕ
+doorsSize = 8
+
+-- "A message is 13 bytes: kind 1, from, to, number (two bytes, high first), doors. An acknowledgement is 5 bytes: kind 2, from, to, number.": the old
+-- kinds, which the converter alone reads and writes
+abbrev pub narrow : Width
+narrow = record { message = 1; acknowledgement = 2; count = 2 }
+
+-- "New messages have kind 3 and 15 bytes, new acknowledgements kind 4 and 7 bytes"
+abbrev pub wide : Width
+wide = record { message = 3; acknowledgement = 4; count = numberSize }
+
+abbrev pub acknowledgementSize : Width → ℕ
+acknowledgementSize w = 3 + w .count
+
+abbrev pub messageSize : Width → ℕ
+messageSize w = acknowledgementSize w + doorsSize
+
 -- ---- the bytes of a packet
 
--- "A message is 13 bytes: kind 1, from, to, number (two bytes, high first), doors. An acknowledgement is 5 bytes: kind 2, from, to, number."
-unfoldable pub bytesOf : Packet → List ℕ
-bytesOf (Message from to number doors) = 1 ∷ from ∷ to ∷ (highFirst numberSize number ++ lowFirst doorsSize doors)
-bytesOf (Acknowledgement from to number) = 2 ∷ from ∷ to ∷ highFirst numberSize number
+unfoldable pub bytesIn : Width → Packet → List ℕ
+bytesIn w (Message from to number doors) = w .message ∷ from ∷ to ∷ (highFirst (w .count) number ++ lowFirst doorsSize doors)
+bytesIn w (Acknowledgement from to number) = w .acknowledgement ∷ from ∷ to ∷ highFirst (w .count) number
 
-abbrev pub acknowledgementSize : ℕ
-acknowledgementSize = 3 + numberSize
-
-abbrev pub messageSize : ℕ
-messageSize = acknowledgementSize + doorsSize
+abbrev pub bytesOf : Packet → List ℕ
+bytesOf p = bytesIn wide p
 
 -- "From and to are 0 to 15 and differ."
 abbrev pub goodEnds : Packet → Bool
 goodEnds p = ltb (sender p) 16 && (ltb (receiver p) 16 && not (eqb (sender p) (receiver p)))
 
--- ---- the writer: "answers thirteen bytes, those past the packet 0, and the packet's size; ends above 15 or equal are refused with 12"
+-- ---- the writer: "answers fifteen bytes", "those past the packet 0, and the packet's size; ends above 15 or equal are refused with 12"
 
 -- a size or a refusal, and the bytes; a refused writer's bytes are 0
 pub record Wrote : Type 0 where
@@ -91,16 +115,18 @@ abbrev pub writeMeant : Written → Wrote
 writeMeant w = record { size = sizeMeant (w .size); bytes = w .bytes }
 
 abbrev pub padded : List ℕ → List ℕ
-padded s = s ++ replicate (messageSize - length s) 0
+padded s = s ++ replicate (messageSize wide - length s) 0
+
+abbrev pub wrote : List ℕ → Wrote
+wrote s = record { size = given (length s); bytes = padded s }
+
+abbrev pub wroteNone : ℕ → Wrote
+wroteNone n = record { size = refused n; bytes = padded [] }
 
 unfoldable pub write : Packet → Wrote
-write p =
-    cond (goodEnds p)
-    (record { size = given (length (bytesOf p)); bytes = padded (bytesOf p) })
-    (record { size = refused 12; bytes = replicate messageSize 0 })
+write p = cond (goodEnds p) (wrote (bytesOf p)) (wroteNone 12)
 
--- ---- the reader: "now accepts bytes after a packet and also answers how many bytes it used, 13 or 5", "refusal 12 now means that none stands at
--- the start"
+-- ---- the reader: "now accepts bytes after a packet and also answers how many bytes it used", "refusal 12 now means that none stands at the start"
 
 -- a packet and how many bytes it takes
 pub record Part : Type 0 where
@@ -115,21 +141,25 @@ abbrev pub readMeant : Reading → Given Part
 readMeant (reading.Is p n) = given (part p n)
 readMeant (reading.Refused n) = refused n
 
-abbrev pub numberIn : List ℕ → ℕ
-numberIn s = highValue (take numberSize (drop 3 s))
+abbrev pub numberIn : Width → List ℕ → ℕ
+numberIn w s = highValue (take (w .count) (drop 3 s))
 
-abbrev pub messageIn : List ℕ → Packet
-messageIn s = Message (getD s 1 0) (getD s 2 0) (numberIn s) (lowValue (take doorsSize (drop acknowledgementSize s)))
+abbrev pub messageIn : Width → List ℕ → Packet
+messageIn w s = Message (getD s 1 0) (getD s 2 0) (numberIn w s) (lowValue (take doorsSize (drop (acknowledgementSize w) s)))
 
-abbrev pub acknowledgementIn : List ℕ → Packet
-acknowledgementIn s = Acknowledgement (getD s 1 0) (getD s 2 0) (numberIn s)
+abbrev pub acknowledgementIn : Width → List ℕ → Packet
+acknowledgementIn w s = Acknowledgement (getD s 1 0) (getD s 2 0) (numberIn w s)
 
 -- bytes that begin with a kind begin with its packet, if they are enough and its ends good
 abbrev pub startsAs : List ℕ → ℕ → ℕ → Packet → Given Part → Given Part
 startsAs s count kind p other = cond (eqb (getD s 0 0) kind) (cond (leb count (length s) && goodEnds p) (given (part p count)) (refused 12)) other
 
-unfoldable pub read : List ℕ → Given Part
-read s =
-    startsAs s messageSize 1 (messageIn s)
-    (startsAs s acknowledgementSize 2 (acknowledgementIn s)
+unfoldable pub readIn : Width → List ℕ → Given Part
+readIn w s =
+    startsAs s (messageSize w) (w .message) (messageIn w s)
+    (startsAs s (acknowledgementSize w) (w .acknowledgement) (acknowledgementIn w s)
     (refused 12))
+
+-- "everywhere else the old kinds are now 12"
+abbrev pub read : List ℕ → Given Part
+read s = readIn wide s

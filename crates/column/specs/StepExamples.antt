@@ -97,7 +97,7 @@ refusals =
     ∷ (takeRefusal three 1 haltedOther (Message 0 1 5 0), 5)
     ∷ (haltRefusal three 1 haltedOther, 5)
     ∷ (orderRefusal three 0 (column false 2 0 0 0 true), 5)
-    ∷ (orderRefusal three 0 (numbered 65535 haltedRoot), 5)
+    ∷ (orderRefusal three 0 (numbered 4294967295 haltedRoot), 5)
     -- 6: nothing to send; nobody owed; owed, and sends or awaits with goal own subtree
     ∷ (sendRefusal three 0 root, 6)
     ∷ (ackRefusal three 1 other, 6)
@@ -115,11 +115,11 @@ refusals =
     ∷ (noteRefusal three 1 other 1, 6)
     ∷ (noteRefusal three 1 (column true 0 0 0 1 false) 0, 6)
     ∷ (noteRefusal three 1 other 0, 0)
-    -- 7: the root sends, or awaits; before 8. "number 65,534 admits an order, 65,535 doesn't"
+    -- 7: the root sends, or awaits; before 8. "number 65,534 admits an order, 65,535 doesn't", which "move to the new limit"
     ∷ (orderRefusal three 0 (column true 2 0 0 0 true), 7)
-    ∷ (orderRefusal three 0 (numbered 65535 (column true 0 2 0 0 true)), 7)
-    ∷ (orderRefusal three 0 (numbered 65535 root), 8)
-    ∷ (orderRefusal three 0 (numbered 65534 root), 0)
+    ∷ (orderRefusal three 0 (numbered 4294967295 (column true 0 2 0 0 true)), 7)
+    ∷ (orderRefusal three 0 (numbered 4294967295 root), 8)
+    ∷ (orderRefusal three 0 (numbered 4294967294 root), 0)
     -- "Under sender, `all` asks that this sender is noted, in place of the root."
     ∷ (allRefusal watching 2 (sentBy 1 (column true 0 0 0 1 false)), 6)
     ∷ (allRefusal watching 2 (sentBy 1 (column true 0 0 0 2 false)), 0)
@@ -135,7 +135,7 @@ refusals =
     ∷ (ackRefusal three 0 (column true 2 2 2 0 true), 0)
     -- "an order is 7 while it owes anyone": before 8
     ∷ (orderRefusal watching 0 (column true 0 0 2 0 true), 7)
-    ∷ (orderRefusal watching 0 (numbered 65535 (column true 0 0 2 0 true)), 7)
+    ∷ (orderRefusal watching 0 (numbered 4294967295 (column true 0 0 2 0 true)), 7)
     ∷ (orderRefusal watching 0 root, 0)
     ∷ (orderRefusal three 0 (column true 0 0 2 0 true), 0)
     ∷ []

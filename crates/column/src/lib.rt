@@ -2,6 +2,7 @@
 // Functions of public modules ask nothing of their arguments: what the papers refuse is answered by its number, and nothing changes.
 pub mod choice;
 pub mod codec;
+pub mod converter;
 mod effect;
 pub mod frame;
 pub mod members;

@@ -1,11 +1,13 @@
 // The packets between columns.
 ghost use mathlib.Core.Path.{_≡_};
-ghost use Rattle.column.specs.Packets.{isMessage, sender, receiver};
+ghost use Rattle.column.specs.Packets.{isMessage, sender, receiver, numberOf};
 
 // Order numbers have this width here and nowhere else.
-pub type Number = u16;
+pub type Number = u32;
 
-pub const HIGHEST: Number = 65535;
+pub const NUMBER_SIZE: usize = 4;
+
+pub const HIGHEST: Number = 4294967295;
 
 pub enum Packet {
     Message {
@@ -48,5 +50,15 @@ pub fn receiver(p: Packet) -> usize
     match p {
         Packet::Message { to, .. } => to as usize,
         Packet::Acknowledgement { to, .. } => to as usize,
+    }
+}
+
+// The number of its order.
+pub fn number_of(p: Packet) -> Number
+    ensures { λ r. ⌜ r ≡ numberOf p ⌝ }
+{
+    match p {
+        Packet::Message { number, .. } => number,
+        Packet::Acknowledgement { number, .. } => number,
     }
 }

@@ -13,11 +13,11 @@ ghost use Rattle.column.specs.Columns.{freshMeant, freshGiven, stateRefu
 // Widest fields first, so that a column is 24 bytes.
 pub struct Column {
     pub doors: u64,
+    pub number: Number,
     pub send: u16,
     pub awaited: u16,
     pub owed: u16,
     pub noted: u16,
-    pub number: Number,
     pub running: bool,
     // The goal: the whole bank, or its own subtree.
     pub whole: bool,

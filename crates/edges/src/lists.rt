@@ -1,4 +1,4 @@
-// Closing lists: "224 bytes hold the longest list, 223 don't".
+// Closing lists: "229 bytes hold the longest list, 228 don't", as document 01 has it of 224 and 223.
 use crate::print::print;
 use crate::print::print_number;
 use crate::print::print_text;
@@ -11,6 +11,9 @@ use column::tree::Tree;
 
 // What the buffer holds before a call; no list has this byte.
 const FILLED: u8 = 170;
+
+// More than the longest list takes.
+const ROOM: usize = 235;
 
 const LISTER: usize = 10;
 
@@ -28,7 +31,7 @@ fn bank(running: bool, whole: bool) -> Bank {
     let mut b = begun.bank;
     let mut c = b.columns[LISTER];
     c.running = running;
-    c.number = 65535;
+    c.number = 4294967295;
     c.doors = 18446744073709551615;
     b.columns[LISTER] = c;
     let mut root = b.columns[0];
@@ -88,7 +91,7 @@ fn listed(b: Bank, i: usize, buffer: &mut [u8], size: usize, at: usize) {
 }
 
 fn case(name: &[u8], b: Bank, i: usize, size: usize, at: usize) {
-    let mut buffer = [FILLED; 230];
+    let mut buffer = [FILLED; ROOM];
     print(name);
     print_number(b"list of column ", i as u64);
     print_number(b" of 16, ", size as u64);
@@ -100,7 +103,7 @@ fn case(name: &[u8], b: Bank, i: usize, size: usize, at: usize) {
 
 // The four lines as they stand, in a buffer of just their bytes.
 fn longest(b: Bank) {
-    let mut buffer = [FILLED; 224];
+    let mut buffer = [FILLED; 229];
     if let Listing::Length(n) = answer(b, LISTER, &mut buffer, 0) {
         print_number(b"the longest list, ", n as u64);
         print(b" bytes:\n");
@@ -113,19 +116,19 @@ pub fn cases() {
     let halted = bank(false, true);
     let wrong = bank(false, false);
     longest(running);
-    case(b"", running, LISTER, 224, 0);
-    case(b"", running, LISTER, 223, 0);
-    case(b"", running, LISTER, 230, 3);
-    case(b"", running, LISTER, 230, 6);
-    case(b"", running, LISTER, 230, 7);
-    case(b"", running, LISTER, 230, 230);
-    case(b"", running, LISTER, 230, 231);
-    case(b"", running, LISTER, 230, 18446744073709551615);
+    case(b"", running, LISTER, 229, 0);
+    case(b"", running, LISTER, 228, 0);
+    case(b"", running, LISTER, ROOM, 3);
+    case(b"", running, LISTER, ROOM, 6);
+    case(b"", running, LISTER, ROOM, 7);
+    case(b"", running, LISTER, ROOM, ROOM);
+    case(b"", running, LISTER, ROOM, ROOM + 1);
+    case(b"", running, LISTER, ROOM, 18446744073709551615);
     case(b"", running, LISTER, 0, 0);
-    case(b"", running, 9, 230, 0);
-    case(b"", running, 16, 230, 0);
+    case(b"", running, 9, ROOM, 0);
+    case(b"", running, 16, ROOM, 0);
     case(b"", running, 16, 0, 0);
-    case(b"halted, ", halted, LISTER, 230, 0);
+    case(b"halted, ", halted, LISTER, ROOM, 0);
     case(b"halted, ", halted, LISTER, 0, 0);
     case(
         b"halted and a root whose goal is own, ",

@@ -135,7 +135,7 @@ module _ (t : Tree) (i : ℕ) (c : Column) where
     pub guards : Guards (ackGuard t v) 6 (steps.ack t i c)
     pub does : ackGuard t v ≡ true → RepeatMakes t i (c .noted) (repeatAck 16 t i c) (ackCommand i v)
 
-  -- order number 65,535 is the last: row 8 is document 01's own
+  -- the highest order number is the last: row 8 is the papers' own
   pub record BroadcastCompares (doors : ℕ) : Type 0 where
     pub guards : Guards (broadcastGuard v) 7 (steps.order t i c doors)
     pub does : broadcastGuard v ≡ true → (c .number ≡ highest → ⊥) → Makes t i (c .noted) (steps.order t i c doors) (broadcastCommand t doors v)

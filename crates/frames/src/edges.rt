@@ -7,9 +7,9 @@ use column::frame::read_frame;
 ghost use mathlib.Core.Path.{_≡_};
 ghost use lib.ListN.{length};
 
-const MESSAGE_SIZE: usize = 13;
+const MESSAGE_SIZE: usize = 15;
 
-const ACKNOWLEDGEMENT_SIZE: usize = 5;
+const ACKNOWLEDGEMENT_SIZE: usize = 7;
 
 const BOTH_SIZE: usize = MESSAGE_SIZE + ACKNOWLEDGEMENT_SIZE;
 
@@ -19,20 +19,21 @@ const LONGEST: usize = 513 * MESSAGE_SIZE + 1;
 // Byte j of the message from column 0 to column 1 with order k.
 fn message_byte(k: usize, j: usize) -> u8 {
     match j {
-        0 | 2 => 1,
-        1 => 0,
-        3 => (k / 256 % 256) as u8,
-        4 => (k % 256) as u8,
+        0 => 3,
+        2 => 1,
+        1 | 3 | 4 => 0,
+        5 => (k / 256 % 256) as u8,
+        6 => (k % 256) as u8,
         _ => (j % 256) as u8,
     }
 }
 
 fn acknowledgement_byte(k: usize, j: usize) -> u8 {
     match j {
-        0 => 2,
+        0 => 4,
         1 => 1,
-        2 => 0,
-        3 => (k / 256 % 256) as u8,
+        2 | 3 | 4 => 0,
+        5 => (k / 256 % 256) as u8,
         _ => (k % 256) as u8,
     }
 }
@@ -49,14 +50,14 @@ fn both_byte(k: usize, j: usize) -> u8 {
 // Byte i of a frame: of messages, of acknowledgements, or of both.
 fn byte(kind: u8, i: usize) -> u8 {
     match kind {
-        1 => message_byte(i / MESSAGE_SIZE, i % MESSAGE_SIZE),
-        2 => acknowledgement_byte(i / ACKNOWLEDGEMENT_SIZE, i % ACKNOWLEDGEMENT_SIZE),
+        3 => message_byte(i / MESSAGE_SIZE, i % MESSAGE_SIZE),
+        4 => acknowledgement_byte(i / ACKNOWLEDGEMENT_SIZE, i % ACKNOWLEDGEMENT_SIZE),
         _ => both_byte(i / BOTH_SIZE, i % BOTH_SIZE),
     }
 }
 
 fn filled(kind: u8) -> [u8; LONGEST]
-    ensures { λ r. ⌜ length r ≡ 6670 ⌝ }
+    ensures { λ r. ⌜ length r ≡ 7696 ⌝ }
 {
     let mut frame = [0u8; LONGEST];
     let mut i = 0;
@@ -105,66 +106,75 @@ fn first(name: &[u8], kind: u8, size: usize) {
 }
 
 fn counts() {
-    first(b"no packet", 1, 0);
-    first(b"a message", 1, MESSAGE_SIZE);
-    first(b"an acknowledgement", 2, ACKNOWLEDGEMENT_SIZE);
-    first(b"a message and an acknowledgement", 3, BOTH_SIZE);
-    first(b"511 messages", 1, 511 * MESSAGE_SIZE);
-    first(b"512 messages", 1, 512 * MESSAGE_SIZE);
-    first(b"512 acknowledgements", 2, 512 * ACKNOWLEDGEMENT_SIZE);
-    first(b"512 packets of both kinds", 3, 256 * BOTH_SIZE);
-    first(b"513 messages", 1, 513 * MESSAGE_SIZE);
-    first(b"513 acknowledgements", 2, 513 * ACKNOWLEDGEMENT_SIZE);
+    first(b"no packet", 3, 0);
+    first(b"a message", 3, MESSAGE_SIZE);
+    first(b"an acknowledgement", 4, ACKNOWLEDGEMENT_SIZE);
+    first(b"a message and an acknowledgement", 5, BOTH_SIZE);
+    first(b"511 messages", 3, 511 * MESSAGE_SIZE);
+    first(b"512 messages", 3, 512 * MESSAGE_SIZE);
+    first(b"512 acknowledgements", 4, 512 * ACKNOWLEDGEMENT_SIZE);
+    first(b"512 packets of both kinds", 5, 256 * BOTH_SIZE);
+    first(b"513 messages", 3, 513 * MESSAGE_SIZE);
+    first(b"513 acknowledgements", 4, 513 * ACKNOWLEDGEMENT_SIZE);
     first(
         b"513 packets of both kinds",
-        3,
+        5,
         256 * BOTH_SIZE + MESSAGE_SIZE,
     );
-    first(b"512 messages and a byte", 1, 512 * MESSAGE_SIZE + 1);
+    first(b"512 messages and a byte", 3, 512 * MESSAGE_SIZE + 1);
     first(
         b"512 acknowledgements and a byte",
-        2,
+        4,
         512 * ACKNOWLEDGEMENT_SIZE + 1,
     );
 }
 
 fn partial() {
-    first(b"a byte", 1, 1);
-    first(b"a message of 12 bytes", 1, 12);
-    first(b"an acknowledgement of 4 bytes", 2, 4);
-    first(b"two messages, the second of 12 bytes", 1, 25);
-    first(b"two messages and 4 bytes", 1, 30);
+    first(b"a byte", 3, 1);
+    first(b"a message of 14 bytes", 3, 14);
+    first(b"an acknowledgement of 6 bytes", 4, 6);
+    first(b"two messages, the second of 14 bytes", 3, 29);
+    first(b"two messages and 6 bytes", 3, 36);
     first(
-        b"512 messages, the last of 12 bytes",
-        1,
+        b"512 messages, the last of 14 bytes",
+        3,
         512 * MESSAGE_SIZE - 1,
     );
     first(
-        b"512 acknowledgements, the last of 4 bytes",
-        2,
+        b"512 acknowledgements, the last of 6 bytes",
+        4,
         512 * ACKNOWLEDGEMENT_SIZE - 1,
     );
 }
 
 fn bad() {
-    changed(b"three messages, the second of kind 0", 1, 39, 13, 0);
-    changed(b"three messages, the second of kind 3", 1, 39, 13, 3);
-    changed(b"three messages, the second of kind 2", 1, 39, 13, 2);
-    changed(b"three messages, the last to its sender", 1, 39, 28, 0);
-    changed(b"three messages, the first from column 16", 1, 39, 1, 16);
-    changed(b"three messages, the first to column 15", 1, 39, 2, 15);
-    changed(b"three acknowledgements, the first of kind 1", 2, 15, 0, 1);
+    changed(b"three messages, the second of kind 0", 3, 45, 15, 0);
+    changed(b"three messages, the second of kind 5", 3, 45, 15, 5);
+    changed(b"three messages, the second of kind 4", 3, 45, 15, 4);
+    changed(b"three messages, the last to its sender", 3, 45, 32, 0);
+    changed(b"three messages, the first from column 16", 3, 45, 1, 16);
+    changed(b"three messages, the first to column 15", 3, 45, 2, 15);
+    changed(b"three acknowledgements, the first of kind 3", 4, 21, 0, 3);
     changed(
-        b"512 messages, the last of kind 3",
-        1,
+        b"512 messages, the last of kind 5",
+        3,
         512 * MESSAGE_SIZE,
         511 * MESSAGE_SIZE,
-        3,
+        5,
     );
+}
+
+// "everywhere else the old kinds are now 12"
+fn old() {
+    changed(b"a message of kind 1", 3, 15, 0, 1);
+    changed(b"an acknowledgement of kind 2", 4, 7, 0, 2);
+    changed(b"three messages, the second of kind 1", 3, 45, 15, 1);
+    changed(b"three acknowledgements, the last of kind 2", 4, 21, 14, 2);
 }
 
 pub fn show() {
     counts();
     partial();
     bad();
+    old();
 }

@@ -1,4 +1,6 @@
-// The frames of standard input, each after its size in two bytes, high first; with all their packets.
+// The frames of standard input, each after its size in two bytes, high first: with all their packets, and below that what the converter answers of the
+// same bytes.
+use crate::converted;
 use crate::print::print;
 use crate::print::print_answer;
 use crate::print::print_packet;
@@ -25,6 +27,13 @@ fn show_frame(bytes: &[u8]) {
     }
 }
 
+// Two lines.
+fn show_bytes(bytes: &[u8]) {
+    show_frame(bytes);
+    print(b"\n");
+    converted::show(bytes);
+}
+
 fn number(high: u8, low: u8) -> usize {
     high as usize * 256 + low as usize
 }
@@ -37,8 +46,7 @@ fn show_frames(input: &[u8]) {
         if input.len() - start < size {
             return;
         }
-        show_frame(&input[start..start + size]);
-        print(b"\n");
+        show_bytes(&input[start..start + size]);
         at = start + size;
     }
 }

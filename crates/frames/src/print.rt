@@ -10,9 +10,24 @@ pub fn print(text: &[u8]) {
     io::write_all(STDOUT_FILENO, text);
 }
 
-fn print_number(key: &[u8], n: u64) {
+pub fn print_number(key: &[u8], n: u64) {
     print(key);
     io::print_decimal(STDOUT_FILENO, n);
+}
+
+pub fn print_bytes(key: &[u8], bytes: &[u8]) {
+    print(key);
+    let mut i = 0;
+    while i < bytes.len() {
+        let byte = bytes[i];
+        io::print_hex(STDOUT_FILENO, wide(byte), 2);
+        i += 1;
+    }
+    print(b"\n");
+}
+
+fn wide(byte: u8) -> u64 {
+    byte as u64
 }
 
 // Kind, from, to, number and, of a message, the doors as one number.
@@ -25,13 +40,13 @@ pub fn print_packet(key: &[u8], packet: Packet) {
             number,
             doors,
         } => {
-            print_number(b"1,", from as u64);
+            print_number(b"3,", from as u64);
             print_number(b",", to as u64);
             print_number(b",", number as u64);
             print_number(b",", doors);
         }
         Packet::Acknowledgement { from, to, number } => {
-            print_number(b"2,", from as u64);
+            print_number(b"4,", from as u64);
             print_number(b",", to as u64);
             print_number(b",", number as u64);
         }

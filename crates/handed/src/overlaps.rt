@@ -140,11 +140,11 @@ fn four_over(other: &[u8], s: State, x: Step) {
 fn four() {
     let stopped = with_column(busy(), 2, halted(member(C1, 0, 0, 0)));
     let idle = with_column(busy(), 0, root(0, 0, 0, 0));
-    let last = with_column(busy(), 0, numbered(root(0, 0, 0, 0), 65535));
+    let last = with_column(busy(), 0, numbered(root(0, 0, 0, 0), 4294967295));
     four_over(b"5, halted", stopped, Step::Send(2));
     four_over(b"6, nothing to send", idle, Step::Send(0));
     four_over(b"7, a busy root", busy(), Step::Order(9));
-    four_over(b"8, the root at 65535", last, Step::Order(9));
+    four_over(b"8, the root at 4294967295", last, Step::Order(9));
     four_over(b"9, 512 packets", filled(busy(), 512), Step::Send(0));
     four_over(b"10, no such place", busy(), Step::Take(600));
     answer(
@@ -169,7 +169,7 @@ fn five() {
     let s = with_column(busy(), 2, halted(member(0, 0, 0, 0)));
     let sends = with_column(quiet(), 0, halted(root(C1, 0, 0, 0)));
     let awaits = with_column(quiet(), 0, halted(root(0, C1, 0, 0)));
-    let last = with_column(quiet(), 0, halted(numbered(root(0, 0, 0, 0), 65535)));
+    let last = with_column(quiet(), 0, halted(numbered(root(0, 0, 0, 0), 4294967295)));
     let full = filled(with_column(busy(), 2, halted(root(C1, 0, C1, 0))), 512);
     answer(b"5 over 6, halted and nothing to send", s, Step::Send(2));
     answer(b"5 over 6, halted and nobody owed", s, Step::Ack(2));
@@ -183,7 +183,11 @@ fn five() {
         awaits,
         Step::Order(9),
     );
-    answer(b"5 over 8, a halted root at 65535", last, Step::Order(9));
+    answer(
+        b"5 over 8, a halted root at 4294967295",
+        last,
+        Step::Order(9),
+    );
     answer(b"5 over 9, halted and 512 packets", full, Step::Send(2));
     answer(b"5 over 9, halted and 512 packets", full, Step::Ack(2));
 }
@@ -228,16 +232,20 @@ fn taking_over() {
 }
 
 fn seven_and_eight() {
-    let sends = with_column(busy(), 0, numbered(root(C1, 0, 0, 0), 65535));
-    let awaits = with_column(busy(), 0, numbered(root(0, C1, 0, 0), 65535));
-    let last_but_one = with_column(busy(), 0, numbered(root(0, 0, 0, 0), 65534));
-    answer(b"7 over 8, the root sends at 65535", sends, Step::Order(9));
+    let sends = with_column(busy(), 0, numbered(root(C1, 0, 0, 0), 4294967295));
+    let awaits = with_column(busy(), 0, numbered(root(0, C1, 0, 0), 4294967295));
+    let last_but_one = with_column(busy(), 0, numbered(root(0, 0, 0, 0), 4294967294));
     answer(
-        b"7 over 8, the root awaits at 65535",
+        b"7 over 8, the root sends at 4294967295",
+        sends,
+        Step::Order(9),
+    );
+    answer(
+        b"7 over 8, the root awaits at 4294967295",
         awaits,
         Step::Order(9),
     );
-    effect(b"the root at 65534", last_but_one, Step::Order(9), 0);
+    effect(b"the root at 4294967294", last_but_one, Step::Order(9), 0);
 }
 
 fn ten() {

@@ -1,4 +1,5 @@
 // The parts of a line.
+use crate::state::NUMBERS;
 use crate::state::State;
 use bank::bank::Answer;
 use bank::step::Step;
@@ -98,10 +99,10 @@ pub fn print_place(s: State, k: usize) {
     if k < 512 {
         let head = s.heads[k];
         print_number(b", place ", k as u64);
-        print_flag(head < 4294967296, b" message ", b" acknowledgement ");
-        print_number(b"", head / 16777216 % 256);
-        print_number(b">", head / 65536 % 256);
-        print_number(b" number ", head % 65536);
+        print_flag(head < NUMBERS * 65536, b" message ", b" acknowledgement ");
+        print_number(b"", head / (NUMBERS * 256) % 256);
+        print_number(b">", head / NUMBERS % 256);
+        print_number(b" number ", head % NUMBERS);
         print_number(b" doors ", s.doors[k]);
     }
 }

@@ -1,13 +1,15 @@
 // Runs the script on standard input. All of it is read first, so that texts to print may wait and be written many at a time.
 use bytes::copy;
+use closing::list::LONGEST;
 use closing::script::LIMIT;
 use closing::script::Run;
 use closing::script::advance;
 use closing::script::start;
 use libc::STDIN_FILENO;
 use libc::STDOUT_FILENO;
-ghost use Prim.Native.Nat.{_≤_};
+ghost use Prim.Native.Nat.{_*_, _≤_};
 ghost use lib.ListN.{length};
+ghost use Rattle.closing.specs.Closing.{longestList};
 
 const TEXTS: usize = 64;
 
@@ -25,11 +27,11 @@ fn gather(
     doors: &mut [u64; 512],
     gathered: &mut [u8],
 ) -> Gathered
-    requires { ⌜ 14336 ≤ length (now gathered) ⌝ }
-    ensures { λ g. ⌜ g .length ≤ 14336 ⌝ }
+    requires { ⌜ 64 * longestList ≤ length (now gathered) ⌝ }
+    ensures { λ g. ⌜ g .length ≤ 64 * longestList ⌝ }
 {
     let mut run = r;
-    let mut text = [0u8; 224];
+    let mut text = [0u8; LONGEST];
     let mut length: usize = 0;
     let mut k: usize = 0;
     while k < TEXTS {
@@ -48,7 +50,7 @@ fn main() {
     let n = io::read_full(STDIN_FILENO, &mut input);
     let mut heads = [0u64; 512];
     let mut doors = [0u64; 512];
-    let mut gathered = [0u8; TEXTS * 224];
+    let mut gathered = [0u8; TEXTS * LONGEST];
     let mut run = start();
     let mut k = 0;
     while k < n + 2 {

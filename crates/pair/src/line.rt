@@ -77,7 +77,7 @@ pub fn over_the_line(frame: &mut [u8], first: Answer, second: Answer) -> usize
     end
 }
 
-fn taken(t: Tree, i: usize, c: Column, p: Packet) -> Column {
+pub fn taken(t: Tree, i: usize, c: Column, p: Packet) -> Column {
     let to = receiver(p) as usize;
     if to != i {
         return c;

@@ -1,7 +1,8 @@
 // The two ends of a line: at one the core of a root, at the other those of its two children. One order goes down in a frame of two messages, and
 // the two acknowledgements come up in one. Each frame is printed as the bytes that go over the line, and each column's record as it is in the end,
-// with whom it still awaits. Then what the core answers of a larger tree.
+// with whom it still awaits. Then a line of which one end is old, and what the core answers of a larger tree.
 mod line;
+mod mixed;
 mod print;
 mod tree;
 
@@ -27,7 +28,7 @@ const FIRST: usize = 1;
 const SECOND: usize = 2;
 
 // Two messages.
-const FRAME_SIZE: usize = 26;
+const FRAME_SIZE: usize = 30;
 
 // Doors 1 and 10: bit 0 of byte 0 and bit 1 of byte 1.
 const DOORS: u64 = 1 + 2 * 256;
@@ -78,5 +79,6 @@ fn exchange() {
 
 fn main() {
     exchange();
+    mixed::show();
     tree::show();
 }

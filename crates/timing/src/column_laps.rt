@@ -1,6 +1,7 @@
 // Laps of one step of a lone column.
 use crate::laps::fold;
 use crate::laps::heap;
+use column::packet::Number;
 use column::packet::Packet;
 use column::state::Column;
 use column::step::Outcome;
@@ -24,7 +25,7 @@ fn tree(lap: u64) -> Tree {
 fn column(lap: u64, whole: bool) -> Column {
     Column {
         running: true,
-        number: (lap % 1000) as u16,
+        number: (lap % 1000) as Number,
         doors: lap,
         send: 0,
         awaited: 0,

@@ -5,15 +5,15 @@ use column::frame::FRAME_PACKETS;
 use column::frame::read_frame;
 use column::packet::Packet;
 
-const MESSAGE_SIZE: usize = 13;
+const MESSAGE_SIZE: usize = 15;
 
 const FRAME_SIZE: usize = FRAME_PACKETS * MESSAGE_SIZE;
 
-// Order 258 from column 0 to column 1.
-const MESSAGE: [u8; MESSAGE_SIZE] = [1, 0, 1, 1, 2, 1, 2, 3, 4, 5, 6, 7, 8];
+// Order 16,909,060 from column 0 to column 1.
+const MESSAGE: [u8; MESSAGE_SIZE] = [3, 0, 1, 1, 2, 3, 4, 1, 2, 3, 4, 5, 6, 7, 8];
 
 // The place in a message of the first byte of its doors.
-const DOORS: usize = 5;
+const DOORS: usize = 7;
 
 fn messages() -> [u8; FRAME_SIZE] {
     let mut frame = [0u8; FRAME_SIZE];

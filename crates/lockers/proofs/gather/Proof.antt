@@ -5,20 +5,21 @@ use mathlib.Core.Path.{_≡_, sym}
 use lib.ListN as list
 use lib.ListN.{take, drop, length-take, length-drop}
 use lib.Seq.{length-take-le}
+use Rattle.closing.specs.Closing.{longestList}
 use Rattle.closing.specs.ScriptLaws.{text-within}
 use Rattle.lockers.proofs.gather.Statement.{statement}
 use Rattle.lockers.proofs.gather.Tie as tie
 
 abbrev Inv-loop : tie.InvT-loop
 Inv-loop input heads₀ doors₀ gathered₀ run₀ text₀ length₀ k₀ heads doors gathered run text length k =
-    (list.length gathered ≡ list.length gathered₀) × (length ≤ 224 * k) × (k ≤ 64)
+    (list.length gathered ≡ list.length gathered₀) × (length ≤ longestList * k) × (k ≤ 64)
 
 abbrev μ-loop : tie.MeasureT-loop
 μ-loop input heads₀ doors₀ gathered₀ run₀ text₀ length₀ k₀ heads doors gathered run text length k =
     64 - k
 
 -- the length of the text that is next
-few : (c : tie.After-advance Inv-loop μ-loop) → c .advance .result .length ≤ 224
+few : (c : tie.After-advance Inv-loop μ-loop) → c .advance .result .length ≤ longestList
 few c = c .advance .ensures .1
 
 loop-holds : tie.Need-loop-holds Inv-loop μ-loop

@@ -1,13 +1,14 @@
 use borrow.Author.Needs.{needs}
-use Prim.Native.Nat.{_+_, _-_, _≤_}
+use Prim.Native.Nat.{_+_, _-_, _*_, _≤_}
 use mathlib.Core.Path.{_≡_, sym}
 use lib.ListN.{length}
 use lib.Seq.{length-take-le}
+use Rattle.closing.specs.Closing.{longestList}
 use Rattle.lockers.proofs.main.Statement.{statement}
 use Rattle.lockers.proofs.main.Tie as tie
 
 abbrev Inv-loop : tie.InvT-loop
-Inv-loop input n heads₀ doors₀ gathered₀ run₀ k₀ heads doors gathered run k = (n ≤ length input) × (k ≤ n + 2) × (length gathered ≡ 14336)
+Inv-loop input n heads₀ doors₀ gathered₀ run₀ k₀ heads doors gathered run k = (n ≤ length input) × (k ≤ n + 2) × (length gathered ≡ 64 * longestList)
 
 abbrev μ-loop : tie.MeasureT-loop
 μ-loop input n heads₀ doors₀ gathered₀ run₀ k₀ heads doors gathered run k = n + 2 - k

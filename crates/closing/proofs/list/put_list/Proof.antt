@@ -61,9 +61,9 @@ fourth c = c .before .before .before .before
 room : (s : tie.Start) → 0 + length (field columnKey (s .args .i) ++ from-number (s .args .c)) ≤ length (s .args .out .now)
 unfolding listText
 room s =
-    let number : s .args .c .number < 65536 = search needs in
+    let number : s .args .c .number < 2 ^ 32 = search needs in
     let doors : s .args .c .doors < 2 ^ 64 = search needs in
-    omega (arith, s .pre .1, list-longest (s .args .i) (s .args .c) (s .pre .0) number doors)
+    omega (arith, s .pre .1, list-longest (s .args .i) (s .args .c) (s .pre .0) (omega (arith, number)) doors)
 
 room-number : (c : tie.After-put-field) → c .put-field .result + length (from-number (start c .args .c)) ≤ length (c .put-field .last .0)
 room-number c =

@@ -6,7 +6,7 @@ use native.Mathlib.Omega.{arith}
 use lib.ListN.{length, take, replicate}
 use borrow.Author.Tests.{le-leb, lt-leb}
 use Rattle.column.specs.Refusals.{given}
-use Rattle.closing.specs.Closing.{listText, placed}
+use Rattle.closing.specs.Closing.{longestList, listText, placed}
 use Rattle.closing.specs.Writing.{written-taken, writes-within}
 use Rattle.closing.proofs.list.write_list.Statement.{statement}
 use Rattle.closing.proofs.list.write_list.Tie as tie
@@ -23,7 +23,7 @@ module _ (c : tie.After-put-list) where
   size = omega (arith, c .put-list .ensures .place)
 
   begins : take (c .put-list .result) (c .put-list .last .0) ≡ text
-  begins = ap₂ (λ k l. take k l) size (c .put-list .ensures .left) ∙ written-taken (replicate 224 0) text
+  begins = ap₂ (λ k l. take k l) size (c .put-list .ensures .left) ∙ written-taken (replicate longestList 0) text
 
 slice-aggregate-put-list : tie.Need-slice-aggregate-put-list
 slice-aggregate-put-list c = search needs

@@ -1,9 +1,5 @@
 -- `codec::without_doors` meets its contract. Assumes nothing.
-use Prim.Native.Nat.{ℕ}
-use mathlib.Core.Path.{ap}
-use mathlib.Core.List.{List, _∷_, _++_}
-use lib.ListN.{replicate}
-use Rattle.column.specs.Packets.{doorsSize}
+use Rattle.column.specs.PacketPlaces.{number-put}
 use borrow.Author.Needs.{needs}
 use Rattle.column.proofs.codec.without_doors.Statement.{statement}
 use Rattle.column.proofs.codec.without_doors.Tie as tie
@@ -16,6 +12,9 @@ array-write-bytes-2 c = search needs
 
 array-write-bytes-3 : tie.Need-array-write-bytes-3
 array-write-bytes-3 c = search needs
+
+add-end : tie.Need-add-end
+add-end c = search needs
 
 sub-put-high-first : tie.Need-sub-put-high-first
 sub-put-high-first c = search needs
@@ -32,7 +31,7 @@ put-high-first-requires c κs = search needs
 returns : tie.Need-returns
 returns c =
     let a = c .before .before .before .args in
-    ap (λ (l : List ℕ). a .kind ∷ a .from ∷ a .to ∷ (l ++ replicate doorsSize 0)) (c .before .put-high-first .ensures)
+    number-put (a .kind) (a .from) (a .to) (a .number) (a .count) (c .before .before .before .pre) (c .before .put-high-first .last .0) (c .before .put-high-first .ensures)
 
 pub without-doors-spec : {M : Type 1} → statement M
 without-doors-spec =
@@ -41,6 +40,7 @@ without-doors-spec =
     array-write-bytes
     array-write-bytes-2
     array-write-bytes-3
+    add-end
     sub-put-high-first
     part-bytes-start
     part-bytes-end

@@ -7,7 +7,7 @@ use native.Mathlib.Omega.{arith}
 use lib.ListN.{length, take, drop, set, length-drop, length-set}
 use lib.Seq.{drop-drop, take-all}
 use Rattle.column.specs.Refusals.{given, refused}
-use Rattle.column.specs.Packets.{part, read}
+use Rattle.column.specs.Packets.{part, wide, read}
 use Rattle.column.specs.PacketLaws.{read-sized}
 use Rattle.column.specs.Frames.{framePackets, readFrame, slot, noFrame, frameOf}
 use Rattle.column.specs.FramePlaces.{laidFrom, laid-frame, laid-ends, laid-full, laid-refused, laid-more}
@@ -86,7 +86,7 @@ sized : (c : tie.After-known-told Inv-loop μ-loop)
 sized c =
     let l = c .before .before .before .before .before .before .before in
     let s = l .before .before .args .frame .now in
-    let k = read-sized (drop (l .loop .at) s) (part (c .before .packet .given .0 .0) (c .before .packet .given .0 .1 .0)) (stands c) in
+    let k = read-sized wide (drop (l .loop .at) s) (part (c .before .packet .given .0 .0) (c .before .packet .given .0 .1 .0)) (stands c) in
     (omega (arith, k .0), omega (arith, k .1, length-drop (l .loop .at) s))
 
 enum-known-packet : tie.Need-enum-known-packet Inv-loop μ-loop

@@ -6,10 +6,10 @@ use Rattle.frames.proofs.edges.filled.Statement.{statement}
 use Rattle.frames.proofs.edges.filled.Tie as tie
 
 abbrev Inv-loop : tie.InvT-loop
-Inv-loop kind frame₀ i₀ frame i = length frame ≡ 6670
+Inv-loop kind frame₀ i₀ frame i = length frame ≡ 7696
 
 abbrev μ-loop : tie.MeasureT-loop
-μ-loop kind frame₀ i₀ frame i = 6670 - i
+μ-loop kind frame₀ i₀ frame i = 7696 - i
 
 loop-holds : tie.Need-loop-holds Inv-loop μ-loop
 loop-holds c = search needs

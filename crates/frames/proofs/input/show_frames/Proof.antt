@@ -5,10 +5,10 @@ use Rattle.frames.proofs.input.show_frames.Statement.{statement}
 use Rattle.frames.proofs.input.show_frames.Tie as tie
 
 abbrev Inv-loop : tie.InvT-loop
-Inv-loop input at₀ t5 at = at ≤ length input
+Inv-loop input at₀ at = at ≤ length input
 
 abbrev μ-loop : tie.MeasureT-loop
-μ-loop input at₀ t5 at = length input - at
+μ-loop input at₀ at = length input - at
 
 loop-holds : tie.Need-loop-holds Inv-loop μ-loop
 loop-holds c = search needs
@@ -37,26 +37,20 @@ sub-if1 c = search needs
 returns : tie.Need-returns Inv-loop μ-loop
 returns c = search needs
 
-add-show-frame : tie.Need-add-show-frame Inv-loop μ-loop
-add-show-frame c = search needs
+add-show-bytes : tie.Need-add-show-bytes Inv-loop μ-loop
+add-show-bytes c = search needs
 
-sub-show-frame : tie.Need-sub-show-frame Inv-loop μ-loop
-sub-show-frame c = search needs
+sub-show-bytes : tie.Need-sub-show-bytes Inv-loop μ-loop
+sub-show-bytes c = search needs
 
-part-show-frame-start : tie.Need-part-show-frame-start Inv-loop μ-loop
-part-show-frame-start c = search needs
+part-show-bytes-start : tie.Need-part-show-bytes-start Inv-loop μ-loop
+part-show-bytes-start c = search needs
 
-part-show-frame-end : tie.Need-part-show-frame-end Inv-loop μ-loop
-part-show-frame-end c = search needs
+part-show-bytes-end : tie.Need-part-show-bytes-end Inv-loop μ-loop
+part-show-bytes-end c = search needs
 
-show-frame-requires : tie.Need-show-frame-requires Inv-loop μ-loop
-show-frame-requires c κs = search needs
-
-slice-aggregate-print : tie.Need-slice-aggregate-print Inv-loop μ-loop
-slice-aggregate-print c = search needs
-
-print-requires : tie.Need-print-requires Inv-loop μ-loop
-print-requires c κs = search needs
+show-bytes-requires : tie.Need-show-bytes-requires Inv-loop μ-loop
+show-bytes-requires c κs = search needs
 
 add-at : tie.Need-add-at Inv-loop μ-loop
 add-at c = search needs
@@ -85,13 +79,11 @@ show-frames-spec =
     add-start
     sub-if1
     returns
-    add-show-frame
-    sub-show-frame
-    part-show-frame-start
-    part-show-frame-end
-    show-frame-requires
-    slice-aggregate-print
-    print-requires
+    add-show-bytes
+    sub-show-bytes
+    part-show-bytes-start
+    part-show-bytes-end
+    show-bytes-requires
     add-at
     loop-less
     loop-again

@@ -7,7 +7,7 @@ abbrev Inv-loop : tie.InvT-loop
 Inv-loop frame₀ i₀ frame i = Unit {0}
 
 abbrev μ-loop : tie.MeasureT-loop
-μ-loop frame₀ i₀ frame i = 6656 - i
+μ-loop frame₀ i₀ frame i = 7680 - i
 
 loop-holds : tie.Need-loop-holds Inv-loop μ-loop
 loop-holds c = search needs

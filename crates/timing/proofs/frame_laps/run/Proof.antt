@@ -6,7 +6,7 @@ use Rattle.timing.proofs.frame_laps.run.Statement.{statement}
 use Rattle.timing.proofs.frame_laps.run.Tie as tie
 
 abbrev Inv-loop : tie.InvT-loop
-Inv-loop laps frame₀ sum₀ lap₀ frame sum lap = length frame ≡ 6656
+Inv-loop laps frame₀ sum₀ lap₀ frame sum lap = length frame ≡ 7680
 
 abbrev μ-loop : tie.MeasureT-loop
 μ-loop laps frame₀ sum₀ lap₀ frame sum lap = laps - lap
