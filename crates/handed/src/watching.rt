@@ -20,6 +20,7 @@ use crate::state::with_count;
 use crate::state::with_tree;
 use crate::state::with_words;
 use bank::step::Step;
+use column::packet::HIGHEST;
 use column::state::Column;
 
 fn sent_by(c: Column, sender: u8) -> Column {
@@ -128,7 +129,7 @@ fn acknowledging() {
 
 fn ordering() {
     let owes = with_column(quiet(), 0, root(0, 0, C1, 0));
-    let last = with_column(quiet(), 0, numbered(root(0, 0, C1, 0), 65535));
+    let last = with_column(quiet(), 0, numbered(root(0, 0, C1, 0), HIGHEST));
     both(b"an order to a root that owes", owes, Step::Order(9), 0);
     both(
         b"an order to one that owes, at the highest number",
