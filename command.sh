@@ -1,7 +1,7 @@
-# What ./lockers and ./fastest share, read by both: it builds the program of a crate where it must, hands it a file or standard input, and tells by
-# its status whether all was read and written, since the program has no exit status of its own. Each sets before it reads this: `folder`, that of
-# the repository; `name`, its own; `crates`, those that the program rests on, the program's the last; `given`, what it is given, in a word; `most`,
-# as many bytes as the program reads; and `help`, which prints how it is called.
+# What ./lockers, ./fastest and ./journals share, read by each: it builds the program of a crate where it must, hands it a file or standard input, or
+# two files, and tells by its status whether all was read and written, since the program has no exit status of its own. Each sets before it reads
+# this: `folder`, that of the repository; `name`, its own; `crates`, those that the program rests on, the program's the last; `given`, what it is
+# given, in a word; `most`, as many bytes as the program reads of it; `help`, which prints how it is called; and `pair`, where it is given two.
 crate=${crates[-1]}
 program=$folder/target/bin/$crate
 log=$folder/target/log/$crate-build.out
@@ -27,19 +27,42 @@ build() {
     touch -d "$began" "$program"
 }
 
-[ $# -le 1 ] || fail "more than one $given; see ./$name --help"
-if [ "${1-}" = --help ]; then
-    help
-    exit
-fi
-if [ $# -eq 1 ]; then
-    { [ ! -d "$1" ] && exec <"$1"; } 2>/dev/null || fail "cannot read $1"
-fi
-is_built || build
+# The parts of a pipe that ends in the program and `cat` ended with these.
+told() {
+    [ "$2" -eq 0 ] || fail "output was lost"
+    [ "$1" -eq 0 ] || fail "the program ended with status $1"
+}
 
-# No more than the program reads, so that it always reads all that head writes.
-head -c "$most" | "$program" | cat
-ended=("${PIPESTATUS[@]}")
-[ "${ended[2]}" -eq 0 ] || fail "output was lost"
-[ "${ended[1]}" -eq 0 ] || fail "the program ended with status ${ended[1]}"
-[ "${ended[0]}" -eq 0 ] || fail "the $given could not be read to its end"
+run_on_pair() {
+    [ $# -eq 2 ] || fail "two ${given}s are asked for; see ./$name --help"
+    held=$(mktemp -d) || fail "there is no place for what is read"
+    trap 'rm -rf "$held"' EXIT
+    local place
+    for place in 1 2; do
+        { [ ! -d "${!place}" ] && head -c "$most" <"${!place}" >"$held/$place"; } 2>/dev/null || fail "cannot read ${!place}"
+    done
+    is_built || build
+    "$program" "$held/1" "$held/2" | cat
+    told "${PIPESTATUS[@]}"
+}
+
+run_on_input() {
+    [ $# -le 1 ] || fail "more than one $given; see ./$name --help"
+    if [ $# -eq 1 ]; then
+        { [ ! -d "$1" ] && exec <"$1"; } 2>/dev/null || fail "cannot read $1"
+    fi
+    is_built || build
+    # No more than the program reads, so that it always reads all that head writes.
+    head -c "$most" | "$program" | cat
+    local ended=("${PIPESTATUS[@]}")
+    told "${ended[1]}" "${ended[2]}"
+    [ "${ended[0]}" -eq 0 ] || fail "the $given could not be read to its end"
+}
+
+if [ $# -eq 1 ] && [ "$1" = --help ]; then
+    help
+elif [ -n "${pair-}" ]; then
+    run_on_pair "$@"
+else
+    run_on_input "$@"
+fi

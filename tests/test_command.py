@@ -1,4 +1,4 @@
-"""The commands ./lockers and ./fastest: what they read and print, when they build, and how they end where something is lost. They run as copies, with
+"""The commands ./lockers, ./fastest and ./journals: what they read and print, when they build, and how they end where something is lost. They run as copies, with
 a stand-in for rt."""
 import glob
 import os
@@ -14,7 +14,7 @@ import model_fastest
 from test_documents import BLOCK, read, section
 from test_scripts import LIMIT, ROOT, TABLE, failing
 
-TOOLS = ("bash", "cat", "cp", "date", "dirname", "find", "head", "mkdir", "readlink", "sed", "sleep", "tee", "touch")
+TOOLS = ("bash", "cat", "cp", "date", "dirname", "find", "head", "mkdir", "mktemp", "python3", "readlink", "rm", "sed", "sleep", "tee", "touch")
 
 
 class Command(unittest.TestCase):
@@ -260,6 +260,72 @@ class FastestRuns(Runs, Fastest):
 
 class FastestBuilds(Builds, Fastest):
     pass
+
+
+class Journals(Command):
+    name = "journals"
+    crates = ("column", "fastest", "bank", "closing", "journals", "fitter")
+    given = "journal"
+    text = "column=1\ngot=1,0,1\nsent=1,3,1\n"
+    answer = "sent=1,3,1\n"
+
+    def setUp(self):
+        super().setUp()
+        self.other = self.write("other", "column=3\n")
+
+    def test_two_files_are_answered(self):
+        self.build()
+        self.assert_answered(self.run_command(self.file, self.other))
+        self.assert_answered(self.run_command(self.other, self.file))
+        self.assert_answered(self.run_command(self.file, self.file), "refused=19\n")
+        self.assert_answered(self.run_command(self.file, "/dev/zero"), "refused=19\n")
+
+    def test_another_count_of_files_is_refused(self):
+        self.build()
+        for words in ((), (self.file,), (self.file, self.other, self.other), ("--help", self.file, self.other)):
+            self.assert_failed(self.run_command(*words), "two journals are asked for")
+
+    def test_a_file_that_cannot_be_read_is_told_before_a_build(self):
+        self.stand_in()
+        for words in (("missing", self.other), (self.file, "missing"), (self.file, self.folder)):
+            self.assert_failed(self.run_command(*words, cwd=self.folder), "cannot read")
+        self.assertEqual(self.calls(), "")
+
+    def test_what_was_held_is_removed(self):
+        self.build()
+        os.makedirs(self.path("held"))
+        done = subprocess.run([self.path(self.name), self.file, self.other], capture_output=True, text=True,
+                              env={"PATH": self.path("tools"), "TMPDIR": self.path("held")})
+        self.assert_answered(done)
+        self.assertEqual(os.listdir(self.path("held")), [])
+
+    def test_lost_output_and_a_program_that_is_ended_are_told(self):
+        self.build()
+        with open("/dev/full", "w", encoding="ascii") as full:
+            self.assert_failed(self.run_command(self.file, self.other, stdout=full), "output was lost")
+        os.chmod(self.write(f"target/bin/{self.crates[-1]}", "#!/bin/sh\nkill -SEGV $$\n"), 0o755)
+        self.assert_failed(self.run_command(self.file, self.other), "status 139")
+
+    def test_a_program_that_is_missing_is_built(self):
+        self.stand_in()
+        self.assert_answered(self.run_command(self.file, self.other), said=self.progress)
+        self.assertEqual(self.calls(), self.called)
+
+    def test_help_names_the_lines_and_where_to_read_more(self):
+        done = self.run_command("--help")
+        self.assertEqual((done.stderr, done.returncode), ("", 0))
+        for word in ("column=1", "sent=1,2,7", "got=2,2,7", "README.md", "x86-64 Linux", "19 for", "20 where", "21 where"):
+            self.assertIn(word, done.stdout)
+
+    def test_what_readme_shows_of_journals(self):
+        self.build()
+        os.makedirs(self.path("tests"))
+        os.makedirs(self.path("examples"))
+        for path in ("tests/model.py", "tests/model_journals.py", "examples/strip-halted.script"):
+            shutil.copy(os.path.join(ROOT, path), self.path(path))
+        command, printed = BLOCK.findall(section(read("README.md"), "The journals of two columns"))
+        done = subprocess.run(["bash", "-c", command], cwd=self.folder, env={"PATH": self.path("tools")}, capture_output=True, text=True)
+        self.assert_answered(done, printed)
 
 
 class Together(Command):

@@ -59,3 +59,10 @@ pub mod RestQuiet
 mod Away
 pub mod Returned
 pub mod Dispatched
+mod SpreadKept
+mod Lines
+mod Logged
+mod Dues
+mod Recorded
+mod Entries
+pub mod Journaled

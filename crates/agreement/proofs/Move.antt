@@ -73,12 +73,13 @@ halted = withRunning false
 
 -- ---- the moves
 
--- which step a move is: a send with the column that it serves, a take with its packet, a return with the column that is copied
+-- which step a move is: a send and an acknowledgement with the column that it serves, a take with its packet and with the one whom it
+-- acknowledges where it leaves the packet, a return with the column that is copied
 pub data Event : Type 0 where
   orders : ℕ → Event
   sends : ℕ → ℕ → Event
-  takes : Packet → Event
-  acknowledges : ℕ → Event
+  takes : Packet → ℕ → Event
+  acknowledges : ℕ → ℕ → Event
   widens : ℕ → Event
   notes : ℕ → ℕ → Event
   halts : ℕ → Event
@@ -139,33 +140,33 @@ pub data Move (t : Tree) (s s' : State) : Event → Type 0 where
       Runs s a → x ≢ a → In (s .columns a .send) x → ¬ In (s .columns a .noted) x →
       Becomes s s' a (serving (s .columns a) (without (s .columns a .send) x) (insert (s .columns a .awaited) x))
       (post s (Message a x (s .columns a .number) (s .columns a .doors)) (s .network)) (s .orders) → Move t s s' (sends a x)
-  take-acknowledgement : (a q k : ℕ) {l : List Packet} →
+  take-acknowledgement : (a q k : ℕ) {l : List Packet} {o : ℕ} →
       Runs s a → k ≡ s .columns a .number → Taken (s .network) (Acknowledgement q a k) l →
       Becomes s s' a (serving (s .columns a) (s .columns a .send) (without (s .columns a .awaited) q)) l (s .orders) →
-      Move t s s' (takes (Acknowledgement q a k))
-  take-stale : (a q k : ℕ) {l : List Packet} →
+      Move t s s' (takes (Acknowledgement q a k) o)
+  take-stale : (a q k : ℕ) {l : List Packet} {o : ℕ} →
       Runs s a → k ≢ s .columns a .number → Taken (s .network) (Acknowledgement q a k) l →
-      Becomes s s' a (s .columns a) l (s .orders) → Move t s s' (takes (Acknowledgement q a k))
-  take-equal : (a q k d : ℕ) {l : List Packet} →
+      Becomes s s' a (s .columns a) l (s .orders) → Move t s s' (takes (Acknowledgement q a k) o)
+  take-equal : (a q k d : ℕ) {l : List Packet} {o : ℕ} →
       Runs s a → k ≡ s .columns a .number → Taken (s .network) (Message q a k d) l →
-      Becomes s s' a (owing (s .columns a) (insert (s .columns a .owed) q)) l (s .orders) → Move t s s' (takes (Message q a k d))
-  take-lower : (a q k d : ℕ) {l : List Packet} →
+      Becomes s s' a (owing (s .columns a) (insert (s .columns a .owed) q)) l (s .orders) → Move t s s' (takes (Message q a k d) o)
+  take-lower : (a q k d : ℕ) {l : List Packet} {o : ℕ} →
       Runs s a → k < s .columns a .number → Taken (s .network) (Message q a k d) l →
-      Becomes s s' a (s .columns a) (post s (Acknowledgement a q k) l) (s .orders) → Move t s s' (takes (Message q a k d))
+      Becomes s s' a (s .columns a) (post s (Acknowledgement a q k) l) (s .orders) → Move t s s' (takes (Message q a k d) o)
   -- a higher number where someone is owed: the packet is left
   take-left : (a q k d r : ℕ) {l : List Packet} →
       Runs s a → s .columns a .number < k → Taken (s .network) (Message q a k d) l → In (s .columns a .owed) r →
       Becomes s s' a (owing (s .columns a) (without (s .columns a .owed) r))
-      (post s (Acknowledgement a r (s .columns a .number)) (s .network)) (s .orders) → Move t s s' (takes (Message q a k d))
+      (post s (Acknowledgement a r (s .columns a .number)) (s .network)) (s .orders) → Move t s s' (takes (Message q a k d) r)
   -- "a higher number leaves its goal the whole bank": the root's
-  take-higher : (a q k d : ℕ) {l : List Packet} →
+  take-higher : (a q k d : ℕ) {l : List Packet} {o : ℕ} →
       Runs s a → s .columns a .number < k → Taken (s .network) (Message q a k d) l → Empty (s .columns a .owed) →
       Becomes s s' a (renewed (s .columns a) k d (children t a) 0 (single q) (eqb a (t .root)) q) l (s .orders) →
-      Move t s s' (takes (Message q a k d))
+      Move t s s' (takes (Message q a k d) o)
   acknowledge : (a r : ℕ) →
       Runs s a → In (s .columns a .owed) r → Free t a (s .columns a) →
       Becomes s s' a (owing (s .columns a) (without (s .columns a .owed) r))
-      (post s (Acknowledgement a r (s .columns a .number)) (s .network)) (s .orders) → Move t s s' (acknowledges a)
+      (post s (Acknowledgement a r (s .columns a .number)) (s .network)) (s .orders) → Move t s s' (acknowledges a r)
   -- under sender "`all` asks that this sender is noted, in place of the root"
   widen : (a : ℕ) →
       Runs s a → a ≢ t .root → In (s .columns a .noted) (watched t (s .columns a)) → s .columns a .whole ≡ false → Idle (s .columns a) →

@@ -62,6 +62,29 @@ pub record Reached (w : World) : Type 0 where
 
 -- ---- the fresh bank
 
+-- the model of a fresh bank is fresh
+pub fresh-model : (t : Tree) → treeRefusal t ≡ 0 → (heads doors : List ℕ) → Fresh t (modelOf (state (freshBank t) heads doors) [])
+unfolding meant
+fresh-model t ok heads doors = record {
+  columns-fresh = λ i l. ap (view t i) (fresh-at t ok i l) ∙ running i l;
+  nobody-else = λ i l r. absurd (omega (arith, l, ltb-true i (t .columns) (and-left _ _ r)));
+  no-packet = refl;
+  no-order = refl;
+}
+  where
+    running : (i : ℕ) → i < t .columns → view t i (columns.fresh t i) ≡ columns.fresh t i
+    running i l = λ k. record {
+      running = ap (λ (b : Bool). b && true) (lt-ltb i (t .columns) l) k;
+      number = 0;
+      doors = 0;
+      send = 0;
+      awaited = 0;
+      owed = 0;
+      noted = 0;
+      whole = eqb i (t .root);
+      sender = t .root;
+    }
+
 pub start : (t : Tree) → treeRefusal t ≡ 0 → (heads doors : List ℕ) → length heads ≡ capacity → length doors ≡ capacity
     → Reached (begin t heads doors)
 unfolding meant
@@ -73,9 +96,9 @@ start t ok heads doors h d = record {
     numbers-fit = λ i. omega (arith, zero-number i);
   };
   room = omega arith;
-  invariant = fresh-invariant t fresh below;
-  standing = fresh-standing t below fresh;
-  bounded = λ _. fresh-bounded t below fresh;
+  invariant = fresh-invariant t (fresh-model t ok heads doors) below;
+  standing = fresh-standing t below (fresh-model t ok heads doors);
+  bounded = λ _. fresh-bounded t below (fresh-model t ok heads doors);
   received-is = zero-number;
   awaits-is = λ q. ap (λ (c : Column). has (c .awaited) q) (fresh-at t ok (t .root) below) ∙ has-none q;
 }
@@ -90,27 +113,6 @@ start t ok heads doors h d = record {
     zero-number i =
         ⊎-elim (λ l. ap (λ (c : Column). c .number) (fresh-at t ok i l)) (λ l. ap (λ (c : Column). c .number) (fresh-unused t ok i l)) (below-cases i (t .columns))
 
-    running : (i : ℕ) → i < t .columns → view t i (columns.fresh t i) ≡ columns.fresh t i
-    running i l = λ k. record {
-      running = ap (λ (b : Bool). b && true) (lt-ltb i (t .columns) l) k;
-      number = 0;
-      doors = 0;
-      send = 0;
-      awaited = 0;
-      owed = 0;
-      noted = 0;
-      whole = eqb i (t .root);
-      sender = t .root;
-    }
-
-    fresh : Fresh t (modelOf s [])
-    fresh = record {
-      columns-fresh = λ i l. ap (view t i) (fresh-at t ok i l) ∙ running i l;
-      nobody-else = λ i l r. absurd (omega (arith, l, ltb-true i (t .columns) (and-left _ _ r)));
-      no-packet = refl;
-      no-order = refl;
-    }
-
 -- ---- a step
 
 module _ (w w' : World) (e : Event) (r : Reached w) (f : Refined (w .state) (w .orders) (w' .orders) e (w' .state))
@@ -122,7 +124,7 @@ module _ (w w' : World) (e : Event) (r : Reached w) (f : Refined (w .state) (w .
   abbrev m' : model.State
   m' = modelOf (w' .state) (w' .orders)
 
-  carried : Reached w'
+  pub carried : Reached w'
   carried = record {
     tree = ap treeRefusal (f .same-tree) ∙ r .tree;
     formed = f .formed;
@@ -138,7 +140,7 @@ module _ (w w' : World) (e : Event) (r : Reached w) (f : Refined (w .state) (w .
 -- ---- a halt: one move for each member, by the theorem that the members halt singly
 
 -- the world with another bank, and the same past
-abbrev moved : World → State → World
+abbrev pub moved : World → State → World
 moved w s = record { state = s; orders = w .orders; received = w .received; awaits = w .awaits }
 
 halted-singly : (l : List ℕ) (w : World) (s' : State) → Reached w → singles (w .state) l ≡ accepted s' → Reached (moved w s')

@@ -18,7 +18,6 @@ use Rattle.column.specs.declared.packet.Packet.the-variants.{Message, Acknowled
 use Rattle.agreement.proofs.Model.{In, State, count, Becomes}
 use Rattle.agreement.proofs.Move.{Event, orders, sends, takes, acknowledges, widens, notes, halts, backs, Move, order, send-self, send-noted, send-message, take-acknowledgement, take-stale, take-equal, take-lower, take-left, take-higher, acknowledge, widen, note-awaited, note-other, halt, back}
 use Rattle.agreement.proofs.Members.{absent}
-use Rattle.agreement.proofs.Network.{taken-held}
 use Rattle.agreement.proofs.Invariant.{number, Invariant}
 use Rattle.agreement.proofs.Keeping.{each}
 use Rattle.agreement.proofs.Links.{receiver-other}
@@ -32,8 +31,8 @@ use Rattle.agreement.proofs.Back.{returned-each}
 abbrev pub ordersAfter : Event → List ℕ → List ℕ
 ordersAfter (orders d) l = d ∷ l
 ordersAfter (sends i x) l = l
-ordersAfter (takes p) l = l
-ordersAfter (acknowledges i) l = l
+ordersAfter (takes p o) l = l
+ordersAfter (acknowledges i o) l = l
 ordersAfter (widens i) l = l
 ordersAfter (notes i j) l = l
 ordersAfter (halts i) l = l
@@ -55,8 +54,8 @@ heard s (Acknowledgement q a k) f j = f j
 abbrev pub receivedAfter : Tree → State → Event → (ℕ → ℕ) → ℕ → ℕ
 receivedAfter t s (orders d) f j = updated f (t .root) (suc (count s)) j
 receivedAfter t s (sends i x) f j = f j
-receivedAfter t s (takes p) f j = heard s p f j
-receivedAfter t s (acknowledges i) f j = f j
+receivedAfter t s (takes p o) f j = heard s p f j
+receivedAfter t s (acknowledges i o) f j = f j
 receivedAfter t s (widens i) f j = f j
 receivedAfter t s (notes i x) f j = f j
 receivedAfter t s (halts i) f j = f j
@@ -70,8 +69,8 @@ answered t s (Acknowledgement x a k) g q = cond (eqb a (t .root) && eqb k (numbe
 abbrev pub awaitsAfter : Tree → State → Event → (ℕ → Bool) → ℕ → Bool
 awaitsAfter t s (orders d) g q = g q
 awaitsAfter t s (sends i x) g q = cond (eqb i (t .root) && not (has (s .columns i .noted) x)) (g q || eqb q x) (g q)
-awaitsAfter t s (takes p) g q = answered t s p g q
-awaitsAfter t s (acknowledges i) g q = g q
+awaitsAfter t s (takes p o) g q = answered t s p g q
+awaitsAfter t s (acknowledges i o) g q = g q
 awaitsAfter t s (widens i) g q = g q
 awaitsAfter t s (notes i x) g q = cond (eqb i (t .root)) (g q && not (eqb q x)) (g q)
 awaitsAfter t s (halts i) g q = g q

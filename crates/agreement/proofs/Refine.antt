@@ -143,13 +143,13 @@ module _ (s : State) (formed : Formed s) (orders : List ℕ) where
       (Acknowledgement i r (c .number)) (record { sender-lt = column-small s st i below; receiver-lt = column-small s st r r-below; number-lt = formed .numbers-fit i }) r-below apart
       (λ s' z. m s' in-owed z))
 
-  pub refines-ack : (i : ℕ) → Refines s orders orders (move.acknowledges i) (ack s i)
+  pub refines-ack : (i : ℕ) → Refines s orders orders (move.acknowledges i (lowest (columnAt (s .bank) i .owed))) (ack s i)
   unfolding ackEffect
   refines-ack i =
       let c = columnAt (s .bank) i in
-      refines-acting i (ackRefusal t i c) (ackEffect i c) orders (move.acknowledges i) (λ st below no.
+      refines-acting i (ackRefusal t i c) (ackEffect i c) orders (move.acknowledges i (lowest (c .owed))) (λ st below no.
       let k = ack-in t i c no in
-      refines-acknowledgement i s false refl st below (k .1) (move.acknowledges i)
+      refines-acknowledgement i s false refl st below (k .1) (move.acknowledges i (lowest (c .owed)))
       (λ s' m z. move.acknowledge i (lowest (c .owed)) (model-runs s st i below orders (k .0)) m (k .2) z))
 
   pub refines-all : (i : ℕ) → Refines s orders orders (move.widens i) (all s i)

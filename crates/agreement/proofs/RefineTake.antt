@@ -61,7 +61,7 @@ module _ (s : State) (formed : Formed s) (orders : List ℕ) where
   module _ (place : ℕ) (gone-whole : Whole (removed s place)) where
     -- a message: equal, lower, higher and left, higher and received
     message : (q a k d : ℕ) → Arrived place (Message q a k d)
-        → Refines s orders orders (move.takes (Message q a k d)) (settled s (removed s place) a (messageEffect t a (columnAt (s .bank) a) q k d))
+        → Refines s orders orders (move.takes (Message q a k d) (lowest (columnAt (s .bank) a .owed))) (settled s (removed s place) a (messageEffect t a (columnAt (s .bank) a) q k d))
     unfolding messageEffect receiveEffect
     message q a k d z = go (eqb k (c .number)) (ltb k (c .number)) (eqb (c .owed) 0) refl refl refl
       where
@@ -69,7 +69,7 @@ module _ (s : State) (formed : Formed s) (orders : List ℕ) where
         c = columnAt (s .bank) a
 
         e : move.Event
-        e = move.takes (Message q a k d)
+        e = move.takes (Message q a k d) (lowest (c .owed))
 
         st : Stands s
         st = z .bank-stands
@@ -108,7 +108,7 @@ module _ (s : State) (formed : Formed s) (orders : List ℕ) where
             (λ s' m b. move.take-left a q k d (lowest (c .owed)) runs-model (higher x y) (z .taken) m b)
 
     acknowledgement : (q a k : ℕ) → Arrived place (Acknowledgement q a k)
-        → Refines s orders orders (move.takes (Acknowledgement q a k)) (settled s (removed s place) a (acknowledgementEffect (columnAt (s .bank) a) q k))
+        → Refines s orders orders (move.takes (Acknowledgement q a k) (lowest (columnAt (s .bank) a .owed))) (settled s (removed s place) a (acknowledgementEffect (columnAt (s .bank) a) q k))
     unfolding acknowledgementEffect
     acknowledgement q a k z = go (eqb k (c .number)) refl
       where
@@ -116,7 +116,7 @@ module _ (s : State) (formed : Formed s) (orders : List ℕ) where
         c = columnAt (s .bank) a
 
         e : move.Event
-        e = move.takes (Acknowledgement q a k)
+        e = move.takes (Acknowledgement q a k) (lowest (c .owed))
 
         below : a < t .columns
         below = z .sound .receiver-below
@@ -133,18 +133,18 @@ module _ (s : State) (formed : Formed s) (orders : List ℕ) where
             refines-quiet s formed (z .bank-stands) a below c (formed .numbers-fit a) (removed s place) refl refl gone-whole orders orders e
             (λ s' b. move.take-stale a q k runs-model (eqb-false k (c .number) x) (z .taken) b)
 
-    arrives : (p : Packet) → Arrived place p → Refines s orders orders (move.takes p) (delivered s place p)
+    arrives : (p : Packet) → Arrived place p → Refines s orders orders (move.takes p (lowest (columnAt (s .bank) (receiver p) .owed))) (delivered s place p)
     unfolding delivered
     arrives (Message q a k d) z =
-        refines-core s orders orders (move.takes (Message q a k d)) (removed s place) a
+        refines-core s orders orders (move.takes (Message q a k d) (lowest (columnAt (s .bank) a .owed))) (removed s place) a
         (takeRefusal t a (columnAt (s .bank) a) (Message q a k d)) (columnAt (s .bank) a) _ (λ h. message q a k d z)
     arrives (Acknowledgement q a k) z =
-        refines-core s orders orders (move.takes (Acknowledgement q a k)) (removed s place) a
+        refines-core s orders orders (move.takes (Acknowledgement q a k) (lowest (columnAt (s .bank) a .owed))) (removed s place) a
         (takeRefusal t a (columnAt (s .bank) a) (Acknowledgement q a k)) (columnAt (s .bank) a) _ (λ h. acknowledgement q a k z)
 
-  pub refines-take : (place : ℕ) → Refines s orders orders (move.takes (packetAt s place)) (bank.take s place)
+  pub refines-take : (place : ℕ) → Refines s orders orders (move.takes (packetAt s place) (lowest (columnAt (s .bank) (receiver (packetAt s place)) .owed))) (bank.take s place)
   refines-take place =
-      refines-unless s orders orders (move.takes (packetAt s place)) (bank.takeRefusal s place) _ (λ ok.
+      refines-unless s orders orders (move.takes (packetAt s place) (lowest (columnAt (s .bank) (receiver (packetAt s place)) .owed))) (bank.takeRefusal s place) _ (λ ok.
       let q = earlier-none (bankRefusal s) (refusals.first ((10, leb (s .bank .count) place) ∷ [])) ok in
       let st = stands s (q .0) in
       let held = leb-false (s .bank .count) place (passed ((10, leb (s .bank .count) place) ∷ []) tt (q .1) .0) in

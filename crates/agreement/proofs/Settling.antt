@@ -26,8 +26,8 @@ use Rattle.agreement.proofs.Ceiling.{ceiling}
 abbrev pub settling : Event → Bool
 settling (orders d) = false
 settling (sends a x) = true
-settling (takes p) = true
-settling (acknowledges a) = true
+settling (takes p o) = true
+settling (acknowledges a r) = true
 settling (widens a) = true
 settling (notes a j) = true
 settling (halts a) = false

@@ -59,7 +59,7 @@ not-refused : (t : Tree) (c : Column) (p : Packet) → treeRefusal t ≡ 0 → s
 unfolding takeRefusal
 not-refused t c p h i j r = simp (h, i, j, r, eq-eqb (receiver p) (receiver p) refl)
 
-left-is : (s : State) → Stands s → (place q a k d : ℕ) → place < s .bank .count → packetAt s place ≡ Message q a k d
+pub left-is : (s : State) → Stands s → (place q a k d : ℕ) → place < s .bank .count → packetAt s place ≡ Message q a k d
     → leftBy s (Message q a k d) ≡ moves.leaves (modelOf s []) a k
 left-is s st place q a k d held e =
     let t = s .bank .tree in

@@ -5,7 +5,9 @@ use mathlib.Core.Bool.{_&&_}
 use mathlib.Core.List.{List}
 use lib.Dec.{ltb}
 use lib.ListN.{length}
+use Rattle.column.specs.Sets.{lowest}
 use Rattle.column.specs.Trees.{choose}
+use Rattle.column.specs.Packets.{receiver}
 use Rattle.column.specs.declared.tree.Tree.{Tree}
 use Rattle.column.specs.declared.state.Column.{Column}
 use Rattle.bank.specs.Words.{numbers}
@@ -40,8 +42,8 @@ OneMove (Back j) = Unit {0}
 abbrev pub event : State → (x : Step) → OneMove x → move.Event
 event s (Order doors) o = move.orders doors
 event s (Send i) o = move.sends i (choose (s .bank .tree) (columnAt (s .bank) i .send))
-event s (Take place) o = move.takes (packetAt s place)
-event s (Ack i) o = move.acknowledges i
+event s (Take place) o = move.takes (packetAt s place) (lowest (columnAt (s .bank) (receiver (packetAt s place)) .owed))
+event s (Ack i) o = move.acknowledges i (lowest (columnAt (s .bank) i .owed))
 event s (All i) o = move.widens i
 event s (Note i j) o = move.notes i j
 event s (Halt m) o = absurd o

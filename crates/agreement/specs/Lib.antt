@@ -9,3 +9,5 @@ pub mod Dispatching
 pub mod Returning
 pub mod DispatchRuns
 pub mod ReturnRuns
+pub mod Journals
+pub mod JournalRuns

@@ -144,7 +144,7 @@ comma-digits (b ∷ l) h = go (eqb b comma) refl (λ k. comma-digits l k) h
     go true e more h = rw (eqb-true b comma e)
     go false e more h = none-and (isDigit b) (allDigits l) (λ d. more (omega arith))
 
-comma-numeral : (width : ℕ) (l : List ℕ) → indexOf comma l < length l → numeral width l ≡ unread
+pub comma-numeral : (width : ℕ) (l : List ℕ) → indexOf comma l < length l → numeral width l ≡ unread
 unfolding numeral
 comma-numeral width l h = rw (comma-digits l h) (go (leb 1 (length l) && leb (length l) width))
   where

@@ -2,7 +2,7 @@
 mod hexadecimal;
 pub mod line;
 pub mod list;
-mod reading;
+pub mod reading;
 pub mod request;
 pub mod script;
 pub mod table;

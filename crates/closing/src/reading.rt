@@ -1,5 +1,5 @@
 // Keys and numerals of a text.
-ghost use Prim.Native.Nat.{_≤_};
+ghost use Prim.Native.Nat.{_≤_, min};
 ghost use mathlib.Core.Path.{_≡_};
 ghost use Rattle.closing.specs.Text.{numeral, startsWith};
 ghost use Rattle.closing.specs.Tables.{keyed};
@@ -12,7 +12,7 @@ pub enum Number {
 
 // The value of digits alone, however many zeros lead.
 fn value_of(text: &[u8]) -> Number
-    requires { do ⌜ (← ⟦text.len()⟧) ≤ 4 ⌝ }
+    requires { do ⌜ (← ⟦text.len()⟧) ≤ 10 ⌝ }
     ensures { λ r. ⌜ numberMeant r ≡ digits 0 (now (text .entry)) ⌝ }
 {
     let mut value: usize = 0;
@@ -27,9 +27,9 @@ fn value_of(text: &[u8]) -> Number
     Number::Is(value)
 }
 
-// Four digits at most, so that the value is held.
-pub fn numeral(text: &[u8], width: usize) -> Number
-    requires { ⌜ width ≤ 4 ⌝ }
+// Ten digits at most, so that the value is held.
+pub(crate) fn numeral(text: &[u8], width: usize) -> Number
+    requires { ⌜ width ≤ 10 ⌝ }
     ensures { λ r. ⌜ numberMeant r ≡ numeral width (now (text .entry)) ⌝ }
 {
     if text.len() == 0 {
@@ -47,6 +47,7 @@ pub fn numeral(text: &[u8], width: usize) -> Number
     value_of(text)
 }
 
+// Whether a text begins with a key.
 pub fn starts_with(text: &[u8], key: &[u8]) -> bool
     ensures { λ r. ⌜ r ≡ startsWith (now (key .entry)) (now (text .entry)) ⌝ }
 {
@@ -63,12 +64,32 @@ pub fn starts_with(text: &[u8], key: &[u8]) -> bool
     true
 }
 
-pub fn keyed(line: &[u8], key: &[u8], width: usize) -> Number
-    requires { ⌜ width ≤ 4 ⌝ }
+pub(crate) fn keyed(line: &[u8], key: &[u8], width: usize) -> Number
+    requires { ⌜ width ≤ 10 ⌝ }
     ensures { λ r. ⌜ numberMeant r ≡ keyed (now (key .entry)) width (now (line .entry)) ⌝ }
 {
     if !starts_with(line, key) {
         return Number::Unread;
     }
     numeral(&line[key.len()..], width)
+}
+
+// The value of a numeral of `width` digits at most; of ten, where a longer one is asked for.
+pub fn read_numeral(text: &[u8], width: usize) -> Number
+    ensures { λ r. ⌜ numberMeant r ≡ numeral (min width 10) (now (text .entry)) ⌝ }
+{
+    if 10 < width {
+        return numeral(text, 10);
+    }
+    numeral(text, width)
+}
+
+// The value of the numeral that stands after a key, of `width` digits at most; of ten, where a longer one is asked for.
+pub fn read_keyed(line: &[u8], key: &[u8], width: usize) -> Number
+    ensures { λ r. ⌜ numberMeant r ≡ keyed (now (key .entry)) (min width 10) (now (line .entry)) ⌝ }
+{
+    if 10 < width {
+        return keyed(line, key, 10);
+    }
+    keyed(line, key, width)
 }

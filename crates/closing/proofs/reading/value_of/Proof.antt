@@ -15,8 +15,8 @@ Inv-loop text value₀ i₀ value i = (i ≤ length text) × (value < 10 ^ i) ×
 abbrev μ-loop : tie.MeasureT-loop
 μ-loop text value₀ i₀ value i = length text - i
 
-small : (c : tie.In-loop Inv-loop μ-loop) → 10 ^ (c .before .loop .i) ≤ 10000
-small c = pow-le-pow-right {n = 10} (omega arith) {i = c .before .loop .i} {j = 4} (omega arith)
+small : (c : tie.In-loop Inv-loop μ-loop) → 10 ^ (c .before .loop .i) ≤ 10000000000
+small c = pow-le-pow-right {n = 10} (omega arith) {i = c .before .loop .i} {j = 10} (omega arith)
 
 loop-holds : tie.Need-loop-holds Inv-loop μ-loop
 loop-holds c = (omega arith, omega arith, refl)

@@ -1,0 +1,27 @@
+"""Pairs of journals to measure, each as long as a journal may be."""
+LIMIT = 32768
+
+
+def full(owner, lines):
+    """A journal with as many of the lines as fit."""
+    text = [f"column={owner}\n"]
+    length = len(text[0])
+    for line in lines:
+        length += len(line) + 1
+        if length > LIMIT:
+            break
+        text.append(line + "\n")
+    return "".join(text)
+
+
+def pair(numbers, got):
+    """Column 0 sends column 1 messages with these numbers, of which it gets some."""
+    one = full(0, (f"sent=1,1,{number}" for number in numbers))
+    sent = [int(line.rpartition(",")[2]) for line in one.splitlines()[1:]]
+    return one, full(1, [f"got=1,0,{number}" for number in sent if got(number)] + [f"sent=2,0,{number}" for number in sent])
+
+
+JOURNALS = [("every message got", *pair(range(1, 4000), lambda number: True)),
+            ("every second message got", *pair(range(1, 4000), lambda number: number % 2)),
+            ("no message got", *pair(range(1, 4000), lambda number: False)),
+            ("all lines of one chain", *pair(range(4093, 4093 * 4000, 4093), lambda number: True))]

@@ -1,0 +1,28 @@
+use mathlib.Core.Path.{sym, ap, _∙_}
+use mathlib.Core.Bool.{not}
+use borrow.Author.Tests.{not-true, not-false}
+use Rattle.journals.specs.Chains.{among}
+use borrow.Author.Needs.{needs}
+use Rattle.journals.proofs.index.missed_one.Statement.{statement}
+use Rattle.journals.proofs.index.missed_one.Tie as tie
+
+about-requires : tie.Need-about-requires
+about-requires c κs = search needs
+
+returns : tie.Need-returns
+returns c = rw (sym (c .before .about .ensures) ∙ not-true (c .before .about .result) (c .if1 .taken))
+
+turn-requires : tie.Need-turn-requires
+turn-requires c κs = search needs
+
+has-requires : tie.Need-has-requires
+has-requires c κs = search needs
+
+returns-2 : tie.Need-returns-2
+returns-2 c =
+    let t = c .before in
+    let e = t .before in
+    rw (sym (e .before .about .ensures) ∙ not-false (e .before .about .result) (e .if1 .left)) (ap not (c .has .ensures ∙ ap (among _ _) (t .turn .ensures)))
+
+pub missed-one-spec : {M : Type 1} → statement M
+missed-one-spec = tie.close (tie.spec about-requires returns turn-requires has-requires returns-2)

@@ -1,0 +1,135 @@
+use Prim.Native.Nat.{_+_, _≤_}
+use mathlib.Core.Path.{sym, ap, subst, _∙_}
+use native.Mathlib.Omega.{arith}
+use lib.ListN.{length}
+use Rattle.closing.specs.Readings.{numberMeant}
+use Rattle.journals.specs.JournalKeys.{countMeant, countOf}
+use Rattle.journals.specs.JournalReads.{journal-long, journal-unended, journal-unread, journal-above, journal-owned, read-refused, read-holds}
+use Rattle.journals.specs.declared.journal.Count.{Count}
+use borrow.Author.Needs.{needs}
+use Rattle.journals.proofs.journal.read_journal.Statement.{statement}
+use Rattle.journals.proofs.journal.read_journal.Tie as tie
+
+returns : tie.Need-returns
+returns c =
+    journal-long _ (c .if1 .taken)
+
+find-requires : tie.Need-find-requires
+find-requires c κs = search needs
+
+returns-2 : tie.Need-returns-2
+returns-2 c =
+    let f = c .before .find .ensures in
+    journal-unended _ (c .before .before .if1 .left) _ (f .0) (f .1) (c .if2 .taken)
+
+sub-read-keyed : tie.Need-sub-read-keyed
+sub-read-keyed c = search needs
+
+part-read-keyed-start : tie.Need-part-read-keyed-start
+part-read-keyed-start c = search needs
+
+part-read-keyed-end : tie.Need-part-read-keyed-end
+part-read-keyed-end c = search needs
+
+slice-aggregate-read-keyed : tie.Need-slice-aggregate-read-keyed
+slice-aggregate-read-keyed c = search needs
+
+read-keyed-requires : tie.Need-read-keyed-requires
+read-keyed-requires c κs = search needs
+
+enum-told : tie.Need-enum-told
+enum-told c = search needs
+
+enum-known-owner : tie.Need-enum-known-owner
+enum-known-owner c = search needs
+
+returns-3 : tie.Need-returns-3
+returns-3 c =
+    let o = c .before .before in
+    let k = o .before .before in
+    let e = k .before .before .before in
+    let f = e .before .find .ensures in
+    journal-above _ (e .before .before .if1 .left) _ (f .0) (f .1) (e .if2 .left) _ (sym (k .read-keyed .ensures) ∙ ap numberMeant (o .owner .given .1)) (c .if3 .taken)
+
+add-read-entries : tie.Need-add-read-entries
+add-read-entries c = search needs
+
+read-entries-requires : tie.Need-read-entries-requires
+read-entries-requires c κs = search needs
+
+enum-known-n : tie.Need-enum-known-n
+enum-known-n c = search needs
+
+enum-known-count : tie.Need-enum-known-count
+enum-known-count c = search needs
+
+add-t23 : tie.Need-add-t23
+add-t23 c = search needs
+
+returns-4 : tie.Need-returns-4
+returns-4 c =
+    let k = c .before .before in
+    let e = k .before .before .before in
+    let f = e .before .find .ensures in
+    journal-unread _ (e .before .before .if1 .left) _ (f .0) (f .1) (e .if2 .left) (sym (k .read-keyed .ensures) ∙ ap numberMeant (c .enum-told .given .1))
+
+same-length : tie.Need-same-length
+same-length c = search needs
+
+returns-5 : tie.Need-returns-5
+returns-5 c =
+    let n = c .before in
+    let x = n .before .before .before .before in
+    let t = x .before .before in
+    let o = t .before .before in
+    let k = o .before .before in
+    let e = k .before .before .before in
+    let f = e .before .find .ensures in
+    read-refused _ _ (e .before .find .result + 1)
+    (journal-owned _ (e .before .before .if1 .left) _ (f .0) (f .1) (e .if2 .left) _ (sym (k .read-keyed .ensures) ∙ ap numberMeant (o .owner .given .1)) (t .if3 .left))
+    _ (ap (λ (r : Count). countMeant r (x .read-entries .last .1 .1 .1 .0)) (sym (n .n .given .1)) ∙ x .read-entries .ensures .0)
+
+same-length-2 : tie.Need-same-length-2
+same-length-2 c = search needs
+
+returns-6 : tie.Need-returns-6
+returns-6 c =
+    let n = c .before in
+    let x = n .before .before .before .before in
+    let t = x .before .before in
+    let o = t .before .before in
+    let k = o .before .before in
+    let e = k .before .before .before in
+    let f = e .before .find .ensures in (
+      read-holds _ _ (e .before .find .result + 1)
+          (journal-owned _ (e .before .before .if1 .left) _ (f .0) (f .1) (e .if2 .left) _ (sym (k .read-keyed .ensures) ∙ ap numberMeant (o .owner .given .1)) (t .if3 .left))
+          _ (ap (λ (r : Count). countMeant r (x .read-entries .last .1 .1 .1 .0)) (sym (n .count .given .1)) ∙ x .read-entries .ensures .0)
+          (omega (arith, f .1, e .if2 .left)) (t .if3 .left),
+      subst (λ (r : Count). countOf r ≤ length (x .read-entries .last .1 .1 .1 .0)) (n .count .given .1) (x .read-entries .ensures .1),
+    )
+
+pub read-journal-spec : {M : Type 1} → statement M
+read-journal-spec =
+    tie.close
+    (tie.spec
+    returns
+    find-requires
+    returns-2
+    sub-read-keyed
+    part-read-keyed-start
+    part-read-keyed-end
+    slice-aggregate-read-keyed
+    read-keyed-requires
+    enum-told
+    enum-known-owner
+    returns-3
+    add-read-entries
+    read-entries-requires
+    enum-known-n
+    enum-known-count
+    add-t23
+    returns-4
+    same-length
+    returns-5
+    same-length-2
+    returns-6)

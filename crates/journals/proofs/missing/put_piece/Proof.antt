@@ -1,0 +1,63 @@
+use Prim.Native.Nat.{_+_, _-_, _≤_}
+use mathlib.Core.Path.{ap, _∙_}
+use mathlib.Core.List.{List, _++_}
+use native.Mathlib.Omega.{arith}
+use lib.ListN.{length, take, drop}
+use borrow.Author.Tests.{not-true, not-false}
+use Rattle.closing.specs.Writing.{writes-none, written-part}
+use Rattle.journals.specs.Missing.{copied}
+use borrow.Author.Needs.{needs}
+use Rattle.journals.proofs.missing.put_piece.Statement.{statement}
+use Rattle.journals.proofs.missing.put_piece.Tie as tie
+
+room : (c : tie.Else1) → let a = c .before .before .before .args in a .at + length (a .part .now) ≤ length (a .out .now)
+room c = rw (not-false (c .before .before .before .args .missed) (c .if1 .left)) at (c .before .before .before .pre)
+
+returns : tie.Need-returns
+returns c =
+    rw (not-true (c .before .before .before .args .missed) (c .if1 .taken)) (writes-none _ _)
+
+sub-copy : tie.Need-sub-copy
+sub-copy c = search needs
+
+part-copy-start : tie.Need-part-copy-start
+part-copy-start c = search needs
+
+part-copy-end : tie.Need-part-copy-end
+part-copy-end c = search needs
+
+copy-requires : tie.Need-copy-requires
+copy-requires c κs =
+    let h = room (c .before) in search (needs, h)
+
+add-result : tie.Need-add-result
+add-result c = search needs
+
+same-length : tie.Need-same-length
+same-length c = search needs
+
+returns-2 : tie.Need-returns-2
+returns-2 c =
+    let k = c .before .before in
+    let e = k .before .before in
+    let a = e .before .before .before .args in
+    rw (not-false (a .missed) (e .if1 .left)) (record {
+      place = omega (arith, k .copy .ensures .0);
+      left =
+          ap (λ (d : List _). take (a .at) (a .out .now) ++ (d ++ drop (length (a .out .now) - a .at) (drop (a .at) (a .out .now))))
+          (k .copy .ensures .1 ∙ copied (take (length (a .out .now) - a .at) (drop (a .at) (a .out .now))) (a .part .now))
+          ∙ written-part (a .out .now) (a .at) (a .part .now);
+    })
+
+pub put-piece-spec : {M : Type 1} → statement M
+put-piece-spec =
+    tie.close
+    (tie.spec
+    returns
+    sub-copy
+    part-copy-start
+    part-copy-end
+    copy-requires
+    add-result
+    same-length
+    returns-2)

@@ -1,0 +1,135 @@
+-- Two journals that were read, compared test by test in the order of the refusals. Assumes nothing.
+use Prim.Native.Nat.{ℕ, zero, suc, _+_, _≤_, _<_}
+use mathlib.Core.Path.{_≡_, refl, sym, ap, ap₂, _∙_}
+use mathlib.Core.Logic.{_≢_}
+use mathlib.Core.Bool.{Bool, true, false, _&&_, cond}
+use mathlib.Core.List.{List, _++_}
+use native.Mathlib.Omega.{arith}
+use lib.Dec.{eqb, leb}
+use lib.ListN.{length, getD, replicate, length-append}
+use borrow.Author.Tests.{eq-eqb, ne-eqb, le-leb, lt-leb, leb-true}
+use Rattle.column.specs.Refusals.{first, Given, given, refused}
+use Rattle.closing.specs.Text.{written}
+use Rattle.closing.specs.Writing.{Writes}
+use Rattle.closing.specs.Closing.{Listed, placed}
+use Rattle.journals.specs.Chains.{Indexed, Placed, lastWith, distinct}
+use Rattle.journals.specs.Journals.{Journal, journalOf, onceEach, allHeard, missingText, declined, pairConditions, pairCompared, bothCompared, compared}
+use Rattle.journals.specs.JournalReads.{Holds}
+use Rattle.journals.specs.declared.comparison.Compared.{Compared}
+use Rattle.journals.specs.declared.comparison.Compared.the-variants as answer
+
+-- what the call answers, and the whole buffer after it
+abbrev pub comparedMeant : Compared → List ℕ → Listed
+comparedMeant (answer.Length n) out = record { answer = given n; buffer = out }
+comparedMeant (answer.Refused n) out = record { answer = refused n; buffer = out }
+
+-- the words of a journal that was read have their index, and none stands twice
+pub record Ready (text : List ℕ) (owner from : ℕ) (keys heads next : List ℕ) : Type 0 where
+  pub holds : Holds text owner from keys
+  pub once : distinct keys (length keys) ≡ true
+  pub placed-in : Placed keys heads next
+
+zeros : (n b : ℕ) → _≡_ {A = ℕ} (getD (replicate n 0) b 0) 0
+zeros zero b = refl
+zeros (suc n) zero = refl
+zeros (suc n) (suc b) = zeros n b
+
+-- before the first word
+pub index-none : (keys next : List ℕ) → Indexed keys 0 (replicate 4093 0) next
+unfolding lastWith
+index-none keys next = record { heads-are = λ b lt. zeros 4093 b; next-are = λ i lt. absurd (omega (arith, lt)) }
+
+-- ---- the first journal that is none
+
+module _ (one two old : List ℕ) where
+  pub first-refused : (n : ℕ) → journalOf one ≡ refused n → compared one two old ≡ declined n old
+  unfolding bothCompared
+  first-refused n e = rw e
+
+  pub second-refused : (j : Journal) (n : ℕ) → journalOf one ≡ given j → journalOf two ≡ refused n → compared one two old ≡ declined n old
+  unfolding bothCompared
+  second-refused j n e f = rw (e, f)
+
+  pub both-given : (j k : Journal) → journalOf one ≡ given j → journalOf two ≡ given k → compared one two old ≡ pairCompared j k old
+  unfolding bothCompared
+  both-given j k e f = rw (e, f)
+
+-- ---- "order 19, 20, 21", and "11, tested last"
+
+module _ (j k : Journal) (old : List ℕ) where
+  pub pair-owners : j .owner ≡ k .owner → pairCompared j k old ≡ declined 19 old
+  unfolding pairCompared
+  pair-owners e = rw (eq-eqb (j .owner) (k .owner) e)
+
+  module _ (apart : j .owner ≢ k .owner) where
+    pub first-twice : onceEach (j .entries) ≡ false → pairCompared j k old ≡ declined 20 old
+    unfolding pairCompared
+    first-twice e = rw (ne-eqb (j .owner) (k .owner) apart, e)
+
+    module _ (once : onceEach (j .entries) ≡ true) where
+      pub second-twice : onceEach (k .entries) ≡ false → pairCompared j k old ≡ declined 20 old
+      unfolding pairCompared
+      second-twice e = rw (ne-eqb (j .owner) (k .owner) apart, once, e)
+
+      module _ (once-too : onceEach (k .entries) ≡ true) where
+        abbrev heard : Bool
+        heard = allHeard (j .owner) (k .owner) (j .entries) (k .entries) && allHeard (k .owner) (j .owner) (k .entries) (j .entries)
+
+        pub pair-unheard : heard ≡ false → pairCompared j k old ≡ declined 21 old
+        unfolding pairCompared
+        pair-unheard e = rw (ne-eqb (j .owner) (k .owner) apart, once, once-too, e)
+
+        pub pair-placed : heard ≡ true → pairCompared j k old ≡ placed old 0 (missingText j k)
+        unfolding pairCompared
+        pair-placed e = rw (ne-eqb (j .owner) (k .owner) apart, once, once-too, e)
+
+-- ---- two texts, one after the other
+
+module _ (old v w : List ℕ) where
+  pub placed-short : length old < length v + length w → placed old 0 (v ++ w) ≡ declined 11 old
+  unfolding placed
+  placed-short h = rw (lt-leb (0 + length (v ++ w)) (length old) (omega (arith, h, length-append v w)))
+
+  pub placed-both : {r : ℕ} {new : List ℕ} → length v + length w ≤ length old → Writes r new old 0 (v ++ w)
+      → record { answer = given r; buffer = new } ≡ placed old 0 (v ++ w)
+  unfolding placed
+  placed-both h x = rw (le-leb (0 + length (v ++ w)) (length old) (omega (arith, h, length-append v w)))
+      (ap₂ (λ (n : ℕ) (l : List ℕ). record { answer = given n; buffer = l }) (let e : 0 + length (v ++ w) ≡ length (v ++ w) = omega arith in x .place ∙ e) (x .left))
+
+-- ---- what was written lies within the buffer
+
+module _ (old : List ℕ) (n : ℕ) (new : List ℕ) where
+  abbrev answered : Listed
+  answered = record { answer = given n; buffer = new }
+
+  clash : {k : ℕ} {l : List ℕ} → answered ≡ declined k l → ⊥
+  clash {k} e =
+      let q : given n ≡ refused k = ap (λ (x : Listed). x .answer) e in
+      let z : _≡_ {A = ℕ} 0 1 = cc in omega arith
+
+  placed-within : (text : List ℕ) → answered ≡ placed old 0 text → n ≤ length old
+  unfolding placed
+  placed-within text e = go (leb (0 + length text) (length old)) refl e
+    where
+      go : (b : Bool) → leb (0 + length text) (length old) ≡ b
+          → answered ≡ cond b (record { answer = given (length text); buffer = written old 0 text }) (declined 11 old) → n ≤ length old
+      go true f e =
+          let q : given n ≡ given (length text) = ap (λ (x : Listed). x .answer) e in
+          let z : n ≡ length text = cc in omega (arith, leb-true (0 + length text) (length old) f, z)
+      go false f e = absurd (clash e)
+
+  pub compared-within : (one two : List ℕ) → answered ≡ compared one two old → n ≤ length old
+  unfolding bothCompared pairCompared
+  compared-within one two e = go (journalOf one) (journalOf two) e
+    where
+      pair : (j k : Journal) (b : Bool) → answered ≡ cond b (placed old 0 (missingText j k)) (declined (first (pairConditions j k)) old) → n ≤ length old
+      pair j k true e = placed-within (missingText j k) e
+      pair j k false e = absurd (clash e)
+
+      go : (j k : Given Journal) → answered ≡ bothCompared j k old → n ≤ length old
+      go (given j) (given k) e = pair j k (eqb (first (pairConditions j k)) 0) e
+      go (given j) (refused m) e = absurd (clash e)
+      go (refused m) k e = absurd (clash e)
+
+pub length-within : {r : Compared} {n : ℕ} (one two old new : List ℕ) → r ≡ answer.Length n → comparedMeant r new ≡ compared one two old → n ≤ length old
+length-within {n = n} one two old new e h = compared-within old n new one two (ap (λ (x : Compared). comparedMeant x new) (sym e) ∙ h)

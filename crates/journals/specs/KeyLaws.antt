@@ -1,0 +1,202 @@
+-- The words of lines tell them apart: what is said of words is said of lines. Assumes nothing.
+use Prim.Native.Nat.{ℕ, zero, suc, _+_, _*_, _<_}
+use mathlib.Core.Path.{_≡_, refl, sym, ap, ap₂, subst, _∙_}
+use mathlib.Core.Logic.{_⊎_, ⊎-elim}
+use mathlib.Core.Bool.{Bool, true, false, not, _&&_, _||_, cond}
+use mathlib.Core.List.{List, [], _∷_}
+use native.Mathlib.Omega.{arith}
+use lib.Dec.{eqb, ltb}
+use lib.ListN.{length, getD}
+use borrow.Author.Tests.{eq-eqb, eqb-true, ltb-true}
+use Rattle.column.specs.Cases.{or-cases, and-left, and-right, same-truth}
+use Rattle.column.specs.Refusals.{Given, given, refused}
+use Rattle.closing.specs.Text.{Reading, read, unread, numeral, startsWith, afterKey}
+use Rattle.closing.specs.Tables.{Cut, ended, unended, cut, pieces}
+use Rattle.journals.specs.Chains.{among, distinct}
+use Rattle.journals.specs.Journals.{sentKey, gotKey, line, goodLine, lineJudged, linePieces, lineIn, lineOf, Entry, withEntry, cutEntries, entriesIn, sameLine, hasLine, onceEach}
+use Rattle.journals.specs.ComparisonLaws.{line-same, same-line}
+use Rattle.journals.specs.JournalKeys.{wayNumber, keyOf, keysOf}
+use Rattle.journals.specs.declared.line.Way.{Way}
+use Rattle.journals.specs.declared.line.Way.the-variants.{Sent, Got}
+use Rattle.journals.specs.declared.line.Line.{Line}
+
+-- ---- words tell lines apart
+
+pub record Fits (x : Line) : Type 0 where
+  pub kind : x .kind < 256
+  pub other : x .other < 256
+  pub number : x .number < 4294967296
+
+ways : (v w : Way) → wayNumber v ≡ wayNumber w → v ≡ w
+ways Sent Sent e = refl
+ways Sent Got e = absurd (omega (arith, e))
+ways Got Sent e = absurd (omega (arith, e))
+ways Got Got e = refl
+
+abbrev word : ℕ → ℕ → ℕ → ℕ → ℕ
+word w k o n = ((w * 256 + k) * 256 + o) * 4294967296 + n
+
+module _ (w k o n v l p m : ℕ) (hk : k < 256) (ho : o < 256) (hn : n < 4294967296) (hl : l < 256) (hp : p < 256) (hm : m < 4294967296)
+    (e : word w k o n ≡ word v l p m) where
+  number-is : n ≡ m
+  number-is = omega (arith, e)
+
+  pair-is : (w * 256 + k) * 256 + o ≡ (v * 256 + l) * 256 + p
+  pair-is = omega (arith, e)
+
+  other-is : o ≡ p
+  other-is = omega (arith, pair-is)
+
+  ends-are : w * 256 + k ≡ v * 256 + l
+  ends-are = omega (arith, pair-is)
+
+  kind-is : k ≡ l
+  kind-is = omega (arith, ends-are)
+
+  way-is : w ≡ v
+  way-is = omega (arith, ends-are)
+
+key-same : (x y : Line) → Fits x → Fits y → keyOf x ≡ keyOf y → x ≡ y
+key-same x y f g e =
+    let a = way-is (wayNumber (x .way)) (x .kind) (x .other) (x .number) (wayNumber (y .way)) (y .kind) (y .other) (y .number)
+    (f .kind) (f .other) (f .number) (g .kind) (g .other) (g .number) e in
+    let b = kind-is (wayNumber (x .way)) (x .kind) (x .other) (x .number) (wayNumber (y .way)) (y .kind) (y .other) (y .number)
+    (f .kind) (f .other) (f .number) (g .kind) (g .other) (g .number) e in
+    let c = other-is (wayNumber (x .way)) (x .kind) (x .other) (x .number) (wayNumber (y .way)) (y .kind) (y .other) (y .number)
+    (f .kind) (f .other) (f .number) (g .kind) (g .other) (g .number) e in
+    let d = number-is (wayNumber (x .way)) (x .kind) (x .other) (x .number) (wayNumber (y .way)) (y .kind) (y .other) (y .number)
+    (f .kind) (f .other) (f .number) (g .kind) (g .other) (g .number) e in
+    let w = ways (x .way) (y .way) a in
+    λ i. line (w i) (b i) (c i) (d i)
+
+pub key-line : (x y : Line) → Fits x → Fits y → eqb (keyOf x) (keyOf y) ≡ sameLine x y
+key-line x y f g = same-truth (eqb (keyOf x) (keyOf y)) (sameLine x y)
+    (λ e. ap (sameLine x) (sym (key-same x y f g (eqb-true (keyOf x) (keyOf y) e))) ∙ same-line x)
+    (λ e. eq-eqb (keyOf x) (keyOf y) (ap keyOf (line-same x y e)))
+
+-- ---- the first of a list of words
+
+or-swap : (a b c : Bool) → (a || (b || c)) ≡ (b || (a || c))
+or-swap true true c = refl
+or-swap true false c = refl
+or-swap false b c = refl
+
+pub among-first : (k : ℕ) (ks : List ℕ) (n key : ℕ) → among (k ∷ ks) (suc n) key ≡ (eqb k key || among ks n key)
+unfolding among
+among-first k ks zero key = refl
+among-first k ks (suc n) key =
+    ap (λ (b : Bool). eqb (getD ks n 0) key || b) (among-first k ks n key) ∙ or-swap (eqb (getD ks n 0) key) (eqb k key) (among ks n key)
+
+eqb-turn : (a b : ℕ) → eqb a b ≡ eqb b a
+eqb-turn a b = same-truth (eqb a b) (eqb b a) (λ e. eq-eqb b a (sym (eqb-true a b e))) (λ e. eq-eqb a b (sym (eqb-true b a e)))
+
+turn : (a b c d : Bool) → (not (a || b) && (not c && d)) ≡ (not (a || c) && (not b && d))
+turn true b c d = refl
+turn false true true d = refl
+turn false true false d = refl
+turn false false true d = refl
+turn false false false d = refl
+
+pub distinct-first : (k : ℕ) (ks : List ℕ) (n : ℕ) → distinct (k ∷ ks) (suc n) ≡ (not (among ks n k) && distinct ks n)
+unfolding distinct among
+distinct-first k ks zero = refl
+distinct-first k ks (suc n) =
+    let g = getD ks n 0 in
+    ap₂ (λ (a b : Bool). not a && b) (among-first k ks n g) (distinct-first k ks n)
+    ∙ turn (eqb k g) (among ks n g) (among ks n k) (distinct ks n)
+    ∙ ap (λ (a : Bool). not (a || among ks n k) && (not (among ks n g) && distinct ks n)) (eqb-turn k g)
+
+-- ---- of entries
+
+unfoldable pub AllFit : List Entry → Type 0
+AllFit [] = Unit {0}
+AllFit (e ∷ l) = Fits (e .line) × AllFit l
+
+pub among-has : (l : List Entry) (x : Line) → AllFit l → Fits x → among (keysOf l) (length l) (keyOf x) ≡ hasLine l x
+unfolding among keysOf hasLine AllFit
+among-has [] x a f = refl
+among-has (e ∷ l) x a f =
+    among-first (keyOf (e .line)) (keysOf l) (length l) (keyOf x)
+    ∙ ap₂ (λ (b c : Bool). b || c) (key-line (e .line) x (a .0) f) (among-has l x (a .1) f)
+
+pub distinct-once : (l : List Entry) → AllFit l → distinct (keysOf l) (length l) ≡ onceEach l
+unfolding distinct keysOf onceEach AllFit
+distinct-once [] a = refl
+distinct-once (e ∷ l) a =
+    distinct-first (keyOf (e .line)) (keysOf l) (length l)
+    ∙ ap₂ (λ (b c : Bool). not b && c) (among-has l (e .line) (a .1) (a .0)) (distinct-once l (a .1))
+
+-- ---- a line that was read fits
+
+clash : {A : Type 0} {n : ℕ} {x : A} → refused n ≡ given x → ⊥
+clash e = let z : _≡_ {A = ℕ} 0 1 = cc in omega arith
+
+judged-fits : (owner : ℕ) (way : Way) (r s t : Reading ℕ) (x : Line) → lineJudged owner way r s t ≡ given x → Fits x
+unfolding lineJudged
+judged-fits owner way (read k) (read o) (read n) x e = go (goodLine owner k o n) refl e
+  where
+    go : (b : Bool) → goodLine owner k o n ≡ b → cond b (given (line way k o n)) (refused 19) ≡ given x → Fits x
+    go true g e =
+        let z : line way k o n ≡ x = cc in
+        let h = and-right (eqb k 1 || eqb k 2) _ g in
+        let small : k < 256 = ⊎-elim (λ q. omega (arith, eqb-true k 1 q)) (λ q. omega (arith, eqb-true k 2 q))
+        (or-cases (eqb k 1) (eqb k 2) (and-left (eqb k 1 || eqb k 2) _ g)) in
+        subst Fits z record {
+          kind = small;
+          other = omega (arith, ltb-true o 16 (and-left (ltb o 16) _ h));
+          number = ltb-true n 4294967296 (and-right (not (eqb o owner)) _ (and-right (ltb o 16) _ h));
+        }
+    go false g e = absurd (clash e)
+judged-fits owner way (read k) (read o) unread x e = absurd (clash e)
+judged-fits owner way (read k) unread t x e = absurd (clash e)
+judged-fits owner way unread s t x e = absurd (clash e)
+
+pieces-fit : (owner : ℕ) (way : Way) (ps : List (List ℕ)) (x : Line) → linePieces owner way ps ≡ given x → Fits x
+unfolding linePieces
+pieces-fit owner way [] x e = absurd (clash e)
+pieces-fit owner way (a ∷ []) x e = absurd (clash e)
+pieces-fit owner way (a ∷ b ∷ []) x e = absurd (clash e)
+pieces-fit owner way (a ∷ b ∷ c ∷ []) x e = judged-fits owner way (numeral 1 a) (numeral 2 b) (numeral 10 c) x e
+pieces-fit owner way (a ∷ b ∷ c ∷ d ∷ l) x e = absurd (clash e)
+
+in-fits : (owner : ℕ) (way : Way) (r : Reading (List ℕ)) (x : Line) → lineIn owner way r ≡ given x → Fits x
+unfolding lineIn
+in-fits owner way (read l) x e = pieces-fit owner way (pieces l) x e
+in-fits owner way unread x e = absurd (clash e)
+
+pub line-fits : (owner : ℕ) (l : List ℕ) (x : Line) → lineOf owner l ≡ given x → Fits x
+unfolding lineOf
+line-fits owner l x e = go (startsWith sentKey l) e
+  where
+    go : (b : Bool) → cond b (lineIn owner Sent (afterKey sentKey l)) (lineIn owner Got (afterKey gotKey l)) ≡ given x → Fits x
+    go true e = in-fits owner Sent (afterKey sentKey l) x e
+    go false e = in-fits owner Got (afterKey gotKey l) x e
+
+with-fit : (text : List ℕ) (r : Given Line) (t : Given (List Entry)) (l : List Entry) → ((x : Line) → r ≡ given x → Fits x)
+    → ((m : List Entry) → t ≡ given m → AllFit m) → withEntry text r t ≡ given l → AllFit l
+unfolding withEntry AllFit
+with-fit text (given x) (given m) l f g e =
+    let z = entry-is e in
+    subst AllFit z (f x refl, g m refl)
+  where
+    entry-is : {a b : List Entry} → given a ≡ given b → a ≡ b
+    entry-is q = cc
+with-fit text (given x) (refused n) l f g e = absurd (clash e)
+with-fit text (refused n) t l f g e = absurd (clash e)
+
+pub entries-fit : (most owner : ℕ) (s : List ℕ) (l : List Entry) → entriesIn most owner s ≡ given l → AllFit l
+unfolding entriesIn cutEntries AllFit
+entries-fit zero owner s l e = subst AllFit (nothing e) tt
+  where
+    nothing : {b : List Entry} → given [] ≡ given b → [] ≡ b
+    nothing q = cc
+entries-fit (suc most) owner [] l e = subst AllFit (nothing e) tt
+  where
+    nothing : {b : List Entry} → given [] ≡ given b → [] ≡ b
+    nothing q = cc
+entries-fit (suc most) owner (b ∷ s) l e = go (cut (b ∷ s)) (λ rest m q. entries-fit most owner rest m q) e
+  where
+    go : (c : Cut) → ((rest : List ℕ) (m : List Entry) → entriesIn most owner rest ≡ given m → AllFit m)
+        → cutEntries (entriesIn most owner) owner c ≡ given l → AllFit l
+    go (ended text rest) f e = with-fit text (lineOf owner text) (entriesIn most owner rest) l (line-fits owner text) (f rest) e
+    go unended f e = absurd (clash e)

@@ -1,0 +1,13 @@
+pub mod Journals
+pub mod JournalLaws
+pub mod FieldLaws
+pub mod ComparisonLaws
+pub mod JournalKeys
+pub mod JournalReads
+pub mod Chains
+pub mod ChainLaws
+pub mod JournalExamples
+pub mod KeyLaws
+pub mod Hearing
+pub mod Missing
+pub mod Comparing

@@ -1,0 +1,95 @@
+// The lines of a journal as words, one for each.
+use crate::line::LineAnswer;
+use crate::line::key_of;
+use crate::line::read_line;
+use bytes::scan::find;
+use closing::reading::Number;
+use closing::reading::read_keyed;
+ghost use Prim.Native.Nat.{_*_, _≤_};
+ghost use mathlib.Core.Path.{_≡_};
+ghost use lib.ListN.{length, drop};
+ghost use Rattle.closing.specs.Tables.{cut};
+ghost use Rattle.journals.specs.Journals.{entriesIn};
+ghost use Rattle.journals.specs.JournalKeys.{keysIn, nextCut, nextMeant, countMeant, countOf};
+ghost use Rattle.journals.specs.JournalReads.{IsRead};
+
+// As many lines as 32,768 bytes can hold, of ten bytes each.
+pub const LINES: usize = 3277;
+
+// The word of the next line, and the place after it.
+pub enum NextKey {
+    Is(u64, usize),
+    Refused(u8),
+}
+
+enum Count {
+    Is(usize),
+    Refused(u8),
+}
+
+// The owner of a journal, the place of its second line, and how many lines follow the first.
+pub enum Heading {
+    Is(usize, usize, usize),
+    Refused(u8),
+}
+
+pub fn next_key(text: &[u8], at: usize, owner: usize) -> NextKey
+    requires { ⌜ at ≤ length (now text) ⌝ }
+    ensures { λ r. ⌜ nextMeant r ≡ nextCut at owner (cut (drop at (now (text .entry)))) ⌝ }
+{
+    let end = find(text, at, text.len(), b'\n');
+    if end == text.len() {
+        return NextKey::Refused(19);
+    }
+    match read_line(&text[at..end], owner) {
+        LineAnswer::Refused(n) => NextKey::Refused(n),
+        LineAnswer::Is(x) => NextKey::Is(key_of(x), end + 1),
+    }
+}
+
+// The words of the lines from a place on, each of ten bytes at least.
+fn read_entries(text: &[u8], from: usize, owner: usize, keys: &mut [u64]) -> Count
+    requires { ⌜ (from ≤ length (now text)) × (length (now text) ≤ 10 * length (now keys)) ⌝ }
+    ensures { λ r. ⌜ countMeant r (now (keys .exit)) ≡ keysIn (entriesIn (length (now (text .entry))) owner (drop from (now (text .entry)))) ⌝ }
+    ensures { λ r. ⌜ countOf r ≤ length (now (keys .exit)) ⌝ }
+{
+    let mut at = from;
+    let mut count: usize = 0;
+    while at < text.len() {
+        match next_key(text, at, owner) {
+            NextKey::Refused(n) => return Count::Refused(n),
+            NextKey::Is(key, next) => {
+                keys[count] = key;
+                count += 1;
+                at = next;
+            }
+        }
+    }
+    Count::Is(count)
+}
+
+// Reads a journal, and leaves the words of its lines.
+pub fn read_journal(text: &[u8], keys: &mut [u64]) -> Heading
+    requires { ⌜ 32768 ≤ 10 * length (now keys) ⌝ }
+    ensures { λ r. ⌜ IsRead r (now (text .entry)) (now (keys .exit)) ⌝ }
+{
+    if 32768 < text.len() {
+        return Heading::Refused(19);
+    }
+    let end = find(text, 0, text.len(), b'\n');
+    if end == text.len() {
+        return Heading::Refused(19);
+    }
+    match read_keyed(&text[0..end], b"column=", 2) {
+        Number::Unread => Heading::Refused(19),
+        Number::Is(owner) => {
+            if 16 <= owner {
+                return Heading::Refused(19);
+            }
+            match read_entries(text, end + 1, owner, keys) {
+                Count::Refused(n) => Heading::Refused(n),
+                Count::Is(count) => Heading::Is(owner, end + 1, count),
+            }
+        }
+    }
+}

@@ -1,0 +1,6 @@
+// The journals of two columns compared.
+pub mod comparison;
+mod index;
+mod journal;
+pub mod line;
+mod missing;
