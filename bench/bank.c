@@ -197,7 +197,8 @@ uint8_t bank_back(struct bank *b, size_t j) {
     const struct column *copied = &b->columns[__builtin_ctz(running)];
     struct column back = {.running = true, .number = copied->number, .doors = copied->doors,
                           .noted = (uint16_t)(halted & ~(1u << j)), .whole = !b->columns[b->tree.root].running,
-                          .sender = (uint8_t)__builtin_ctz(running)};
+                          .sender = (uint8_t)__builtin_ctz(running),
+                          .mask = b->columns[j].mask, .pending = b->columns[j].pending};
     for (size_t i = 0; i < columns; i++)
         b->columns[i].noted &= (uint16_t)~(1u << j);
     b->columns[j] = back;

@@ -22,6 +22,7 @@ struct column {
     bool running;
     bool whole;
     uint8_t sender;
+    uint8_t mask, pending; /* bytes 5 and 6 of its page */
 };
 
 enum { NO_PACKET = 0, MESSAGE = 3, ACKNOWLEDGEMENT = 4 };

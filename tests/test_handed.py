@@ -26,8 +26,8 @@ class Handed(unittest.TestCase):
         cls.lines = lines
 
     def test_the_count_of_cases(self):
-        self.assertEqual((len(self.steps), len(self.rest), len(self.comparisons), len(self.dispatches)), (278, 29, 20, 14))
-        self.assertEqual(len(self.lines), 278 + 29 + 20 + 14)
+        self.assertEqual((len(self.steps), len(self.rest), len(self.comparisons), len(self.dispatches)), (278, 29, 22, 14))
+        self.assertEqual(len(self.lines), 278 + 29 + 22 + 14)
         self.assertEqual(len({line.split(": ")[0] for line in self.lines}), len(self.lines))
 
     def test_the_comparison_sees_every_part(self):

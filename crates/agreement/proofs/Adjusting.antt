@@ -32,6 +32,8 @@ adjusted c send awaited owed noted =
       noted = noted;
       whole = c .whole;
       sender = c .sender;
+      mask = c .mask;
+      pending = c .pending;
     }
 
 module _ (t : Tree) (tree : IsTree t) {s : State} (a : ℕ) (inv : Invariant t s) (ra : Runs s a) where

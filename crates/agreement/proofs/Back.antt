@@ -36,9 +36,9 @@ returned-each {t} {s' = s'} {j = j} b P h f g i = ⊎-elim
 
 module _ (t : Tree) (tree : IsTree t) {s s' : State} (j l noted : ℕ) (inv : Invariant t s) (rest : Rest t s)
     (hj : j < t .columns) (halted : ¬ Runs s j) (nj : j ≢ t .root) (rl : Runs s l) (k : Remaining t s j noted)
-    (b : Returns t s s' j (cameBack t s l noted)) where
+    (b : Returns t s s' j (cameBack t s j l noted)) where
   abbrev c : Column
-  c = cameBack t s l noted
+  c = cameBack t s j l noted
 
   -- ---- what is the same afterwards
 

@@ -15,8 +15,8 @@ use Rattle.agreement.proofs.Back.{returned-each}
 use Rattle.agreement.proofs.Bounded.{Bounded}
 use Rattle.agreement.proofs.BoundedRest.{Still, still-bounded, rest-still}
 
-module _ {t : Tree} {s s' : State} {j l noted sender : ℕ} {whole : Bool} (b : Returns t s s' j (rejoined (s .columns l) noted whole sender)) where
-  each : (P : Column → Type 0) → P (rejoined (s .columns l) noted whole sender) → ((i : ℕ) → P (struck (s .columns i) j)) → ((i : ℕ) → P (s .columns i))
+module _ {t : Tree} {s s' : State} {j l noted sender : ℕ} {whole : Bool} (b : Returns t s s' j (rejoined (s .columns j) (s .columns l) noted whole sender)) where
+  each : (P : Column → Type 0) → P (rejoined (s .columns j) (s .columns l) noted whole sender) → ((i : ℕ) → P (struck (s .columns i) j)) → ((i : ℕ) → P (s .columns i))
       → (i : ℕ) → P (s' .columns i)
   each P h f g = returned-each b (λ (i : ℕ) (c : Column). P c) h (λ i _ _. f i) (λ i _ _. g i)
 
@@ -32,5 +32,5 @@ module _ {t : Tree} {s s' : State} {j l noted sender : ℕ} {whole : Bool} (b : 
       as-before = each (λ (c : Column). c .running ≡ true → c .number ≡ number s l) (λ _. refl) (λ i h. f .agree i l h r) (λ i h. f .agree i l h r)
 
 pub bound-back : (t : Tree) → IsTree t → {s s' : State} {j l noted sender : ℕ} {whole : Bool} → Invariant t s → Rest t s → Runs s l →
-    Returns t s s' j (rejoined (s .columns l) noted whole sender) → Bounded t s'
+    Returns t s s' j (rejoined (s .columns j) (s .columns l) noted whole sender) → Bounded t s'
 bound-back t tree inv rest r b = still-bounded t (still-returned b (rest-still t tree inv rest) r)

@@ -32,6 +32,8 @@ renewed c number doors send awaited owed whole sender =
       noted = c .noted;
       whole = whole;
       sender = sender;
+      mask = c .mask;
+      pending = c .pending;
     }
 
 abbrev pub serving : Column → ℕ → ℕ → Column
@@ -52,6 +54,8 @@ noting c send awaited noted =
       noted = noted;
       whole = c .whole;
       sender = c .sender;
+      mask = c .mask;
+      pending = c .pending;
     }
 
 abbrev pub withRunning : Bool → Column → Column
@@ -66,6 +70,8 @@ withRunning running c =
       noted = c .noted;
       whole = c .whole;
       sender = c .sender;
+      mask = c .mask;
+      pending = c .pending;
     }
 
 abbrev pub halted : Column → Column
@@ -108,9 +114,9 @@ pub record Remaining (t : Tree) (s : State) (j noted : ℕ) : Type 0 where
   pub remains : (q : ℕ) → In noted q → (q < t .columns) × (¬ Runs s q) × (q ≢ j)
   pub all-remaining : (q : ℕ) → q < t .columns → ¬ Runs s q → q ≢ j → In noted q
 
--- the column that comes back: it copies l; "Its goal is its own subtree if the root runs, the whole bank if not."
-abbrev pub cameBack : Tree → State → ℕ → ℕ → Column
-cameBack t s l noted = rejoined (s .columns l) noted (not (s .columns (t .root) .running)) l
+-- column j as it comes back: it copies l; "Its goal is its own subtree if the root runs, the whole bank if not."
+abbrev pub cameBack : Tree → State → ℕ → ℕ → ℕ → Column
+cameBack t s j l noted = rejoined (s .columns j) (s .columns l) noted (not (s .columns (t .root) .running)) l
 
 -- column j becomes c, and "all others strike it from those noted"; "unused ones never change"
 pub record Returns (t : Tree) (s s' : State) (j : ℕ) (c : Column) : Type 0 where
@@ -189,4 +195,4 @@ pub data Move (t : Tree) (s s' : State) : Event → Type 0 where
   -- column j comes back with the record of a running column l: of any, since at rest they all hold the same
   back : (j l noted : ℕ) →
       Rest t s → j < t .columns → ¬ Runs s j → j ≢ t .root → Runs s l → Remaining t s j noted →
-      Returns t s s' j (cameBack t s l noted) → Move t s s' (backs j l)
+      Returns t s s' j (cameBack t s j l noted) → Move t s s' (backs j l)

@@ -83,6 +83,8 @@ fresh-model t ok heads doors = record {
       noted = 0;
       whole = eqb i (t .root);
       sender = t .root;
+      mask = 0;
+      pending = 0;
     }
 
 pub start : (t : Tree) → treeRefusal t ≡ 0 → (heads doors : List ℕ) → length heads ≡ capacity → length doors ≡ capacity

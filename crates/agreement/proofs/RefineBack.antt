@@ -94,14 +94,14 @@ module _ (s : State) (formed : Formed s) (orders : List ℕ) (j : ℕ) where
     root-below : t .root < t .columns
     root-below = check-exact t .0 (known .stands .tree) .root-below
 
-    there : columnAt (returned b j) j ≡ rejoined (columnAt b l) (remaining b j) (not (runs b (t .root))) l
+    there : columnAt (returned b j) j ≡ rejoined (columnAt b j) (columnAt b l) (remaining b j) (not (runs b (t .root))) l
     there = place-mine b j (omega (arith, formed .places, known .below, sixteen))
 
-    returns : move.Returns t (modelOf s orders) (modelOf next orders) j (move.cameBack t (modelOf s orders) l (remaining b j))
+    returns : move.Returns t (modelOf s orders) (modelOf next orders) j (move.cameBack t (modelOf s orders) j l (remaining b j))
     unfolding returned
     returns = record {
       mine = ap (view t j) there
-          ∙ ap₂ (λ (running whole : Bool). move.withRunning running (rejoined (columnAt b l) (remaining b j) whole l))
+          ∙ ap₂ (λ (running whole : Bool). move.withRunning running (rejoined (columnAt b j) (columnAt b l) (remaining b j) whole l))
           (ap (λ (x : Bool). x && true) (lt-ltb j (t .columns) (known .below)))
           (sym (ap (λ (x : Bool). not (x && runs b (t .root))) (lt-ltb (t .root) (t .columns) root-below)));
       strikes = λ i n h. ap (view t i) (place-struck b j i n h);

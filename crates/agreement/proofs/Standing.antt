@@ -157,7 +157,7 @@ module _ {t : Tree} {s : State} (tree : IsTree t) (inv : Invariant t s) (v : Sta
 
   -- a column comes back
   returned : {s' : State} (j l noted : ℕ) {whole : Bool} → j < t .columns → j ≢ t .root → Runs s l → Remaining t s j noted →
-      Returns t s s' j (core.rejoined (s .columns l) noted whole l) → s .network ≡ [] → Standing t s'
+      Returns t s s' j (core.rejoined (s .columns j) (s .columns l) noted whole l) → s .network ≡ [] → Standing t s'
   returned {s'} j l noted {whole} h nr r k b gone = record {
     each-stands = λ i hi. ⊎-elim
         (λ e. subst (λ (x : ℕ). Stands t x (s' .columns x)) (sym e) (subst (Stands t j) (sym (b .mine)) mine))
@@ -165,7 +165,7 @@ module _ {t : Tree} {s : State} (tree : IsTree t) (inv : Invariant t s) (v : Sta
     packets = λ p m. absurd (holds-none (subst (λ (x : List Packet). Holds x p) (b .packets ∙ gone) m));
   }
     where
-      mine : Stands t j (core.rejoined (s .columns l) noted whole l)
+      mine : Stands t j (core.rejoined (s .columns j) (s .columns l) noted whole l)
       mine = record {
         send = pow-pos (t .columns);
         awaited = pow-pos (t .columns);

@@ -28,7 +28,7 @@ state b heads doors = record { bank = b; heads = heads; doors = doors }
 
 -- what stands in an unused place of a fresh bank, and past the sixteen places
 abbrev pub noColumn : Column
-noColumn = record { running = false; number = 0; doors = 0; send = 0; awaited = 0; owed = 0; noted = 0; whole = false; sender = 0 }
+noColumn = record { running = false; number = 0; doors = 0; send = 0; awaited = 0; owed = 0; noted = 0; whole = false; sender = 0; mask = 0; pending = 0 }
 
 abbrev pub columnAt : Bank → ℕ → Column
 columnAt b i = getD (b .columns) i noColumn

@@ -35,7 +35,7 @@ remaining b j = without (haltedOf b) j
 
 -- "The column runs with the record of the lowest running column .. Its goal is its own subtree if the root runs, the whole bank if not."
 abbrev pub comeBack : Bank → ℕ → Column
-comeBack b j = rejoined (columnAt b (lowestRunning b)) (remaining b j) (not (runs b (b .tree .root))) (lowestRunning b)
+comeBack b j = rejoined (columnAt b j) (columnAt b (lowestRunning b)) (remaining b j) (not (runs b (b .tree .root))) (lowestRunning b)
 
 -- "all others strike it from those noted", halted ones too; "unused ones never change"
 abbrev pub withStruck : Bank → ℕ → Bank

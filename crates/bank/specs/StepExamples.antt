@@ -30,7 +30,7 @@ crowded n =
     withColumn
     (state (counting (freshBank (treeOf 3 0 (0 ∷ 0 ∷ 1 ∷ replicate 13 0))) n) (replicate capacity (headOf message)) (replicate capacity 9))
     0
-    (record { running = true; number = 1; doors = 9; send = 2; awaited = 0; owed = 0; noted = 0; whole = true; sender = 0 })
+    (record { running = true; number = 1; doors = 9; send = 2; awaited = 0; owed = 0; noted = 0; whole = true; sender = 0; mask = 0; pending = 0 })
 
 -- with 512 it passes rows 2 to 4, and "a send at 512 packets" is refused with 9; one at 511 is accepted
 pub full : (bankRefusal (crowded 512) ≡ 0)

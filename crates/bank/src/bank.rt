@@ -41,6 +41,8 @@ pub const NO_COLUMN: Column = Column {
     noted: 0,
     whole: false,
     sender: 0,
+    mask: 0,
+    pending: 0,
 };
 
 // Column i of a fresh bank; an unused place holds a column that does not run.

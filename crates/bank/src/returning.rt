@@ -44,10 +44,9 @@ fn come_back(b: Bank, j: usize) -> Column
     let t = b.tree;
     let l = lowest(running(b));
     let sender = l as u8;
-    strike(
-        rejoin(column_at(b, l), halted(b), !runs(b, t.root), sender),
-        j,
-    )
+    let own = column_at(b, j);
+    let copied = column_at(b, l);
+    strike(rejoin(own, copied, halted(b), !runs(b, t.root), sender), j)
 }
 
 // Every column of the bank has j no longer noted.

@@ -78,7 +78,7 @@ module _ (old : List ℕ) (at : ℕ) where
 -- ---- lists in full
 
 abbrev holding : ℕ → ℕ → Column
-holding number doors = record { running = true; number = number; doors = doors; send = 0; awaited = 0; owed = 0; noted = 0; whole = false; sender = 0 }
+holding number doors = record { running = true; number = number; doors = doors; send = 0; awaited = 0; owed = 0; noted = 0; whole = false; sender = 0; mask = 0; pending = 0 }
 
 -- the example of "The script program": `column=1`, `number=1`, `occupied=2`, `doors=1,10`
 pub list-of-two : listText 1 (holding 1 513)

@@ -41,14 +41,14 @@ freshState t = state (freshBank t) (replicate capacity 0) (replicate capacity 0)
 abbrev rootAt : ℕ → State
 rootAt number =
     withColumn (freshState one) 0
-    (record { running = true; number = number; doors = 0; send = 0; awaited = 0; owed = 0; noted = 0; whole = true; sender = 0 })
+    (record { running = true; number = number; doors = 0; send = 0; awaited = 0; owed = 0; noted = 0; whole = true; sender = 0; mask = 0; pending = 0 })
 
 -- column 1 of two holds a number, and a message from the root is under way
 abbrev messageTo : ℕ → ℕ → State
 messageTo number sent =
     withPacket
     (withColumn (freshState two) 1
-    (record { running = true; number = number; doors = 7; send = 0; awaited = 0; owed = 0; noted = 0; whole = false; sender = 0 }))
+    (record { running = true; number = number; doors = 7; send = 0; awaited = 0; owed = 0; noted = 0; whole = false; sender = 0; mask = 0; pending = 0 }))
     (Message 0 1 sent 9)
 
 -- a message's fifteen bytes: 0 to 1, number 16,909,060, doors bytes 1 to 8
@@ -101,7 +101,7 @@ Says message-bytes =
 -- "take of an equal number adds to those owed"
 Says equal-number =
     columnAt (after (perform (messageTo 4 4) (Take 0)) .bank) 1
-    ≡ record { running = true; number = 4; doors = 7; send = 0; awaited = 0; owed = 1; noted = 0; whole = false; sender = 0 }
+    ≡ record { running = true; number = 4; doors = 7; send = 0; awaited = 0; owed = 1; noted = 0; whole = false; sender = 0; mask = 0; pending = 0 }
 -- "a lower number is answered with that lower number"
 Says lower-number =
     let s = after (perform (messageTo 4 3) (Take 0)) in

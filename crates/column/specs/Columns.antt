@@ -19,7 +19,7 @@ highest = 256 ^ numberSize - 1
 -- "Fresh: all columns run, number 0, doors clear, sets empty, goal own subtree; the root's goal is always the whole bank."; document 02, Point 9:
 -- "Each column keeps who sent its record: the root when fresh"
 abbrev pub fresh : Tree → ℕ → Column
-fresh t i = record { running = true; number = 0; doors = 0; send = 0; awaited = 0; owed = 0; noted = 0; whole = eqb i (t .root); sender = t .root }
+fresh t i = record { running = true; number = 0; doors = 0; send = 0; awaited = 0; owed = 0; noted = 0; whole = eqb i (t .root); sender = t .root; mask = 0; pending = 0 }
 
 -- the values of each case of `FreshColumn`
 abbrev pub freshMeant : FreshColumn → Given Column
@@ -74,6 +74,8 @@ stopped c =
       noted = c .noted;
       whole = c .whole;
       sender = c .sender;
+      mask = c .mask;
+      pending = c .pending;
     }
 
 -- the column with other sets to send to, to await, and to owe
@@ -89,4 +91,6 @@ withSets c s a o =
       noted = c .noted;
       whole = c .whole;
       sender = c .sender;
+      mask = c .mask;
+      pending = c .pending;
     }

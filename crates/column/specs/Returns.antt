@@ -4,11 +4,11 @@ use mathlib.Core.Bool.{Bool, true}
 use Rattle.column.specs.Sets.{without}
 use Rattle.column.specs.declared.state.Column.{Column}
 
--- "The column runs with the record of the lowest running column and empty sets. It has noted exactly the columns that remain halted": c is
--- the column that it copies, `noted` the set of these columns, `whole` its goal; document 02, Point 9: it "keeps who sent its record: .. the column copied
+-- "The column runs with the record of the lowest running column and empty sets. It has noted exactly the columns that remain halted": `own` is
+-- the column that comes back, c the one that it copies, `noted` the set of these columns, `whole` its goal; document 02, Point 9: it "keeps who sent its record: .. the column copied
 -- from after coming back"
-abbrev pub rejoined : Column → ℕ → Bool → ℕ → Column
-rejoined c noted whole sender =
+abbrev pub rejoined : Column → Column → ℕ → Bool → ℕ → Column
+rejoined own c noted whole sender =
     record {
       running = true;
       number = c .number;
@@ -19,6 +19,8 @@ rejoined c noted whole sender =
       noted = noted;
       whole = whole;
       sender = sender;
+      mask = own .mask;
+      pending = own .pending;
     }
 
 -- "all others strike it from those noted"
@@ -34,4 +36,6 @@ struck c j =
       noted = without (c .noted) j;
       whole = c .whole;
       sender = c .sender;
+      mask = c .mask;
+      pending = c .pending;
     }

@@ -34,13 +34,13 @@ astray = treeOf 3 0 (0 ∷ 7 ∷ 1 ∷ replicate 13 0)
 
 -- a column by its sets to send to, awaited, owed and noted; order number 4, doors 9
 abbrev column : Bool → ℕ → ℕ → ℕ → ℕ → Bool → Column
-column running s a o n whole = record { running = running; number = 4; doors = 9; send = s; awaited = a; owed = o; noted = n; whole = whole; sender = 0 }
+column running s a o n whole = record { running = running; number = 4; doors = 9; send = s; awaited = a; owed = o; noted = n; whole = whole; sender = 0; mask = 0; pending = 0 }
 
 abbrev numbered : ℕ → Column → Column
-numbered k c = record { running = c .running; number = k; doors = c .doors; send = c .send; awaited = c .awaited; owed = c .owed; noted = c .noted; whole = c .whole; sender = c .sender }
+numbered k c = record { running = c .running; number = k; doors = c .doors; send = c .send; awaited = c .awaited; owed = c .owed; noted = c .noted; whole = c .whole; sender = c .sender; mask = c .mask; pending = c .pending }
 
 abbrev sentBy : ℕ → Column → Column
-sentBy k c = record { running = c .running; number = c .number; doors = c .doors; send = c .send; awaited = c .awaited; owed = c .owed; noted = c .noted; whole = c .whole; sender = k }
+sentBy k c = record { running = c .running; number = c .number; doors = c .doors; send = c .send; awaited = c .awaited; owed = c .owed; noted = c .noted; whole = c .whole; sender = k; mask = c .mask; pending = c .pending }
 
 -- a root and another column, running and halted, with nothing to do
 abbrev root : Column
@@ -148,7 +148,7 @@ every-refusal = refl
 
 -- an order leaves those awaited, owed and noted as they are
 order-owing : orderEffect three 0 (column true 0 0 2 4 true) 77
-    ≡ accepted (record { running = true; number = 5; doors = 77; send = 2; awaited = 0; owed = 2; noted = 4; whole = true; sender = 0 }) [] false
+    ≡ accepted (record { running = true; number = 5; doors = 77; send = 2; awaited = 0; owed = 2; noted = 4; whole = true; sender = 0; mask = 0; pending = 0 }) [] false
 unfolding orderEffect selected
 order-owing = refl
 
@@ -199,13 +199,13 @@ take-left = refl
 
 -- a higher number is received: those noted stay
 take-received : messageEffect three 1 (column true 0 4 0 1 true) 0 5 77
-    ≡ accepted (record { running = true; number = 5; doors = 77; send = 4; awaited = 0; owed = 1; noted = 1; whole = false; sender = 0 }) [] false
+    ≡ accepted (record { running = true; number = 5; doors = 77; send = 4; awaited = 0; owed = 1; noted = 1; whole = false; sender = 0; mask = 0; pending = 0 }) [] false
 unfolding messageEffect receiveEffect selected
 take-received = refl
 
 -- "a higher number leaves its goal the whole bank": the root's
 take-received-root : messageEffect watching 0 root 2 5 77
-    ≡ accepted (record { running = true; number = 5; doors = 77; send = 2; awaited = 0; owed = 4; noted = 0; whole = true; sender = 2 }) [] false
+    ≡ accepted (record { running = true; number = 5; doors = 77; send = 2; awaited = 0; owed = 4; noted = 0; whole = true; sender = 2; mask = 0; pending = 0 }) [] false
 unfolding messageEffect receiveEffect selected
 take-received-root = refl
 

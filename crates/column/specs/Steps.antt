@@ -69,6 +69,8 @@ orderEffect t i c doors =
       noted = c .noted;
       whole = c .whole;
       sender = c .sender;
+      mask = c .mask;
+      pending = c .pending;
     })
     []
     false
@@ -156,6 +158,8 @@ receiveEffect t i c from number doors =
       noted = c .noted;
       whole = eqb i (t .root);
       sender = from;
+      mask = c .mask;
+      pending = c .pending;
     })
     []
     false
@@ -228,6 +232,8 @@ allEffect t c =
       noted = c .noted;
       whole = true;
       sender = c .sender;
+      mask = c .mask;
+      pending = c .pending;
     })
     []
     false
@@ -262,6 +268,8 @@ noteEffect t c j =
       noted = insert (c .noted) j;
       whole = c .whole;
       sender = c .sender;
+      mask = c .mask;
+      pending = c .pending;
     })
     []
     false

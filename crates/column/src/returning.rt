@@ -5,9 +5,9 @@ use crate::state::Column;
 ghost use mathlib.Core.Path.{_≡_};
 ghost use Rattle.column.specs.Returns.{rejoined, struck};
 
-// A column that comes back with the record of c, which `sender` sent it, the set of columns that remain halted, and its goal.
-pub fn rejoin(c: Column, noted: u16, whole: bool, sender: u8) -> Column
-    ensures { λ r. ⌜ r ≡ rejoined c noted whole sender ⌝ }
+// Column `own` as it comes back: with the record of c, which `sender` sent it, the set of columns that remain halted, and its goal.
+pub fn rejoin(own: Column, c: Column, noted: u16, whole: bool, sender: u8) -> Column
+    ensures { λ r. ⌜ r ≡ rejoined own c noted whole sender ⌝ }
 {
     Column {
         running: true,
@@ -19,6 +19,8 @@ pub fn rejoin(c: Column, noted: u16, whole: bool, sender: u8) -> Column
         noted,
         whole,
         sender,
+        mask: own.mask,
+        pending: own.pending,
     }
 }
 

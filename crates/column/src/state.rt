@@ -10,7 +10,7 @@ use crate::tree::tree_refusal;
 ghost use mathlib.Core.Path.{_≡_};
 ghost use Rattle.column.specs.Columns.{freshMeant, freshGiven, stateRefusal, standing};
 
-// Widest fields first, so that a column is 24 bytes.
+// Widest fields first, so that a column is 32 bytes.
 pub struct Column {
     pub doors: u64,
     pub number: Number,
@@ -23,6 +23,9 @@ pub struct Column {
     pub whole: bool,
     // Who sent its record.
     pub sender: u8,
+    // Bytes 5 and 6 of its page: the interrupt mask, and what is pending.
+    pub mask: u8,
+    pub pending: u8,
 }
 
 pub enum FreshColumn {
@@ -49,6 +52,8 @@ pub fn fresh(t: Tree, i: usize) -> FreshColumn
         noted: 0,
         whole: i == t.root,
         sender,
+        mask: 0,
+        pending: 0,
     })
 }
 

@@ -24,7 +24,7 @@ three = treeOf 3 0 (0 ∷ 0 ∷ 1 ∷ replicate 13 0)
 
 -- a running column by its sets to send to, awaited, owed and noted, and its goal; order number 4, doors 9
 abbrev column : ℕ → ℕ → ℕ → ℕ → Bool → Column
-column s a o n whole = record { running = true; number = 4; doors = 9; send = s; awaited = a; owed = o; noted = n; whole = whole; sender = 0 }
+column s a o n whole = record { running = true; number = 4; doors = 9; send = s; awaited = a; owed = o; noted = n; whole = whole; sender = 0; mask = 0; pending = 0 }
 
 -- the root with nothing to do, with column 1 to send to, and awaiting column 1
 abbrev idle : Column

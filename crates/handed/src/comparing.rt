@@ -51,6 +51,12 @@ fn fields() {
     c = NO_COLUMN;
     c.sender = 1;
     field(b"sender", c);
+    c = NO_COLUMN;
+    c.mask = 1;
+    field(b"mask", c);
+    c = NO_COLUMN;
+    c.pending = 1;
+    field(b"pending", c);
 }
 
 fn trees() {

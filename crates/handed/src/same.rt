@@ -14,6 +14,8 @@ fn same_column(a: Column, b: Column) -> bool {
         & (a.noted == b.noted)
         & (a.whole == b.whole)
         & (a.sender == b.sender)
+        & (a.mask == b.mask)
+        & (a.pending == b.pending)
 }
 
 // The set of places, of all sixteen, at which the columns differ.

@@ -46,6 +46,8 @@ pub fn member(send: u16, awaited: u16, owed: u16, noted: u16) -> Column {
         noted,
         whole: false,
         sender: 0,
+        mask: 0,
+        pending: 0,
     }
 }
 

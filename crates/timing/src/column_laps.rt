@@ -33,6 +33,8 @@ fn column(lap: u64, whole: bool) -> Column {
         noted: 0,
         whole,
         sender: 0,
+        mask: 0,
+        pending: 0,
     }
 }
 

@@ -17,6 +17,9 @@ cast-sender c = omega (arith, c .lowest .ensures, trailing-le 16 (c .before .run
 column-at-requires : tie.Need-column-at-requires
 column-at-requires c κs = search needs
 
+column-at-requires-2 : tie.Need-column-at-requires-2
+column-at-requires-2 c κs = search needs
+
 halted-requires : tie.Need-halted-requires
 halted-requires c κs = search needs
 
@@ -35,13 +38,15 @@ returns c =
     let root = joined .before in
     let others = root .before in
     let copied = others .before in
-    let low = copied .before in
+    let own = copied .before in
+    let low = own .before in
     c .strike .ensures
     ∙ rw (
       joined .rejoin .ensures,
       root .runs .ensures,
       others .halted .ensures,
-      copied .column-at .ensures,
+      copied .column-at2 .ensures,
+      own .column-at .ensures,
       low .lowest .ensures,
       low .before .running .ensures,
     )
@@ -54,6 +59,7 @@ come-back-spec =
     lowest-requires
     cast-sender
     column-at-requires
+    column-at-requires-2
     halted-requires
     runs-requires
     rejoin-requires
