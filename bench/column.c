@@ -54,6 +54,7 @@ void order_effect(const struct tree *t, struct column *c, uint64_t doors) {
     c->number++;
     c->doors = doors;
     c->send = children(t, t->root);
+    c->pending |= RECORD_RECEIVED;
 }
 
 struct answer order(const struct tree *t, size_t i, struct column *c, uint64_t doors) {
@@ -119,6 +120,7 @@ struct answer take_effect(const struct tree *t, size_t i, struct column *c, stru
     c->owed = 1u << p.from;
     c->whole = i == t->root;
     c->sender = p.from;
+    c->pending |= RECORD_RECEIVED;
     return refused(0);
 }
 
@@ -147,6 +149,7 @@ struct answer ack(const struct tree *t, size_t i, struct column *c) {
 void all_effect(const struct tree *t, struct column *c) {
     c->whole = true;
     c->send = 1u << t->root;
+    c->pending |= TOOK_OVER;
 }
 
 struct answer all(const struct tree *t, size_t i, struct column *c) {
@@ -163,6 +166,7 @@ struct answer all(const struct tree *t, size_t i, struct column *c) {
 
 void note_effect(const struct tree *t, struct column *c, size_t j) {
     c->noted |= 1u << j;
+    c->pending |= HALT_NOTED;
     if (has(c->awaited, j)) {
         c->awaited &= ~(1u << j);
         c->send |= children(t, j);

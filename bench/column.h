@@ -25,6 +25,9 @@ struct column {
     uint8_t mask, pending; /* bytes 5 and 6 of its page */
 };
 
+/* What is pending. */
+enum { RECORD_RECEIVED = 1, HALT_NOTED = 2, TOOK_OVER = 4 };
+
 enum { NO_PACKET = 0, MESSAGE = 3, ACKNOWLEDGEMENT = 4 };
 
 struct packet {

@@ -1,4 +1,4 @@
--- A column is away again: its halt is accepted, and a note of it by each of a list of columns that have it struck out. Each is then as before.
+-- A column is away again: its halt is accepted, and a note of it by each of a list of columns that have it struck out. Each is then as before, with bit 1 pending.
 -- Assumes nothing.
 use Prim.Native.Nat.{ℕ, _<_, _^_}
 use native.Mathlib.Omega.{arith}
@@ -31,6 +31,7 @@ use Rattle.bank.specs.declared.step.Step.{Step}
 use Rattle.bank.specs.declared.step.Step.the-variants.{Note, Halt}
 use Rattle.agreement.specs.History.{World, told, run}
 use Rattle.agreement.specs.Dispatching.{allAccepted}
+use Rattle.agreement.specs.Returning.{noticed}
 use Rattle.agreement.proofs.Move.{noting}
 use Rattle.agreement.proofs.Quiet.{note-passes}
 use Rattle.agreement.proofs.Reached.{Reached, next, reached-passes}
@@ -65,13 +66,13 @@ module _ (s : State) (good : bankRefusal s ≡ 0) (j : ℕ) (below : j < s .bank
     other e = true≢false (sym (running .1) ∙ ap (λ (k : ℕ). runs (s .bank) k) (sym e) ∙ away)
 
     notes-it : has (c .noted) j ≡ false → has (c .awaited) j ≡ false
-        → perform s (Note i j) ≡ accepted (withColumn s i (noting c (c .send) (c .awaited) (insert (c .noted) j)))
+        → perform s (Note i j) ≡ accepted (withColumn s i (noticed (noting c (c .send) (c .awaited) (insert (c .noted) j))))
     unfolding perform acted puts core.noteEffect
     notes-it unnoted unawaited =
         let st = stands s good in
         let up : standing (s .bank .tree) i c ≡ 0 = rw (st .tree) (st .columns i (running .0)) in
         rw (acting-passes s st i (running .0), note-passes (s .bank .tree) i c up (running .1) j below other unnoted, away, unawaited)
-        (sym (fits s (withColumn s i (noting c (c .send) (c .awaited) (insert (c .noted) j))) (st .room)))
+        (sym (fits s (withColumn s i (noticed (noting c (c .send) (c .awaited) (insert (c .noted) j)))) (st .room)))
 
 -- ---- a note by each of a list
 
@@ -95,11 +96,11 @@ pub record Away (j : ℕ) (before : ℕ → Column) (noters : List ℕ) (w : Wor
   pub running : (i : ℕ) → among noters i ≡ true → Running (w .state) i
   pub struck-out : (i : ℕ) → among noters i ≡ true → columnAt (w .state .bank) i ≡ struck (before i) j
 
--- every note is accepted, and the columns of the list are as before
+-- every note is accepted, and the columns of the list are as before, with bit 1 pending
 abbrev pub Noted : ℕ → (ℕ → Column) → List ℕ → World → Type 0
 Noted j before noters w =
     (allAccepted w (map (λ i. Note i j) noters) ≡ true)
-    × ((i : ℕ) → columnAt (run w (map (λ i. Note i j) noters) .state .bank) i ≡ cond (among noters i) (before i) (columnAt (w .state .bank) i))
+    × ((i : ℕ) → columnAt (run w (map (λ i. Note i j) noters) .state .bank) i ≡ cond (among noters i) (noticed (before i)) (columnAt (w .state .bank) i))
 
 module _ (k j : ℕ) (small : j < k) (before : ℕ → Column) where
   module _ (w : World) (i : ℕ) (noters : List ℕ) (once : among noters i ≡ false) (held : Held k j before i) (a : Away j before (i ∷ noters) w) where
@@ -110,9 +111,9 @@ module _ (k j : ℕ) (small : j < k) (before : ℕ → Column) where
     here = listed-here i noters
 
     abbrev s' : State
-    s' = withColumn s i (before i)
+    s' = withColumn s i (noticed (before i))
 
-    -- the note gives column i back as it was
+    -- the note gives column i back as it was, with bit 1 pending
     note-back : perform s (Note i j) ≡ accepted s'
     note-back =
         let c = columnAt (s .bank) i in
@@ -120,15 +121,15 @@ module _ (k j : ℕ) (small : j < k) (before : ℕ → Column) where
         notes-it s (reached-passes w (a .reached)) j (a .below) (a .away) i (a .running i here)
         (ap (λ (x : Column). has (x .noted) j) is ∙ has-without-self (before i .noted) j)
         (ap (λ (x : Column). has (x .awaited) j) is ∙ held .unawaited)
-        ∙ ap (λ (x : Column). accepted (withColumn s i (noting x (x .send) (x .awaited) (insert (x .noted) j)))) is
-        ∙ ap (λ (m : ℕ). accepted (withColumn s i (noting (before i) (before i .send) (before i .awaited) m)))
+        ∙ ap (λ (x : Column). accepted (withColumn s i (noticed (noting x (x .send) (x .awaited) (insert (x .noted) j))))) is
+        ∙ ap (λ (m : ℕ). accepted (withColumn s i (noticed (noting (before i) (before i .send) (before i .awaited) m))))
         (insert-without k (before i .noted) j (held .fits-in) small (held .noted-it))
 
     other-same : (n : ℕ) → (n ≡ i → ⊥) → columnAt (s' .bank) n ≡ columnAt (s .bank) n
-    other-same n ne = getD-set-other (s .bank .columns) i n (before i) noColumn ne
+    other-same n ne = getD-set-other (s .bank .columns) i n (noticed (before i)) noColumn ne
 
-    mine-back : columnAt (s' .bank) i ≡ before i
-    mine-back = getD-set-same (s .bank .columns) i (before i) noColumn
+    mine-back : columnAt (s' .bank) i ≡ noticed (before i)
+    mine-back = getD-set-same (s .bank .columns) i (noticed (before i)) noColumn
         (omega (arith, a .reached .formed .places, a .running i here .0, tree-sixteen (s .bank .tree) (a .reached .tree)))
 
     apart : (n : ℕ) → among noters n ≡ true → n ≡ i → ⊥
@@ -156,13 +157,13 @@ module _ (k j : ℕ) (small : j < k) (before : ℕ → Column) where
     )
       where
         go : (n : ℕ) → (n ≡ i) ⊎ (n ≡ i → ⊥)
-            → cond (among noters n) (before n) (columnAt (s' .bank) n) ≡ cond (eqb n i || among noters n) (before n) (columnAt (s .bank) n)
+            → cond (among noters n) (noticed (before n)) (columnAt (s' .bank) n) ≡ cond (eqb n i || among noters n) (noticed (before n)) (columnAt (s .bank) n)
         go n (inl e) =
-            ap₂ (λ (b : Bool) (c : Column). cond b (before n) c) (ap (among noters) e ∙ once) (ap (columnAt (s' .bank)) e ∙ mine-back ∙ ap before (sym e))
-            ∙ sym (ap (λ (b : Bool). cond (b || among noters n) (before n) (columnAt (s .bank) n)) (eq-eqb n i e))
+            ap₂ (λ (b : Bool) (c : Column). cond b (noticed (before n)) c) (ap (among noters) e ∙ once) (ap (columnAt (s' .bank)) e ∙ mine-back ∙ ap (λ (k : ℕ). noticed (before k)) (sym e))
+            ∙ sym (ap (λ (b : Bool). cond (b || among noters n) (noticed (before n)) (columnAt (s .bank) n)) (eq-eqb n i e))
         go n (inr e) =
-            ap (cond (among noters n) (before n)) (other-same n e)
-            ∙ sym (ap (λ (b : Bool). cond (b || among noters n) (before n) (columnAt (s .bank) n)) (ne-eqb n i e))
+            ap (cond (among noters n) (noticed (before n))) (other-same n e)
+            ∙ sym (ap (λ (b : Bool). cond (b || among noters n) (noticed (before n)) (columnAt (s .bank) n)) (ne-eqb n i e))
 
   pub each-notes : (noters : List ℕ) → Distinct noters → ((i : ℕ) → among noters i ≡ true → Held k j before i) → (w : World) → Away j before noters w
       → Noted j before noters w

@@ -18,7 +18,7 @@ use Rattle.bank.specs.RestLaws.{rest-exact}
 use Rattle.bank.specs.Dispatch.{offers, offered, firstAccepted, turn, onward, dispatched, dispatch}
 use Rattle.bank.specs.DispatchLaws.{stops-rest, stops-taken, take-accepted}
 use Rattle.bank.specs.declared.step.Step.{Step}
-use Rattle.bank.specs.declared.step.Step.the-variants.{Order, Send, Take, Ack, All, Note, Halt, Back}
+use Rattle.bank.specs.declared.step.Step.the-variants.{Order, Send, Take, Ack, All, Note, Halt, Back, Write}
 use Rattle.agreement.specs.History.{World, columnsOf, ordersAfter, told, run, WatchesRoot}
 use Rattle.agreement.specs.Dispatching.{stepsWithin, isSettling, allSettling, allAccepted, Settles, Rests}
 use Rattle.agreement.proofs.Potential.{potential}
@@ -44,6 +44,7 @@ one-move (All i) e = tt
 one-move (Note i j) e = tt
 one-move (Halt m) e = absurd (true≢false (sym e))
 one-move (Back j) e = absurd (true≢false (sym e))
+one-move (Write i offset value) e = absurd (true≢false (sym e))
 
 event-settling : (s : State) (x : Step) (o : OneMove x) → settling (event s x o) ≡ isSettling x
 event-settling s (Order doors) o = refl
@@ -54,6 +55,7 @@ event-settling s (All i) o = refl
 event-settling s (Note i j) o = refl
 event-settling s (Halt m) o = absurd o
 event-settling s (Back j) o = refl
+event-settling s (Write i offset value) o = absurd o
 
 is-tree : (w : World) → Reached w → IsTree (w .state .bank .tree)
 is-tree w r = check-exact (w .state .bank .tree) .0 (r .tree)

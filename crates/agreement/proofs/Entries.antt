@@ -30,7 +30,7 @@ use Rattle.bank.specs.Steps.{Outcome, accepted, refused, unless, settled, acted
 use Rattle.bank.specs.Performs.{perform}
 use Rattle.bank.specs.Networks.{removed}
 use Rattle.bank.specs.declared.step.Step.{Step}
-use Rattle.bank.specs.declared.step.Step.the-variants.{Order, Send, Take, Ack, All, Note, Halt, Back}
+use Rattle.bank.specs.declared.step.Step.the-variants.{Order, Send, Take, Ack, All, Note, Halt, Back, Write}
 use Rattle.agreement.specs.History as history
 use Rattle.agreement.specs.History.{leftBy}
 use Rattle.agreement.specs.Journals.{gotIn, sentIn, answeredWith, toRunning}
@@ -300,6 +300,7 @@ module _ (s : bank.State) (l : List ℕ) where
   sent-told (Note i j) o s' e = refl
   sent-told (Halt i) o s' e = absurd o
   sent-told (Back j) o s' e = refl
+  sent-told (Write i offset value) o s' e = absurd o
 
   pub got-told : (x : Step) (o : OneMove x) (s' : bank.State) → perform s x ≡ accepted s' → gotIn s x ≡ gotBy m (event s x o)
   unfolding perform
@@ -311,3 +312,4 @@ module _ (s : bank.State) (l : List ℕ) where
   got-told (Note i j) o s' e = refl
   got-told (Halt i) o s' e = absurd o
   got-told (Back j) o s' e = refl
+  got-told (Write i offset value) o s' e = absurd o

@@ -11,12 +11,12 @@ use Rattle.column.specs.declared.packet.Packet.{Packet}
 use Rattle.bank.specs.Banks.{State}
 use Rattle.bank.specs.Steps.{Outcome, accepted, refused, haltRefusal, halt}
 use Rattle.bank.specs.Performs.{perform}
-use Rattle.bank.specs.Places.{isBack}
+use Rattle.bank.specs.Kinds.{isBack}
 use Rattle.bank.specs.Strips.{haltOne, andThen, singles}
 use Rattle.bank.specs.StripLaws.{singly, listed, distinct-listed, members-listed}
 use Rattle.bank.specs.Unchanged.{unchanged}
 use Rattle.bank.specs.declared.step.Step.{Step}
-use Rattle.bank.specs.declared.step.Step.the-variants.{Order, Send, Take, Ack, All, Note, Halt, Back}
+use Rattle.bank.specs.declared.step.Step.the-variants.{Order, Send, Take, Ack, All, Note, Halt, Back, Write}
 use Rattle.agreement.specs.History.{World, ordersAfter, told, run}
 use Rattle.agreement.specs.Agreement.{begin}
 use Rattle.agreement.specs.Journals.{Journals, allGot, allSent, journalsAfter, recorded, journals, Stays, NoneBack, Proper, Consistent, JournalsAgree, TextsAgree}
@@ -28,6 +28,8 @@ use Rattle.agreement.proofs.View.{modelOf, OneMove, event}
 use Rattle.agreement.proofs.Refining.{Refined, accepted-goes}
 use Rattle.agreement.proofs.RefineTake.{refines-halt}
 use Rattle.agreement.proofs.Perform.{refines}
+use Rattle.agreement.proofs.Model as model
+use Rattle.agreement.proofs.Writing.{same-model, written-is}
 use Rattle.agreement.proofs.Reached.{Reached, start, fresh-model, moved, carried, next}
 use Rattle.agreement.proofs.Companions.{run-tree}
 use Rattle.agreement.proofs.SpreadKept.{Onward}
@@ -49,6 +51,7 @@ onward s (All i) o b = tt
 onward s (Note i j) o b = tt
 onward s (Halt m) o b = absurd o
 onward s (Back j) o b = absurd (true≢false b)
+onward s (Write i offset value) o b = absurd o
 
 module _ (w : World) (j : Journals) (r : Reached w) (g : RecordedIn w j) where
   abbrev s : State
@@ -108,6 +111,8 @@ module _ (w : World) (j : Journals) (r : Reached w) (g : RecordedIn w j) where
   step-recorded (Note i k) s' e b = one-move w j r g (Note i k) tt s' e b
   step-recorded (Halt m) s' e b = halted-together w m s' j r g e
   step-recorded (Back k) s' e b = absurd (true≢false b)
+  step-recorded (Write i offset value) s' e b = subst (λ (u : State). RecordedIn (moved w u) j) (written-is (w .state) i offset value s' e)
+      (subst (λ (m : model.State). Recorded (w .state .bank .tree) m j) (sym (same-model (w .state) i offset value (w .orders))) g)
 
   recorded-next : (x : Step) → Stays x (perform (w .state) x) → RecordedIn (told w x (perform (w .state) x)) (recorded (w .state) x (perform (w .state) x) j)
   unfolding told recorded

@@ -50,6 +50,7 @@ pub mod Quiet
 pub mod RefineBack
 pub mod Perform
 pub mod Told
+pub mod Writing
 pub mod Reached
 pub mod Agreement
 pub mod Companions

@@ -13,6 +13,7 @@ use Rattle.column.specs.Trees.{treeConditions, treeRefusal}
 use Rattle.column.specs.Columns.{stateConditions, stateRefusal, standing}
 use Rattle.column.specs.Packets.{receiver}
 use Rattle.column.specs.Steps as core
+use Rattle.column.specs.Pages.{writeConditions}
 use Rattle.column.specs.declared.tree.Tree.{Tree}
 use Rattle.column.specs.declared.state.Column.{Column}
 use Rattle.column.specs.declared.packet.Packet.{Packet}
@@ -23,7 +24,7 @@ use Rattle.bank.specs.Performs.{perform}
 use Rattle.bank.specs.Exact.{ownRefusal, raised, overfull, refusalOf}
 use Rattle.bank.specs.ExactLaws.{exact}
 use Rattle.bank.specs.declared.step.Step.{Step}
-use Rattle.bank.specs.declared.step.Step.the-variants.{Order, Send, Take, Ack, All, Note, Halt, Back}
+use Rattle.bank.specs.declared.step.Step.the-variants.{Order, Send, Take, Ack, All, Note, Halt, Back, Write}
 
 -- ---- numbers of conditions
 
@@ -93,6 +94,8 @@ module _ (s : State) where
       (first-lacks ((6, runs (s .bank) j) ∷ []) tt)
   own-lacks (Halt m) = first-lacks (haltConditions s m) tt
   own-lacks (Back j) = first-lacks (backConditions s j) tt
+  own-lacks (Write i offset value) =
+      earlier-lacks (first ((4, leb (t .columns) i) ∷ [])) _ (first-lacks ((4, leb (t .columns) i) ∷ []) tt) (first-lacks (writeConditions offset) tt)
 
   module _ (room : s .bank .count < capacity) (x : Step) where
     not-overfull : overfull s x ≡ false

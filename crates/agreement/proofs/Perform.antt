@@ -4,7 +4,7 @@ use mathlib.Core.List.{List}
 use Rattle.bank.specs.Banks.{State}
 use Rattle.bank.specs.Performs.{perform}
 use Rattle.bank.specs.declared.step.Step.{Step}
-use Rattle.bank.specs.declared.step.Step.the-variants.{Order, Send, Take, Ack, All, Note, Halt, Back}
+use Rattle.bank.specs.declared.step.Step.the-variants.{Order, Send, Take, Ack, All, Note, Halt, Back, Write}
 use Rattle.agreement.specs.History.{ordersAfter}
 use Rattle.agreement.proofs.View.{Formed, OneMove, event}
 use Rattle.agreement.proofs.Refining.{Refines}
@@ -23,3 +23,4 @@ refines s f orders (All i) o = refines-all s f orders i
 refines s f orders (Note i j) o = refines-note s f orders i j
 refines s f orders (Halt m) o = absurd o
 refines s f orders (Back j) o = refines-back s f orders j
+refines s f orders (Write i offset value) o = absurd o

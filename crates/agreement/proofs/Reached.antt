@@ -28,7 +28,7 @@ use Rattle.bank.specs.Strips.{haltOne, andThen, singles}
 use Rattle.bank.specs.StripLaws.{singly, listed, distinct-listed, members-listed}
 use Rattle.bank.specs.Unchanged.{unchanged}
 use Rattle.bank.specs.declared.step.Step.{Step}
-use Rattle.bank.specs.declared.step.Step.the-variants.{Order, Send, Take, Ack, All, Note, Halt, Back}
+use Rattle.bank.specs.declared.step.Step.the-variants.{Order, Send, Take, Ack, All, Note, Halt, Back, Write}
 use Rattle.agreement.specs.History.{World, rootOf, WatchesRoot, receivedAfter, awaitsAfter, told, run, Line, stepsOf, follow}
 use Rattle.agreement.specs.Agreement.{begin, AfterEveryList}
 use Rattle.agreement.proofs.Model as model
@@ -48,6 +48,7 @@ use Rattle.agreement.proofs.Refining.{Refined, accepted-goes}
 use Rattle.agreement.proofs.RefineTake.{taken-place, refines-halt}
 use Rattle.agreement.proofs.Perform.{refines}
 use Rattle.agreement.proofs.Told.{received-told, awaits-told}
+use Rattle.agreement.proofs.Writing.{nextState, plain-at, same-model, written-is, written-formed}
 
 pub record Reached (w : World) : Type 0 where
   pub tree : treeRefusal (w .state .bank .tree) ≡ 0
@@ -163,6 +164,24 @@ halted-together w m s' r e =
     let l = listed (has m) (s .bank .tree .columns) in
     halted-singly l w s' r (singly s (r .formed .whole) m z l (distinct-listed (has m) (s .bank .tree .columns)) (members-listed s m z) ∙ e)
 
+-- ---- a write: no move, since the model leaves out what it alters
+
+written-kept : (w : World) (i offset value : ℕ) → Reached w → Reached (moved w (nextState (w .state) i offset value))
+written-kept w i offset value r =
+    let t = w .state .bank .tree in
+    let same = sym (same-model (w .state) i offset value (w .orders)) in
+    let at = plain-at (w .state) i offset value in
+    record {
+      tree = r .tree;
+      formed = written-formed (w .state) i offset value (r .formed);
+      room = r .room;
+      invariant = subst (Invariant t) same (r .invariant);
+      standing = subst (Standing t) same (r .standing);
+      bounded = λ o. subst (Bounded t) same (r .bounded o);
+      received-is = λ j. ap (λ (c : Column). c .number) (at j) ∙ r .received-is j;
+      awaits-is = λ q. ap (λ (c : Column). has (c .awaited) q) (at (t .root)) ∙ r .awaits-is q;
+    }
+
 -- ---- any step
 
 one-move : (w : World) (x : Step) (o : OneMove x) (s' : State) → Reached w → perform (w .state) x ≡ accepted s' → Reached (told w x (accepted s'))
@@ -180,6 +199,8 @@ step-kept w (All i) s' r e = one-move w (All i) tt s' r e
 step-kept w (Note i j) s' r e = one-move w (Note i j) tt s' r e
 step-kept w (Halt m) s' r e = halted-together w m s' r e
 step-kept w (Back j) s' r e = one-move w (Back j) tt s' r e
+step-kept w (Write i offset value) s' r e =
+    subst (λ (u : State). Reached (moved w u)) (written-is (w .state) i offset value s' e) (written-kept w i offset value r)
 
 pub next : (w : World) (x : Step) → Reached w → Reached (told w x (perform (w .state) x))
 unfolding told

@@ -18,7 +18,7 @@ use Rattle.column.specs.Trees.{treeRefusal, choose, children}
 use Rattle.column.specs.TreeLaws.{tree-sixteen}
 use Rattle.column.specs.ChoiceLaws.{choose-member}
 use Rattle.column.specs.StateLaws.{Sound, sound}
-use Rattle.column.specs.Columns.{withSets}
+use Rattle.column.specs.Columns.{withSets, haltNoted, withPending}
 use Rattle.column.specs.Steps as core
 use Rattle.column.specs.Steps.{orderRefusal, orderEffect, sendRefusal, sendEffect, ackRefusal, ackEffect, allRefusal, allEffect, noteRefusal, noteEffect}
 use Rattle.column.specs.declared.tree.Tree.{Tree}
@@ -180,7 +180,7 @@ module _ (s : State) (formed : Formed s) (orders : List ℕ) where
 
       go : Stands s → i < t .columns → noteRefusal t i c j ≡ 0 → runs (s .bank) j ≡ false → (b : Bool) → has (c .awaited) j ≡ b
           → Refines s orders orders e (settled s s i (core.accepted
-          (move.noting c (cond b (join (c .send) (children t j)) (c .send)) (cond b (without (c .awaited) j) (c .awaited)) (insert (c .noted) j)) [] false))
+          (withPending (move.noting c (cond b (join (c .send) (children t j)) (c .send)) (cond b (without (c .awaited) j) (c .awaited)) (insert (c .noted) j)) haltNoted) [] false))
       go st below ok h true a =
           let k = note-in t i c j ok in
           refines-quiet s formed st i below _ (formed .numbers-fit i) s refl refl (formed .whole) orders orders e

@@ -10,6 +10,7 @@ use borrow.Author.Tests.{ne-eqb, eqb-false, lt-ltb, not-true}
 use Rattle.column.specs.Cases.{truth, equal-cases, and-left, and-right}
 use Rattle.column.specs.Sets.{has}
 use Rattle.column.specs.SetLaws.{has-without, without-lt, selected-lt, selected-has, member-lt}
+use Rattle.column.specs.Columns.{plain}
 use Rattle.column.specs.Returns.{rejoined}
 use Rattle.column.specs.TreeLaws.{tree-sixteen, check-exact}
 use Rattle.column.specs.declared.tree.Tree.{Tree}
@@ -101,7 +102,7 @@ module _ (s : State) (formed : Formed s) (orders : List ℕ) (j : ℕ) where
     unfolding returned
     returns = record {
       mine = ap (view t j) there
-          ∙ ap₂ (λ (running whole : Bool). move.withRunning running (rejoined (columnAt b j) (columnAt b l) (remaining b j) whole l))
+          ∙ ap₂ (λ (running whole : Bool). move.withRunning running (plain (rejoined (columnAt b j) (columnAt b l) (remaining b j) whole l)))
           (ap (λ (x : Bool). x && true) (lt-ltb j (t .columns) (known .below)))
           (sym (ap (λ (x : Bool). not (x && runs b (t .root))) (lt-ltb (t .root) (t .columns) root-below)));
       strikes = λ i n h. ap (view t i) (place-struck b j i n h);

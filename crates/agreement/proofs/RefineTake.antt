@@ -13,7 +13,7 @@ use Rattle.column.specs.Refusals as refusals
 use Rattle.column.specs.RefusalLaws.{passed, earlier-none}
 use Rattle.column.specs.Sets.{single, insert, without, lowest}
 use Rattle.column.specs.Trees.{children}
-use Rattle.column.specs.Columns.{withSets}
+use Rattle.column.specs.Columns.{recordReceived, withSets, withPending, plain}
 use Rattle.column.specs.Packets.{receiver, numberOf}
 use Rattle.column.specs.StateLaws.{Acceptable, acceptable}
 use Rattle.column.specs.Steps as core
@@ -90,7 +90,7 @@ module _ (s : State) (formed : Formed s) (orders : List ℕ) where
             → Refines s orders orders e (settled s (removed s place) a
             (cond equal (core.accepted (withSets c (c .send) (c .awaited) (insert (c .owed) q)) [] false)
             (cond lower (core.accepted c (Acknowledgement a q k ∷ []) false)
-            (cond free (core.accepted (move.renewed c k d (children t a) 0 (single q) (eqb a (t .root)) q) [] false) (core.acknowledgeLowest a c true)))))
+            (cond free (core.accepted (withPending (move.renewed c k d (children t a) 0 (single q) (eqb a (t .root)) q) recordReceived) [] false) (core.acknowledgeLowest a c true)))))
         go true lower free x y w =
             refines-quiet s formed st a below _ (formed .numbers-fit a) (removed s place) refl refl gone-whole orders orders e
             (λ s' b. move.take-equal a q k d runs-model (eqb-true k (c .number) x) (z .taken) b)
@@ -184,7 +184,7 @@ module _ (s : State) (formed : Formed s) (orders : List ℕ) where
       stops : (s' : State) → Becomes (modelOf s orders) (modelOf s' orders) i (view t i (move.halted c)) (packetsOf (vanished s (only i))) orders
           → Becomes (modelOf s orders) (modelOf s' orders) i (move.halted (view t i c)) (others i (packetsOf s)) orders
       stops s' z = record {
-        mine = z .mine ∙ ap (λ (r : Bool). move.withRunning r c) (and-false (ltb i (t .columns)));
+        mine = z .mine ∙ ap (λ (r : Bool). move.withRunning r (plain c)) (and-false (ltb i (t .columns)));
         same = z .same;
         packets = z .packets ∙ vanished-meant s (formed .whole) i;
         told = z .told;

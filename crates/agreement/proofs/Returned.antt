@@ -29,7 +29,7 @@ use Rattle.bank.specs.declared.bank.Bank.{Bank}
 use Rattle.bank.specs.declared.step.Step.the-variants.{Note, Halt, Back}
 use Rattle.agreement.specs.History.{World, told, run}
 use Rattle.agreement.specs.Dispatching.{allAccepted}
-use Rattle.agreement.specs.Returning.{StillRests, RestsAfter, Restored, Undone, Restores}
+use Rattle.agreement.specs.Returning.{StillRests, RestsAfter, noticed, Restored, Undone, Restores}
 use Rattle.agreement.proofs.Members.{absent}
 use Rattle.agreement.proofs.Rest.{none-awaited}
 use Rattle.agreement.proofs.Conditions.{not-member, widths}
@@ -157,7 +157,7 @@ module _ (w : World) (r : Reached w) (j : ℕ) (s1 : State) (e1 : perform (w .st
         as-before = λ i m.
             ap (λ (o : Outcome State). columnAt (run (told w (Back j) o) (Halt (single j) ∷ map (λ (q : ℕ). Note q j) noters) .state .bank) i) comes
             ∙ ap (λ (o : Outcome State). columnAt (run (told w1 (Halt (single j)) o) (map (λ (q : ℕ). Note q j) noters) .state .bank) i) goes-away
-            ∙ z .1 i ∙ ap (λ (x : Bool). cond x (columnAt b i) (columnAt (s2 .bank) i)) m;
+            ∙ z .1 i ∙ ap (λ (x : Bool). cond x (noticed (columnAt b i)) (columnAt (s2 .bank) i)) m;
       }
 
 pub restores : Restores

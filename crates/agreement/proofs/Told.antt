@@ -27,7 +27,7 @@ use Rattle.bank.specs.Steps as bank
 use Rattle.bank.specs.Steps.{accepted}
 use Rattle.bank.specs.Performs.{perform}
 use Rattle.bank.specs.declared.step.Step.{Step}
-use Rattle.bank.specs.declared.step.Step.the-variants.{Order, Send, Take, Ack, All, Note, Halt, Back}
+use Rattle.bank.specs.declared.step.Step.the-variants.{Order, Send, Take, Ack, All, Note, Halt, Back, Write}
 use Rattle.agreement.specs.History.{World, changed, rootOf, leaves, leftBy, heard, acknowledged, receivedAfter, awaitsAfter}
 use Rattle.agreement.proofs.Model as model
 use Rattle.agreement.proofs.Received as moves
@@ -131,6 +131,7 @@ module _ (w : World) where
   received-told (Note i x) o s' e j = refl
   received-told (Halt m) o s' e j = absurd o
   received-told (Back i) o s' e j = refl
+  received-told (Write i offset value) o s' e j = absurd o
 
   pub awaits-told : (x : Step) (o : OneMove x) (q : ℕ) → awaitsAfter w x q ≡ moves.awaitsAfter (s .bank .tree) m (event s x o) (w .awaits) q
   awaits-told (Order d) o q = refl
@@ -148,3 +149,4 @@ module _ (w : World) where
       ∙ ap (λ (v : Bool). cond (eqb i (rootOf s)) v (w .awaits q)) (changed-false (w .awaits q) (eqb q j))
   awaits-told (Halt m) o q = absurd o
   awaits-told (Back j) o q = refl
+  awaits-told (Write i offset value) o q = absurd o

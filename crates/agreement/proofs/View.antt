@@ -7,6 +7,7 @@ use lib.Dec.{ltb}
 use lib.ListN.{length}
 use Rattle.column.specs.Sets.{lowest}
 use Rattle.column.specs.Trees.{choose}
+use Rattle.column.specs.Columns.{plain}
 use Rattle.column.specs.Packets.{receiver}
 use Rattle.column.specs.declared.tree.Tree.{Tree}
 use Rattle.column.specs.declared.state.Column.{Column}
@@ -15,19 +16,19 @@ use Rattle.bank.specs.Banks.{State, columnAt, packetAt}
 use Rattle.bank.specs.NetworkLaws.{packetsOf, Whole}
 use Rattle.bank.specs.Returns.{lowestRunning}
 use Rattle.bank.specs.declared.step.Step.{Step}
-use Rattle.bank.specs.declared.step.Step.the-variants.{Order, Send, Take, Ack, All, Note, Halt, Back}
+use Rattle.bank.specs.declared.step.Step.the-variants.{Order, Send, Take, Ack, All, Note, Halt, Back, Write}
 use Rattle.agreement.proofs.Model as model
 use Rattle.agreement.proofs.Move as move
 
--- a column past the tree's never runs
+-- a column past the tree's never runs; what a host sees of one, its mask and what is pending, is left out
 abbrev pub view : Tree → ℕ → Column → Column
-view t i c = move.withRunning (ltb i (t .columns) && c .running) c
+view t i c = move.withRunning (ltb i (t .columns) && c .running) (plain c)
 
 abbrev pub modelOf : State → List ℕ → model.State
 modelOf s orders =
     record { columns = λ i. view (s .bank .tree) i (columnAt (s .bank) i); network = packetsOf s; orders = orders }
 
--- a step that is one move: any but a halt, which is one move for each member
+-- a step that is one move: any but a halt, which is one move for each member, and a write, which is none
 abbrev pub OneMove : Step → Type 0
 OneMove (Order doors) = Unit {0}
 OneMove (Send i) = Unit {0}
@@ -37,6 +38,7 @@ OneMove (All i) = Unit {0}
 OneMove (Note i j) = Unit {0}
 OneMove (Halt m) = ⊥
 OneMove (Back j) = Unit {0}
+OneMove (Write i offset value) = ⊥
 
 -- which move a step is
 abbrev pub event : State → (x : Step) → OneMove x → move.Event
@@ -48,6 +50,7 @@ event s (All i) o = move.widens i
 event s (Note i j) o = move.notes i j
 event s (Halt m) o = absurd o
 event s (Back j) o = move.backs j (lowestRunning (s .bank))
+event s (Write i offset value) o = absurd o
 
 -- all places are there, and the numbers are such as a packet's words hold
 pub record Formed (s : State) : Type 0 where

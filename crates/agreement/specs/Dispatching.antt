@@ -9,14 +9,14 @@ use Rattle.bank.specs.Performs.{perform}
 use Rattle.bank.specs.Rest.{isRefused, AtRest}
 use Rattle.bank.specs.Dispatch.{dispatched, dispatch}
 use Rattle.bank.specs.declared.step.Step.{Step}
-use Rattle.bank.specs.declared.step.Step.the-variants.{Order, Send, Take, Ack, All, Note, Halt, Back}
+use Rattle.bank.specs.declared.step.Step.the-variants.{Order, Send, Take, Ack, All, Note, Halt, Back, Write}
 use Rattle.agreement.specs.History.{World, columnsOf, WatchesRoot, told, run}
 use Rattle.agreement.specs.Agreement.{AfterEveryList}
 
 abbrev pub stepsWithin : ℕ → ℕ
 stepsWithin n = 9 * (n * n) - 5 * n
 
--- a step that is neither an order nor a halt nor a return
+-- a step that is neither an order nor a halt nor a return nor a write
 abbrev pub isSettling : Step → Bool
 isSettling (Order doors) = false
 isSettling (Send i) = true
@@ -26,6 +26,7 @@ isSettling (All i) = true
 isSettling (Note i j) = true
 isSettling (Halt m) = false
 isSettling (Back j) = false
+isSettling (Write i offset value) = false
 
 unfoldable pub allSettling : List Step → Bool
 allSettling [] = true

@@ -18,7 +18,7 @@ use Rattle.bank.specs.Performs.{perform}
 use Rattle.bank.specs.Returns.{lowestRunning}
 use Rattle.bank.specs.Dispatch.{dispatched}
 use Rattle.bank.specs.declared.step.Step.{Step}
-use Rattle.bank.specs.declared.step.Step.the-variants.{Order, Send, Take, Ack, All, Note, Halt, Back}
+use Rattle.bank.specs.declared.step.Step.the-variants.{Order, Send, Take, Ack, All, Note, Halt, Back, Write}
 
 -- the state of a bank with its past
 pub record World : Type 0 where
@@ -55,6 +55,7 @@ ordersAfter orders (All i) = orders
 ordersAfter orders (Note i j) = orders
 ordersAfter orders (Halt m) = orders
 ordersAfter orders (Back j) = orders
+ordersAfter orders (Write i offset value) = orders
 
 -- ---- received: "A column receives a number when an accepted order gives it to the root, or when an accepted take of a message to it,
 -- numbered above all that it has received, doesn't leave the packet in its place"
@@ -81,6 +82,7 @@ receivedAfter w (Ack i) = w .received
 receivedAfter w (All i) = w .received
 receivedAfter w (Note i j) = w .received
 receivedAfter w (Halt m) = w .received
+receivedAfter w (Write i offset value) = w .received
 -- "coming back counts as receiving that record's number, and what the column received before its halt counts no longer": that record is the
 -- one of the lowest running column, and its number what that column received last
 receivedAfter w (Back j) = changed (w .received) j (w .received (lowestRunning (w .state .bank)))
@@ -108,6 +110,7 @@ awaitsAfter w (Ack i) = w .awaits
 awaitsAfter w (All i) = w .awaits
 awaitsAfter w (Halt m) = w .awaits
 awaitsAfter w (Back j) = w .awaits
+awaitsAfter w (Write i offset value) = w .awaits
 
 -- ---- a list of steps: "Each step gets the bank and packets as the last left them", and only accepted steps make history
 

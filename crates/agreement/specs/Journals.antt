@@ -17,9 +17,9 @@ use Rattle.bank.specs.Words.{numbers}
 use Rattle.bank.specs.Banks.{State, columnAt, runs, packetAt, capacity}
 use Rattle.bank.specs.Steps.{Outcome, accepted, refused}
 use Rattle.bank.specs.Performs.{perform}
-use Rattle.bank.specs.Places.{isBack}
+use Rattle.bank.specs.Kinds.{isBack}
 use Rattle.bank.specs.declared.step.Step.{Step}
-use Rattle.bank.specs.declared.step.Step.the-variants.{Order, Send, Take, Ack, All, Note, Halt, Back}
+use Rattle.bank.specs.declared.step.Step.the-variants.{Order, Send, Take, Ack, All, Note, Halt, Back, Write}
 use Rattle.journals.specs.Journals.{line, journalText, journalLimit, missingText, compared}
 use Rattle.closing.specs.Closing.{placed}
 use Rattle.journals.specs.ComparisonLaws.{Once, journal}
@@ -69,6 +69,7 @@ gotIn s (All i) = []
 gotIn s (Note i j) = []
 gotIn s (Halt m) = []
 gotIn s (Back j) = []
+gotIn s (Write i offset value) = []
 
 -- the packets that the core answers with
 abbrev pub answeredWith : core.Result → List Packet
@@ -91,6 +92,7 @@ sentIn s (All i) = []
 sentIn s (Note i j) = []
 sentIn s (Halt m) = []
 sentIn s (Back j) = []
+sentIn s (Write i offset value) = []
 
 abbrev pub journalsAfter : State → Step → Journals → Journals
 journalsAfter s x j = allSent (allGot j (gotIn s x)) (sentIn s x)

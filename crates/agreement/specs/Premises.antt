@@ -28,7 +28,7 @@ use Rattle.bank.specs.Rest.{Running, AtRest}
 use Rattle.bank.specs.RestLaws.{rest-exact}
 use Rattle.bank.specs.Unchanged.{unchanged}
 use Rattle.bank.specs.declared.step.Step.{Step}
-use Rattle.bank.specs.declared.step.Step.the-variants.{Order, Send, Take, Ack, All, Note, Halt, Back}
+use Rattle.bank.specs.declared.step.Step.the-variants.{Order, Send, Take, Ack, All, Note, Halt, Back, Write}
 use Rattle.agreement.specs.History.{World, changed, rootOf, acknowledged, awaitsAfter, told, run, step, follow}
 use Rattle.agreement.specs.Agreement.{Holds, HighestReceived, NeitherSends, NorAwaits, Agreement, AfterEveryList, Agrees}
 use Rattle.agreement.specs.Companions.{Ordered, OrdersCount, HaltedRests}
@@ -72,6 +72,7 @@ module _ (q : ℕ) (far : 16 < q) where
   awaits-none w ok (Note i j) e = changed-none (eqb i (rootOf (w .state))) (w .awaits) j false (ended j) e
   awaits-none w ok (Halt m) e = e
   awaits-none w ok (Back j) e = e
+  awaits-none w ok (Write i offset value) e = e
 
   told-none : (w : World) → Good w → (x : Step) (o : Outcome State) → w .awaits q ≡ false → told w x o .awaits q ≡ false
   unfolding told

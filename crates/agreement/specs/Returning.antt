@@ -4,6 +4,8 @@ use mathlib.Core.Path.{_≡_}
 use mathlib.Core.Bool.{true}
 use mathlib.Core.List.{List, _∷_, map}
 use Rattle.column.specs.Sets.{single}
+use Rattle.column.specs.Columns.{haltNoted, withPending}
+use Rattle.column.specs.declared.state.Column.{Column}
 use Rattle.bank.specs.Banks.{State, columnAt}
 use Rattle.bank.specs.Steps.{accepted}
 use Rattle.bank.specs.Performs.{perform}
@@ -26,10 +28,14 @@ RestsAfter = AfterEveryList StillRests
 abbrev pub awayAgain : ℕ → List ℕ → List Step
 awayAgain j noters = Back j ∷ Halt (single j) ∷ map (λ i. Note i j) noters
 
--- "leave those columns' records, sets, noted halts and goals as before the back": each column whole
+-- a column of which bit 1 is pending: "a halt noted"
+abbrev pub noticed : Column → Column
+noticed c = withPending c haltNoted
+
+-- "leave those columns' records, sets, noted halts and goals as before the back": each column whole, but for what is pending
 pub record Restored (w : World) (j : ℕ) (noters : List ℕ) : Type 0 where
   pub none-refused : allAccepted w (awayAgain j noters) ≡ true
-  pub as-before : (i : ℕ) → among noters i ≡ true → columnAt (run w (awayAgain j noters) .state .bank) i ≡ columnAt (w .state .bank) i
+  pub as-before : (i : ℕ) → among noters i ≡ true → columnAt (run w (awayAgain j noters) .state .bank) i ≡ noticed (columnAt (w .state .bank) i)
 
 abbrev pub Undone : World → Type 0
 Undone w = (j : ℕ) (s : State) → perform (w .state) (Back j) ≡ accepted s

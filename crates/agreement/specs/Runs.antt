@@ -10,6 +10,7 @@ use Rattle.column.specs.Sets.{single, selected}
 use Rattle.column.specs.Trees.{ascending, treeBy, treeOf, every, climbsIn, treeRefusal}
 use Rattle.column.specs.Columns.{stateRefusal}
 use Rattle.column.specs.Steps as core
+use Rattle.column.specs.Pages.{written}
 use Rattle.column.specs.declared.tree.Tree.{Tree}
 use Rattle.bank.specs.Words.{packetOf}
 use Rattle.bank.specs.Lists.{closedUp, keeping, padded}
@@ -20,8 +21,9 @@ use Rattle.bank.specs.Steps.{Outcome, fitting, acted, delivered, rewriting, hal
 use Rattle.bank.specs.Returns.{backRefusal, returned}
 use Rattle.bank.specs.Performs.{perform}
 use Rattle.bank.specs.Rest.{atRest}
+use Rattle.bank.specs.Pages.{writeRefusal}
 use Rattle.bank.specs.declared.step.Step.{Step}
-use Rattle.bank.specs.declared.step.Step.the-variants.{Order, Send, Take, Ack, All, Note, Halt, Back}
+use Rattle.bank.specs.declared.step.Step.the-variants.{Order, Send, Take, Ack, All, Note, Halt, Back, Write}
 use Rattle.agreement.specs.Orders.{given}
 use Rattle.agreement.specs.History.{World, rootOf, told, run}
 use Rattle.agreement.specs.Agreement.{begin}
@@ -150,6 +152,7 @@ pub data Case : Type 0 where
   backRefused : Case
   senderHalted : Case
   senderRuns : Case
+  pagesWritten : Case
 
 -- the halt of one column
 abbrev halting : ℕ → Step
@@ -254,9 +257,12 @@ row senderHalted =
 row senderRuns =
     rowOf watching (Order 3 ∷ (serving ++ (halting 0 ∷ Note 2 0 ∷ All 2 ∷ Note 1 0 ∷ All 1 ∷ Send 1 ∷ Send 1 ∷ [])))
     (6 ∷ []) (3 ∷ []) (1 ∷ 1 ∷ 1 ∷ []) 6 1 0 true (haltedRoot 0)
+-- an order goes down the tree while a host writes to the pages: one of these writes is elsewhere, and one is to no column
+row pagesWritten =
+    rowOf chain (Write 1 5 255 ∷ Order 3 ∷ Write 0 7 1 ∷ Write 2 6 1 ∷ Write 3 5 0 ∷ serving) (22 ∷ 4 ∷ []) (3 ∷ []) (1 ∷ 1 ∷ 1 ∷ []) 7 1 0 true idleRoot
 
 pub runs-pass : (c : Case) → computed (row c) ≡ (row c, 0, 0, true)
-unfolding refusals given run told perform atRest every closedUp keeping padded places freshPlace bankRefusal packetOf put puts vanished fitting acted delivered rewriting halted haltRefusal backRefusal returned climbsIn treeRefusal stateRefusal selected trailingZeros core.orderRefusal core.sendRefusal core.packetRefusal core.takeRefusal core.ackRefusal core.allRefusal core.noteRefusal core.orderEffect core.sendEffect core.acknowledgementEffect core.receiveEffect core.messageEffect core.ackEffect core.allEffect core.noteEffect
+unfolding refusals given run told perform atRest every closedUp keeping padded places freshPlace bankRefusal packetOf put puts vanished fitting acted delivered rewriting halted haltRefusal backRefusal returned writeRefusal written climbsIn treeRefusal stateRefusal selected trailingZeros core.orderRefusal core.sendRefusal core.packetRefusal core.takeRefusal core.ackRefusal core.allRefusal core.noteRefusal core.orderEffect core.sendEffect core.acknowledgementEffect core.receiveEffect core.messageEffect core.ackEffect core.allEffect core.noteEffect
 runs-pass noStep = refl
 runs-pass servedByRoot = refl
 runs-pass secondOrder = refl
@@ -276,3 +282,4 @@ runs-pass backAtLower = refl
 runs-pass backRefused = refl
 runs-pass senderHalted = refl
 runs-pass senderRuns = refl
+runs-pass pagesWritten = refl

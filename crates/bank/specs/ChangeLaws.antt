@@ -45,7 +45,7 @@ use Rattle.bank.specs.declared.bank.Answer.the-variants.{Done, Refused}
 use Rattle.bank.specs.declared.bank.Result.{Result}
 use Rattle.bank.specs.declared.settling.Change.{Change}
 use Rattle.bank.specs.declared.step.Step.{Step}
-use Rattle.bank.specs.declared.step.Step.the-variants.{Order, Send, Take, Ack, All, Note, Halt, Back}
+use Rattle.bank.specs.declared.step.Step.the-variants.{Order, Send, Take, Ack, All, Note, Halt, Back, Write}
 
 -- ---- what a change says of a bank
 
@@ -191,6 +191,7 @@ module _ (s : State) (stood : Stands s) (i : ℕ) (below : i < s .bank .tree .co
     core-steady (Note k j) = steady-cond (eqb (earlier (core.noteRefusal t i column j) (first ((6, has running j) ∷ []))) 0) column _ _ refl tt
     core-steady (Halt m) = tt
     core-steady (Back j) = tt
+    core-steady (Write k offset value) = tt
 
     pub core-aimed : (x : Step) → Aimed t (coreStep t running x i column)
     unfolding core.orderEffect core.allEffect core.noteEffect
@@ -202,6 +203,7 @@ module _ (s : State) (stood : Stands s) (i : ℕ) (below : i < s .bank .tree .co
     core-aimed (Note k j) = aimed-unless t (earlier (core.noteRefusal t i column j) (first ((6, has running j) ∷ []))) column _ (λ e. tt)
     core-aimed (Halt m) = tt
     core-aimed (Back j) = tt
+    core-aimed (Write k offset value) = tt
 
     module _ (lit : Lit running (s .bank)) where
       -- a j that the bank has not is refused before it is asked whether it runs
@@ -232,6 +234,7 @@ module _ (s : State) (stood : Stands s) (i : ℕ) (below : i < s .bank .tree .co
           go (Note k j) own e = ap (acted s i) (noted-is j) ∙ ap (λ (k : ℕ). acted s k (noted (s .bank) k j)) (eqb-true i k e)
           go (Halt m) own e = absurd (true≢false (sym own))
           go (Back j) own e = absurd (true≢false (sym own))
+          go (Write k offset value) own e = absurd (true≢false (sym own))
 
       -- what settles the core's step is the bank's
       pub own-done : (x : Step) → isOwn x ≡ true → acts s x i ≡ true → {m : core.Result} {o : Outcome State} → m ≡ coreStep t running x i column
@@ -257,6 +260,7 @@ own-refused s x i n own actor e some r k = go x own actor
     go (Note j k) own z = by (λ (j : ℕ). noted (s .bank) j k) j z
     go (Halt m) own z = absurd (true≢false (sym own))
     go (Back j) own z = absurd (true≢false (sym own))
+    go (Write k offset value) own z = absurd (true≢false (sym own))
 
 -- ---- a packet given to its receiver in a bank that stands
 

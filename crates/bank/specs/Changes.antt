@@ -26,7 +26,7 @@ use Rattle.bank.specs.declared.bank.Answer.the-variants.{Done, Refused}
 use Rattle.bank.specs.declared.bank.Result.{Result}
 use Rattle.bank.specs.declared.settling.Change.{Change}
 use Rattle.bank.specs.declared.step.Step.{Step}
-use Rattle.bank.specs.declared.step.Step.the-variants.{Order, Send, Take, Ack, All, Note, Halt, Back}
+use Rattle.bank.specs.declared.step.Step.the-variants.{Order, Send, Take, Ack, All, Note, Halt, Back, Write}
 
 -- ---- a change
 
@@ -96,6 +96,7 @@ isOwn (All i) = true
 isOwn (Note i j) = true
 isOwn (Halt m) = false
 isOwn (Back j) = false
+isOwn (Write i offset value) = false
 
 -- the core's step for column i, which is c; a step that is none of the core's is refused
 abbrev pub coreStep : Tree → ℕ → Step → ℕ → Column → core.Result
@@ -108,6 +109,7 @@ coreStep t running (Note k j) i c =
     core.unless (earlier (core.noteRefusal t i c j) (first ((6, has running j) ∷ []))) c (core.noteEffect t c j)
 coreStep t running (Halt m) i c = core.refused 10 c
 coreStep t running (Back j) i c = core.refused 10 c
+coreStep t running (Write k offset value) i c = core.refused 10 c
 
 abbrev pub StepsCore : core-outcome.Outcome → Tree → ℕ → Step → ℕ → Column → Type 0
 StepsCore o t running x i c = standing t i c ≡ 0 → core.meant o ≡ coreStep t running x i c

@@ -1,5 +1,5 @@
 -- By which number a step of a bank is refused, after document 01, "Refused, and by which number": rows 2 to 4 of the bank before all else,
--- then the core's number, and those that a bank adds: 6 for a running j in note, 10 for a place, 6, 14, 15, 16 for a return, 9 for the network.
+-- then the core's number, and those that a bank adds: 6 for a running j in note, 10 for a place, 6, 14, 15, 16 for a return, 22 for a write, 9 for the network.
 use Prim.Native.Nat.{ℕ}
 use mathlib.Core.Path.{_≡_}
 use mathlib.Core.Bool.{Bool, true, false, not, _&&_, _||_}
@@ -8,13 +8,14 @@ use lib.Dec.{eqb, leb}
 use Rattle.column.specs.Refusals.{first, earlier}
 use Rattle.column.specs.Packets.{receiver}
 use Rattle.column.specs.Steps as core
+use Rattle.column.specs.Pages.{writeConditions}
 use Rattle.bank.specs.Banks.{State, columnAt, runs, packetAt, capacity, bankRefusal}
 use Rattle.bank.specs.Steps.{accepted, after, unless, noteRefusal, haltConditions}
 use Rattle.bank.specs.Returns.{backConditions}
 use Rattle.bank.specs.Performs.{perform}
 use Rattle.bank.specs.declared.bank.Bank.{Bank}
 use Rattle.bank.specs.declared.step.Step.{Step}
-use Rattle.bank.specs.declared.step.Step.the-variants.{Order, Send, Take, Ack, All, Note, Halt, Back}
+use Rattle.bank.specs.declared.step.Step.the-variants.{Order, Send, Take, Ack, All, Note, Halt, Back, Write}
 
 -- the core's number; "(j running) 6: condition of .. note fails", "10: take at a place not below the packet count"
 abbrev pub ownRefusal : State → Step → ℕ
@@ -29,6 +30,7 @@ ownRefusal s (All i) = core.allRefusal (s .bank .tree) i (columnAt (s .bank) i)
 ownRefusal s (Note i j) = noteRefusal (s .bank) i j
 ownRefusal s (Halt m) = first (haltConditions s m)
 ownRefusal s (Back j) = first (backConditions s j)
+ownRefusal s (Write i offset value) = earlier (first ((4, leb (s .bank .tree .columns) i) ∷ [])) (first (writeConditions offset))
 
 -- an accepted result makes the packets more: one is really put, since its addressee runs, and none is taken off for it
 abbrev pub raises : Bool → Bank → core.Result → Bool
@@ -48,6 +50,7 @@ raised s (All i) = false
 raised s (Note i j) = false
 raised s (Halt m) = false
 raised s (Back j) = false
+raised s (Write i offset value) = false
 
 -- "9: a packet would raise the network above 512"
 abbrev pub overfull : State → Step → Bool

@@ -16,6 +16,7 @@ use Rattle.column.specs.Trees.{treeRefusal}
 use Rattle.column.specs.Columns.{stateRefusal, standing}
 use Rattle.column.specs.Packets.{receiver}
 use Rattle.column.specs.Steps as core
+use Rattle.column.specs.Pages.{writeConditions}
 use Rattle.column.specs.declared.tree.Tree.{Tree}
 use Rattle.column.specs.declared.state.Column.{Column}
 use Rattle.column.specs.declared.packet.Packet.{Packet}
@@ -26,9 +27,10 @@ use Rattle.bank.specs.StandingLaws.{Stands, stands, acting}
 use Rattle.bank.specs.StepLaws.{fits, put-halted, put-running, put-full, put-count, takes}
 use Rattle.bank.specs.Steps.{Outcome, accepted, refused, after, unless, withColumn, fitting, settled, acted, noted, noteRefusal, takeRefusal, delivered, halted, haltConditions, haltRefusal, halt}
 use Rattle.bank.specs.Returns.{backConditions, backRefusal, returned, back}
+use Rattle.bank.specs.Pages.{writeRefusal, write}
 use Rattle.bank.specs.Performs.{perform}
 use Rattle.bank.specs.Exact.{ownRefusal, raises, overfull, refusalOf, Exact}
-use Rattle.bank.specs.declared.step.Step.the-variants.{Order, Send, Take, Ack, All, Note, Halt, Back}
+use Rattle.bank.specs.declared.step.Step.the-variants.{Order, Send, Take, Ack, All, Note, Halt, Back, Write}
 
 -- ---- what the core does: at most one packet, and where it has one its column runs on as it did
 
@@ -204,6 +206,15 @@ module _ (s : State) where
       subst (λ k. Answered s k (back s j)) (earlier-assoc (bankRefusal s) (first (backConditions s j)) 0)
       (answered-unless s (backRefusal s j) 0 (accepted (state (returned (s .bank) j) (s .heads) (s .doors))) (λ e. refl))
 
+  exact-write : (i offset value : ℕ) → Answered s (refusalOf s (Write i offset value)) (perform s (Write i offset value))
+  unfolding perform writeRefusal
+  exact-write i offset value =
+      let four = first ((4, leb (tree s .columns) i) ∷ []) in
+      let own = first (writeConditions offset) in
+      subst (λ k. Answered s k (write s i offset value))
+      (earlier-assoc (actingRefusal s i) own 0 ∙ earlier-assoc (bankRefusal s) four (earlier own 0) ∙ ap (earlier (bankRefusal s)) (sym (earlier-assoc four own 0)))
+      (answered-unless s (writeRefusal s i offset) 0 _ (λ e. refl))
+
   exact-take : (place : ℕ) → Answered s (refusalOf s (Take place)) (perform s (Take place))
   unfolding perform delivered
   exact-take place =
@@ -229,3 +240,4 @@ exact s (All i) = exact-all s i
 exact s (Note i j) = exact-note s i j
 exact s (Halt m) = exact-halt s m
 exact s (Back j) = exact-back s j
+exact s (Write i offset value) = exact-write s i offset value

@@ -19,6 +19,11 @@ pub mod StripLaws
 pub mod StripRefusals
 pub mod Rest
 pub mod Returns
+pub mod Pages
+pub mod PageSteps
+pub mod Apart
+pub mod PlainStates
+pub mod ApartLaws
 pub mod Performs
 pub mod Exact
 pub mod ExactLaws
@@ -26,6 +31,7 @@ pub mod Unchanged
 pub mod RestSteps
 pub mod RestLaws
 pub mod ReturnLaws
+pub mod Kinds
 pub mod Places
 pub mod StandingOn
 pub mod StepExamples

@@ -4,13 +4,13 @@ use mathlib.Core.Path.{_≡_, sym, ap, _∙_}
 use mathlib.Core.Bool.{Bool, true, false, cond}
 use native.Mathlib.Omega.{arith}
 use lib.Dec.{eqb}
-use Rattle.column.specs.Sets.{lowest}
+use Rattle.column.specs.Sets.{lowest, minus}
 use Rattle.column.specs.Steps as core
 use Rattle.column.specs.declared.tree.Tree.{Tree}
 use Rattle.column.specs.declared.state.Column.{Column}
 use Rattle.bank.specs.Banks.{columnAt}
 use Rattle.bank.specs.RestSteps as few
-use Rattle.bank.specs.Quick.{minus, canSend, canAck, canTakeOver, stepOf, stepFrom}
+use Rattle.bank.specs.Quick.{canSend, canAck, canTakeOver, stepOf, stepFrom}
 use Rattle.bank.specs.declared.bank.Bank.{Bank}
 use Rattle.bank.specs.declared.bank.Answer.{Answer}
 use Rattle.bank.specs.declared.bank.Answer.the-variants.{Done, Refused}

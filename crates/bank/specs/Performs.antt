@@ -2,8 +2,9 @@
 use Rattle.bank.specs.Banks.{State}
 use Rattle.bank.specs.Steps.{Outcome, order, send, take, ack, all, note, halt}
 use Rattle.bank.specs.Returns.{back}
+use Rattle.bank.specs.Pages.{write}
 use Rattle.bank.specs.declared.step.Step.{Step}
-use Rattle.bank.specs.declared.step.Step.the-variants.{Order, Send, Take, Ack, All, Note, Halt, Back}
+use Rattle.bank.specs.declared.step.Step.the-variants.{Order, Send, Take, Ack, All, Note, Halt, Back, Write}
 
 unfoldable pub perform : State → Step → Outcome State
 perform s (Order doors) = order s doors
@@ -14,3 +15,4 @@ perform s (All i) = all s i
 perform s (Note i j) = note s i j
 perform s (Halt m) = halt s m
 perform s (Back j) = back s j
+perform s (Write i offset value) = write s i offset value

@@ -1,5 +1,5 @@
--- A step rewrites the places of the columns that act, and no other: "unused ones never change". They run, unless one comes back: so a halted
--- column keeps what it holds until then, but for one that comes back meanwhile, which it strikes from those noted. Assumes nothing.
+-- A step rewrites the places of the columns that act, and no other: "unused ones never change". They run, unless one comes back or a page is
+-- written: so a halted column keeps what it holds until then, but for one that comes back meanwhile, which it strikes from those noted, and its page. Assumes nothing.
 use Prim.Native.Nat.{ℕ, _≤_, _<_}
 use mathlib.Core.Path.{_≡_, refl, sym, ap, subst, _∙_}
 use mathlib.Core.Bool.{Bool, true, false, not, _||_, cond, true≢false}
@@ -9,7 +9,7 @@ use native.Mathlib.Omega.{arith}
 use lib.Dec.{eqb, leb, ltb}
 use lib.ListN.{length, getD}
 use lib.Seq.{getD-set-other}
-use borrow.Author.Tests.{eq-eqb, ne-eqb, eqb-true, eqb-false, ltb-true, ltb-false, not-false}
+use borrow.Author.Tests.{eq-eqb, ne-eqb, eqb-true, eqb-false, leb-false, ltb-true, ltb-false, not-false}
 use Rattle.column.specs.Cases.{truth}
 use Rattle.column.specs.Sets.{has}
 use Rattle.column.specs.Refusals.{first, earlier}
@@ -26,18 +26,20 @@ use Rattle.bank.specs.Banks.{State, state, columnAt, runs, packetAt, cap
 use Rattle.bank.specs.Networks.{withPacket, put, puts, removed, vanished}
 use Rattle.bank.specs.Steps.{Outcome, accepted, refused, after, unless, fitting, withColumn, settled, acted, delivered, takeRefusal, halted, haltConditions, haltRefusal}
 use Rattle.bank.specs.Returns.{backConditions, backRefusal, comeBack, returned}
+use Rattle.bank.specs.Pages.{writeRefusal}
 use Rattle.bank.specs.ReturnLaws.{returning, place-mine, place-struck, place-unused}
 use Rattle.bank.specs.Performs.{perform}
 use Rattle.bank.specs.Exact.{ownRefusal, refusalOf}
+use Rattle.bank.specs.Kinds.{ofHalted, byNoColumn}
 use Rattle.bank.specs.ExactLaws.{exact}
 use Rattle.bank.specs.StripStates.{column-at}
 use Rattle.bank.specs.StripLaws.{halts}
 use Rattle.bank.specs.Rest.{Running}
 use Rattle.bank.specs.declared.step.Step.{Step}
-use Rattle.bank.specs.declared.step.Step.the-variants.{Order, Send, Take, Ack, All, Note, Halt, Back}
+use Rattle.bank.specs.declared.step.Step.the-variants.{Order, Send, Take, Ack, All, Note, Halt, Back, Write}
 
 -- whose place a step may rewrite: "order: the root; note: the first"; of a take "the packet goes to its receiver"; a halt's members; of a
--- return that column and "all others"
+-- return that column and "all others"; of a write the column of the page
 abbrev pub acts : State → Step → ℕ → Bool
 acts s (Order doors) j = eqb j (s .bank .tree .root)
 acts s (Send i) j = eqb j i
@@ -47,39 +49,15 @@ acts s (All i) j = eqb j i
 acts s (Note i k) j = eqb j i
 acts s (Halt m) j = has m j
 acts s (Back i) j = ltb j (s .bank .tree .columns)
+acts s (Write i offset value) j = eqb j i
 
-abbrev pub isHalt : Step → Bool
-isHalt (Order doors) = false
-isHalt (Send i) = false
-isHalt (Take place) = false
-isHalt (Ack i) = false
-isHalt (All i) = false
-isHalt (Note i j) = false
-isHalt (Halt m) = true
-isHalt (Back j) = false
-
--- the only step that rewrites the place of a column that does not run
-abbrev pub isBack : Step → Bool
-isBack (Order doors) = false
-isBack (Send i) = false
-isBack (Take place) = false
-isBack (Ack i) = false
-isBack (All i) = false
-isBack (Note i j) = false
-isBack (Halt m) = false
-isBack (Back j) = true
-
--- the steps of which more than one column may act
-abbrev pub ofMany : Step → Bool
-ofMany x = isHalt x || isBack x
-
-pub one-acts : (s : State) (x : Step) (i j : ℕ) → ofMany x ≡ false → acts s x i ≡ true → (j ≡ i → ⊥) → acts s x j ≡ false
+pub one-acts : (s : State) (x : Step) (i j : ℕ) → byNoColumn x ≡ false → acts s x i ≡ true → (j ≡ i → ⊥) → acts s x j ≡ false
 one-acts s x i j = go x
   where
     one : (k : ℕ) → eqb i k ≡ true → (j ≡ i → ⊥) → eqb j k ≡ false
     one k h other = ne-eqb j k (λ e. other (e ∙ sym (eqb-true i k h)))
 
-    go : (x : Step) → ofMany x ≡ false → acts s x i ≡ true → (j ≡ i → ⊥) → acts s x j ≡ false
+    go : (x : Step) → byNoColumn x ≡ false → acts s x i ≡ true → (j ≡ i → ⊥) → acts s x j ≡ false
     go (Order doors) e = one (s .bank .tree .root)
     go (Send k) e = one k
     go (Take place) e = one (receiver (packetAt s place))
@@ -88,6 +66,7 @@ one-acts s x i j = go x
     go (Note k l) e = one k
     go (Halt m) e = absurd (true≢false e)
     go (Back k) e = absurd (true≢false e)
+    go (Write k offset value) e = absurd (true≢false e)
 
 -- ---- what a step keeps
 
@@ -184,6 +163,8 @@ others-kept s x j = go x
     go (Note i k) e = one i e _
     go (Halt m) e = kept-halted s m j e (eqb (haltRefusal s m) 0)
     go (Back i) e = kept-returned s i j e (eqb (backRefusal s i) 0) refl
+    go (Write i offset value) e =
+        kept-unless read s (writeRefusal s i offset) _ (getD-set-other (s .bank .columns) i j _ noColumn (eqb-false j i e))
 
 -- ---- the tree
 
@@ -211,6 +192,7 @@ tree-kept s x = go x
     go (Note i k) = one i _
     go (Halt m) = kept-unless read s (haltRefusal s m) _ refl
     go (Back j) = kept-unless read s (backRefusal s j) _ refl
+    go (Write i offset value) = kept-unless read s (writeRefusal s i offset) _ refl
 
 -- ---- who acts
 
@@ -220,9 +202,9 @@ t s = s .bank .tree
 abbrev c : State → ℕ → Column
 c s i = columnAt (s .bank) i
 
--- a column of the bank, which runs unless one comes back
+-- a column of the bank, which runs unless one comes back or a page is written
 abbrev pub Acting : State → Step → ℕ → Type 0
-Acting s x j = (j < s .bank .tree .columns) × (isBack x ≡ false → runs (s .bank) j ≡ true)
+Acting s x j = (j < s .bank .tree .columns) × (ofHalted x ≡ false → runs (s .bank) j ≡ true)
 
 module _ (s : State) (x : Step) (i : ℕ) where
   -- the core tests the column first, and among the step's own conditions that it runs
@@ -253,6 +235,9 @@ own-acting s (Note i k) b e =
     runs-by s (Note i k) i _ (λ z. passed (core.noteConditions (t s) i (c s i) k) tt z .1 .0) (earlier-none _ (first ((6, runs (s .bank) k) ∷ [])) e .0)
 own-acting s (Halt m) b e = λ j h. let r = members-run s m b e j h in (r .0, λ _. r .1)
 own-acting s (Back i) b e = λ j h. (ltb-true j (t s .columns) h, λ n. absurd (true≢false n))
+own-acting s (Write i offset value) b e = λ j h.
+    let z = passed ((4, leb (t s .columns) i) ∷ []) tt (earlier-none (first ((4, leb (t s .columns) i) ∷ [])) _ e .0) in
+    (subst (λ k. k < t s .columns) (sym (eqb-true j i h)) (leb-false (t s .columns) i (z .0)), λ n. absurd (true≢false n))
 
 -- a step that is not refused is one of columns of the bank
 pub acting-is : (s : State) (x : Step) → refusalOf s x ≡ 0 → (j : ℕ) → acts s x j ≡ true → Acting s x j
@@ -270,8 +255,8 @@ module _ (s : State) (x : Step) (j : ℕ) where
       go true e = others-kept s x j (⊎-elim (λ a. absurd (idle (acting-is s x (eqb-true (refusalOf s x) 0 e) j a))) (λ a. a) (truth (acts s x j)))
       go false e = ap (λ (o : Outcome State). columnAt (after o .bank) j) (exact s x) ∙ rw e
 
-  -- number, doors, sets, those noted and goal stay as they were, until a column comes back
-  pub halted-kept : isBack x ≡ false → runs (s .bank) j ≡ false → columnAt (after (perform s x) .bank) j ≡ columnAt (s .bank) j
+  -- number, doors, sets, those noted and goal stay as they were, until a column comes back, and the page until one is written
+  pub halted-kept : ofHalted x ≡ false → runs (s .bank) j ≡ false → columnAt (after (perform s x) .bank) j ≡ columnAt (s .bank) j
   halted-kept none h = idle-kept (λ a. true≢false (sym (a .1 none) ∙ h))
 
   -- "All sixteen places are held, whatever the count; unused ones never change."
@@ -295,3 +280,8 @@ module _ (s : State) (j : ℕ) (ok : refusalOf s (Back j) ≡ 0) where
   -- "The column runs with the record of the lowest running column .."
   pub comes-back : j < length (s .bank .columns) → columnAt (after (perform s (Back j)) .bank) j ≡ comeBack (s .bank) j
   comes-back h = ap (λ (u : State). columnAt (u .bank) j) goes ∙ place-mine (s .bank) j h
+
+  -- "Coming back changes neither 5 nor 6."
+  pub page-kept : j < length (s .bank .columns) → let c = columnAt (after (perform s (Back j)) .bank) j in
+      (c .mask ≡ columnAt (s .bank) j .mask) × (c .pending ≡ columnAt (s .bank) j .pending)
+  page-kept h = (ap (λ (c : Column). c .mask) (comes-back h), ap (λ (c : Column). c .pending) (comes-back h))

@@ -1,9 +1,8 @@
 -- The step of a turn, found by sets alone: in a bank that stands it is the dispatcher's, by `quick-turn` of QuickLaws.
 use Prim.Native.Nat.{ℕ, zero, suc}
 use mathlib.Core.Bool.{Bool, not, _&&_, _||_, cond}
-use lib.Bits.{bitXor}
 use lib.Dec.{eqb, ltb}
-use Rattle.column.specs.Sets.{has, join, lowest}
+use Rattle.column.specs.Sets.{has, minus, lowest}
 use Rattle.column.specs.Trees.{choose}
 use Rattle.column.specs.Columns.{idle, watched, mayAcknowledge}
 use Rattle.column.specs.declared.tree.Tree.{Tree}
@@ -12,11 +11,7 @@ use Rattle.bank.specs.Words.{receiverIn}
 use Rattle.bank.specs.Banks.{columnAt, haltedOf, capacity}
 use Rattle.bank.specs.declared.bank.Bank.{Bank}
 use Rattle.bank.specs.declared.step.Step.{Step}
-use Rattle.bank.specs.declared.step.Step.the-variants.{Order, Send, Take, Ack, All, Note, Halt, Back}
-
--- the members of a that are none of b
-abbrev pub minus : ℕ → ℕ → ℕ
-minus a b = bitXor (join a b) b
+use Rattle.bank.specs.declared.step.Step.the-variants.{Order, Send, Take, Ack, All, Note, Halt, Back, Write}
 
 -- a packet to column j would be put where there is room, or not be put
 abbrev pub fits : Bool → ℕ → ℕ → Bool
@@ -64,3 +59,4 @@ actingIn (Take place) oldest = receiverIn oldest
 actingIn (Order doors) oldest = receiverIn oldest
 actingIn (Halt m) oldest = receiverIn oldest
 actingIn (Back j) oldest = receiverIn oldest
+actingIn (Write i offset value) oldest = receiverIn oldest

@@ -1,21 +1,19 @@
 -- In a bank that stands a step of a running column is refused exactly where the test by sets fails. Assumes nothing.
-use Prim.Native.Nat.{ℕ, _^_, _<_, max}
-use mathlib.Core.Path.{_≡_, refl, sym, ap, ap₂, _∙_}
+use Prim.Native.Nat.{ℕ, _^_, _<_}
+use mathlib.Core.Path.{_≡_, refl, sym, ap, _∙_}
 use mathlib.Core.Logic.{_⊎_, inl, inr}
 use mathlib.Core.Bool.{Bool, true, false, not, _&&_, _||_, cond, or-true, true≢false}
 use mathlib.Core.List.{[], _∷_}
 use native.Mathlib.Omega.{arith}
 use native.Mathlib.Nat.{lt-of-lt-of-le}
-use lib.Bits.{differ}
 use lib.Dec.{eqb, ltb}
 use lib.Pow.{pow-mono}
 use borrow.Author.Tests.{eq-eqb, ne-eqb, eqb-false, ltb-true, ltb-false, lt-leb, not-false}
 use Rattle.column.specs.Cases.{truth}
 use Rattle.column.specs.Refusals.{first, earlier}
-use Rattle.column.specs.Sets.{within, digit, has, join, lowest}
+use Rattle.column.specs.Sets.{within, has, minus, lowest}
 use Rattle.column.specs.Trees.{choose}
-use Rattle.column.specs.Digits.{digit-cases, digit-or, digit-xor, has-true, has-false}
-use Rattle.column.specs.SetLaws.{selected-has, lowest-member, within-lt}
+use Rattle.column.specs.SetLaws.{has-minus, selected-has, lowest-member, within-lt}
 use Rattle.column.specs.TreeLaws.{tree-sixteen}
 use Rattle.column.specs.ChoiceLaws.{choose-lt}
 use Rattle.column.specs.Columns.{idle, standing, stateConditions, stateRefusal, watched, mayAcknowledge}
@@ -34,25 +32,8 @@ use Rattle.bank.specs.RestSteps.{refuses, refused-exactly, then-refuses}
 use Rattle.bank.specs.Exact.{ownRefusal, raises, raised, overfull}
 use Rattle.bank.specs.declared.step.Step.{Step}
 use Rattle.bank.specs.declared.step.Step.the-variants.{Send, Ack, All, Note}
-use Rattle.bank.specs.Quick.{minus, fits, canSend, canAck, canTakeOver, isFull}
+use Rattle.bank.specs.Quick.{fits, canSend, canAck, canTakeOver, isFull}
 use Rattle.bank.specs.declared.bank.Bank.{Bank}
-
--- ---- sets
-
-pub has-minus : (a b j : ℕ) → has (minus a b) j ≡ (has a j && not (has b j))
-has-minus a b j = go (digit-cases a j) (digit-cases b j)
-  where
-    is : digit (minus a b) j ≡ differ (max (digit a j) (digit b j)) (digit b j)
-    is = digit-xor (join a b) b j ∙ ap (λ (x : ℕ). differ x (digit b j)) (digit-or a b j)
-
-    at : (x y : ℕ) → digit a j ≡ x → digit b j ≡ y → digit (minus a b) j ≡ differ (max x y) y
-    at x y e k = is ∙ ap₂ (λ (u v : ℕ). differ (max u v) v) e k
-
-    go : (digit a j ≡ 0) ⊎ (digit a j ≡ 1) → (digit b j ≡ 0) ⊎ (digit b j ≡ 1) → has (minus a b) j ≡ (has a j && not (has b j))
-    go (inl x) (inl y) = has-false _ j (at 0 0 x y) ∙ sym (ap (λ (u : Bool). u && not (has b j)) (has-false a j x))
-    go (inl x) (inr y) = has-false _ j (at 0 1 x y) ∙ sym (ap (λ (u : Bool). u && not (has b j)) (has-false a j x))
-    go (inr x) (inl y) = has-true _ j (at 1 0 x y) ∙ sym (ap₂ (λ (u v : Bool). u && not v) (has-true a j x) (has-false b j y))
-    go (inr x) (inr y) = has-false _ j (at 1 1 x y) ∙ sym (ap₂ (λ (u v : Bool). u && not v) (has-true a j x) (has-true b j y))
 
 -- ---- a bank that stands refuses by the step's own number, and where a packet has no room
 

@@ -33,9 +33,10 @@ use Rattle.bank.specs.Performs.{perform}
 use Rattle.bank.specs.Exact.{refusalOf}
 use Rattle.bank.specs.Rest.{isRefused}
 use Rattle.bank.specs.RestSteps.{refused-exactly}
-use Rattle.bank.specs.Places.{acts, isHalt, isBack, ofMany, one-acts, tree-kept, others-kept, acting-is}
+use Rattle.bank.specs.Kinds.{isHalt, ofHalted, byNoColumn}
+use Rattle.bank.specs.Places.{acts, one-acts, tree-kept, others-kept, acting-is}
 use Rattle.bank.specs.declared.step.Step.{Step}
-use Rattle.bank.specs.declared.step.Step.the-variants.{Order, Send, Take, Ack, All, Note, Halt, Back}
+use Rattle.bank.specs.declared.step.Step.the-variants.{Order, Send, Take, Ack, All, Note, Halt, Back, Write}
 
 -- ---- what a step carries over: who runs, and the packets but for the newest
 
@@ -134,7 +135,7 @@ module _ (s : State) where
   known-acted i n effect h =
       known-unless (actingRefusal s i) _ (known-settled s (carried-same s) i (core.unless n (at i) effect) (steady-cond (eqb n 0) (at i) effect (core.refused n (at i)) h tt))
 
-  known : (x : Step) → ofMany x ≡ false → Known s (perform s x)
+  known : (x : Step) → byNoColumn x ≡ false → Known s (perform s x)
   unfolding perform delivered core.orderEffect core.ackEffect core.allEffect core.noteEffect
   known (Order doors) e = let i = tree .root in known-acted i (core.orderRefusal tree i (at i)) (core.orderEffect tree i (at i) doors) refl
   known (Send i) e = known-acted i (core.sendRefusal tree i (at i)) (core.sendEffect tree i (at i)) (steady-send tree i (at i))
@@ -149,6 +150,7 @@ module _ (s : State) where
   known (Note i j) e = known-acted i (noteRefusal (s .bank) i j) (core.noteEffect tree (at i) j) refl
   known (Halt m) e = absurd (true≢false e)
   known (Back j) e = absurd (true≢false e)
+  known (Write i offset value) e = absurd (true≢false e)
 
 -- ---- the test is enough, and no more than is needed
 
@@ -162,7 +164,7 @@ stands-still s i w h = ap₂ _&&_ (eq-eqb _ 0 (w .columns i h)) (go (eqb (s .ban
     go true e = refl
     go false e = let some = eqb-false (s .bank .count) 0 e in packet-stands s w (s .bank .count - 1) (omega (arith, some))
 
-module _ (s : State) (x : Step) (s' : State) (i : ℕ) (moves : ofMany x ≡ false) (good : bankRefusal s ≡ 0) (done : perform s x ≡ accepted s')
+module _ (s : State) (x : Step) (s' : State) (i : ℕ) (moves : byNoColumn x ≡ false) (good : bankRefusal s ≡ 0) (done : perform s x ≡ accepted s')
     (actor : acts s x i ≡ true) where
   before : Stands s
   before = stands s good
@@ -188,7 +190,7 @@ module _ (s : State) (x : Step) (s' : State) (i : ℕ) (moves : ofMany x ≡ fal
   actor-on =
       let none : refusalOf s x ≡ 0 = eqb-true (refusalOf s x) 0 (not-false (eqb (refusalOf s x) 0) (sym (refused-exactly s x) ∙ ap isRefused done)) in
       let z = acting-is s x none i actor in
-      (z .0, z .1 (or-none (isHalt x) (isBack x) moves))
+      (z .0, z .1 (or-none (isHalt x) (ofHalted x) moves))
 
   actor-below : i < s' .bank .tree .columns
   actor-below = subst (λ (t : Tree). i < t .columns) (sym tree-on) (actor-on .0)

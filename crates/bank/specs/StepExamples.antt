@@ -8,18 +8,20 @@ use mathlib.Core.List.{[], _∷_, _++_}
 use lib.Count.{trailingZeros}
 use lib.ListN.{replicate, length-replicate}
 use Rattle.column.specs.Trees.{treeOf, every, climbsIn, treeRefusal}
-use Rattle.column.specs.Columns.{stateRefusal}
+use Rattle.column.specs.Columns.{stateRefusal, withRegisters}
+use Rattle.column.specs.Pages.{written}
 use Rattle.column.specs.Steps as core
 use Rattle.column.specs.declared.packet.Packet.{Packet}
 use Rattle.column.specs.declared.packet.Packet.the-variants.{Message}
 use Rattle.bank.specs.Words.{headOf, packetOf}
-use Rattle.bank.specs.Banks.{State, state, capacity, places, freshPlace, freshBank, bankRefusal}
+use Rattle.bank.specs.Banks.{State, state, noColumn, capacity, places, freshPlace, freshBank, bankRefusal}
 use Rattle.bank.specs.StandingLaws.{Stands, stands}
 use Rattle.bank.specs.Networks.{counting, withPacket, put, puts}
 use Rattle.bank.specs.NetworkLaws.{packetsOf, put-meant}
-use Rattle.bank.specs.Steps.{refused, after, withColumn, fitting, acted}
+use Rattle.bank.specs.Steps.{accepted, refused, after, withColumn, fitting, acted}
 use Rattle.bank.specs.Performs.{perform}
-use Rattle.bank.specs.declared.step.Step.the-variants.{Send}
+use Rattle.bank.specs.Pages.{writeRefusal}
+use Rattle.bank.specs.declared.step.Step.the-variants.{Send, Write}
 
 abbrev message : Packet
 message = Message 0 1 1 9
@@ -41,6 +43,17 @@ full = (refl, refl, refl)
 
 pub full-stands : Stands (crowded 512)
 full-stands = stands (crowded 512) (full .0)
+
+-- no packet is under way, and column 1 is halted
+abbrev dark : State
+dark = withColumn (crowded 0) 1 noColumn
+
+-- "Only 5 and 7 can be written, at a halted column too"; "22 for .. a write elsewhere, after 4"
+pub dark-written : (perform dark (Write 1 5 255) ≡ accepted (withColumn dark 1 (withRegisters noColumn 255 0)))
+    × (perform dark (Write 1 6 255) ≡ refused 22 dark)
+    × (perform dark (Write 3 6 255) ≡ refused 4 dark)
+unfolding every climbsIn treeRefusal stateRefusal places freshPlace bankRefusal perform writeRefusal written
+dark-written = (refl, refl, refl)
 
 pub last-put : packetsOf (withPacket (crowded 511) message) ≡ packetsOf (crowded 511) ++ (message ∷ [])
 last-put =

@@ -7,7 +7,7 @@ use mathlib.Core.List.{List}
 use lib.Dec.{eqb}
 use lib.ListN.{getD}
 use borrow.Author.Tests.{eq-eqb, lt-leb, le-leb}
-use Rattle.column.specs.Sets.{lowest}
+use Rattle.column.specs.Sets.{lowest, minus}
 use Rattle.column.specs.Packets.{receiver}
 use Rattle.column.specs.Columns.{standing}
 use Rattle.column.specs.Steps as core
@@ -22,17 +22,18 @@ use Rattle.bank.specs.Performs.{perform}
 use Rattle.bank.specs.Steady.{Steady, Aimed}
 use Rattle.bank.specs.Changes.{Handed, isOwn, coreStep, StepsCore}
 use Rattle.bank.specs.ChangeLaws.{stands-at, own-done}
-use Rattle.bank.specs.Places.{acts, ofMany}
-use Rattle.bank.specs.Quick.{minus, canSend, canAck, canTakeOver, stepOf, stepFrom, quickTurn, actingIn}
+use Rattle.bank.specs.Kinds.{byNoColumn}
+use Rattle.bank.specs.Places.{acts}
+use Rattle.bank.specs.Quick.{canSend, canAck, canTakeOver, stepOf, stepFrom, quickTurn, actingIn}
 use Rattle.bank.specs.Turns.{isTake}
 use Rattle.bank.specs.declared.bank.Bank.{Bank}
 use Rattle.bank.specs.declared.step.Step.{Step}
-use Rattle.bank.specs.declared.step.Step.the-variants.{Order, Send, Take, Ack, All, Note, Halt, Back}
+use Rattle.bank.specs.declared.step.Step.the-variants.{Order, Send, Take, Ack, All, Note, Halt, Back, Write}
 
 -- ---- who acts
 
 pub record Turning (s : State) (x : Step) : Type 0 where
-  pub moves : ofMany x ≡ false
+  pub moves : byNoColumn x ≡ false
   pub actor : acts s x (actingIn x (getD (s .heads) 0 0)) ≡ true
   -- the packet that is taken is the oldest
   pub oldest : isTake x ≡ true → x ≡ Take 0
@@ -48,7 +49,7 @@ module _ (s : State) where
     abbrev own : eqb i i ≡ true
     own = eq-eqb i i refl
 
-    by-itself : (x : Step) → ofMany x ≡ false → acts s x (actingIn x (getD (s .heads) 0 0)) ≡ true → isTake x ≡ false
+    by-itself : (x : Step) → byNoColumn x ≡ false → acts s x (actingIn x (getD (s .heads) 0 0)) ≡ true → isTake x ≡ false
         → actingIn x (getD (s .heads) 0 0) ≡ i → Turning s x
     by-itself x moves actor none is =
         record {
@@ -89,7 +90,7 @@ module _ (s : State) where
 
 -- ---- what its step comes to
 
-own-turn : (x : Step) → ofMany x ≡ false → isTake x ≡ false → isOwn x ≡ true
+own-turn : (x : Step) → byNoColumn x ≡ false → isTake x ≡ false → isOwn x ≡ true
 own-turn (Order doors) e z = refl
 own-turn (Send i) e z = refl
 own-turn (Take place) e z = absurd (true≢false z)
@@ -98,6 +99,7 @@ own-turn (All i) e z = refl
 own-turn (Note i j) e z = refl
 own-turn (Halt m) e z = absurd (true≢false e)
 own-turn (Back j) e z = absurd (true≢false e)
+own-turn (Write i offset value) e z = absurd (true≢false e)
 
 module _ {b : Bank} {t : Tree} {running i : ℕ} {c : Column} {count : ℕ} (heads doors : List ℕ) (handed : Handed b t running i c count)
     (ok : bankRefusal (state b heads doors) ≡ 0) (x : Step) (quick : x ≡ quickTurn b) (is : i ≡ actingIn x (getD heads 0 0)) where

@@ -13,7 +13,7 @@ use Rattle.bank.specs.Quick.{quickTurn, actingIn}
 use Rattle.bank.specs.declared.bank.Bank.{Bank}
 use Rattle.bank.specs.declared.settling.Change.{Change}
 use Rattle.bank.specs.declared.step.Step.{Step}
-use Rattle.bank.specs.declared.step.Step.the-variants.{Order, Send, Take, Ack, All, Note, Halt, Back}
+use Rattle.bank.specs.declared.step.Step.the-variants.{Order, Send, Take, Ack, All, Note, Halt, Back, Write}
 
 abbrev pub isTake : Step → Bool
 isTake (Order doors) = false
@@ -24,6 +24,7 @@ isTake (All i) = false
 isTake (Note i j) = false
 isTake (Halt m) = false
 isTake (Back j) = false
+isTake (Write i offset value) = false
 
 -- of every bank that stands and of which these are the parts: the turn's step
 abbrev pub TakesTurn : Change → Tree → ℕ → Step → ℕ → Column → ℕ → List ℕ → List ℕ → List ℕ → List ℕ → Type 0

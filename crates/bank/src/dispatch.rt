@@ -146,6 +146,7 @@ fn acting(x: Step, oldest: u64) -> usize
         Step::Order(_) => to,
         Step::Halt(_) => to,
         Step::Back(_) => to,
+        Step::Write(_, _, _) => to,
     }
 }
 
@@ -171,6 +172,7 @@ fn is_take(x: Step) -> bool
         Step::Note(_, _) => false,
         Step::Halt(_) => false,
         Step::Back(_) => false,
+        Step::Write(_, _, _) => false,
     }
 }
 

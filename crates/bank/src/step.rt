@@ -2,6 +2,7 @@
 use crate::bank::Bank;
 use crate::bank::Result;
 use crate::network::vanish;
+use crate::page::write_byte;
 use crate::returning::bring_back;
 use crate::running::running;
 use crate::settling::Change;
@@ -31,6 +32,7 @@ ghost use Prim.Native.Nat.{_≤_, _<_};
 ghost use Rattle.column.specs.Steps.{meant, refused};
 ghost use Rattle.bank.specs.Banks.{state, bankRefusal};
 ghost use Rattle.bank.specs.Changes.{isOwn, StepsCore, Takes};
+ghost use Rattle.bank.specs.Pages.{write};
 ghost use Rattle.bank.specs.Performs.{perform};
 ghost use Rattle.bank.specs.Places.{acts};
 ghost use Rattle.bank.specs.Returns.{back};
@@ -46,6 +48,8 @@ pub enum Step {
     Note(usize, usize),
     Halt(u32),
     Back(usize),
+    // The column of a page, the offset, and the byte to write there.
+    Write(usize, usize, u8),
 }
 
 // The core believes that the column to note is halted; the bank tests it.
@@ -85,6 +89,7 @@ pub(crate) fn core_step(t: Tree, running: u16, x: Step, i: usize, c: Column) -> 
         Step::Take(_) => no_step(c),
         Step::Halt(_) => no_step(c),
         Step::Back(_) => no_step(c),
+        Step::Write(_, _, _) => no_step(c),
     }
 }
 
@@ -164,7 +169,7 @@ fn halt_columns(b: Bank, n: u8, m: u32, heads: &mut [u64; 512], doors: &mut [u64
     done(stop(vanish(b, m, heads, doors), m))
 }
 
-// The bank after any of the eight steps.
+// The bank after any of the nine steps.
 pub fn perform(b: Bank, x: Step, heads: &mut [u64; 512], doors: &mut [u64; 512]) -> Result
     ensures { λ r. ⌜ outcome r (now (heads .exit)) (now (doors .exit)) ≡ perform (state b (now (heads .entry)) (now (doors .entry))) x ⌝ }
 {
@@ -179,6 +184,7 @@ pub fn perform(b: Bank, x: Step, heads: &mut [u64; 512], doors: &mut [u64; 512])
         Step::Note(i, _) => act(b, n, x, i, heads, doors),
         Step::Halt(m) => halt_columns(b, n, m, heads, doors),
         Step::Back(j) => bring_back(b, n, j),
+        Step::Write(i, offset, value) => write_byte(b, n, i, offset, value),
     }
 }
 
@@ -236,4 +242,18 @@ pub fn back(b: Bank, j: usize, heads: &[u64; 512], doors: &[u64; 512]) -> Result
     ensures { λ r. ⌜ outcome r (now (heads .entry)) (now (doors .entry)) ≡ back (state b (now (heads .entry)) (now (doors .entry))) j ⌝ }
 {
     bring_back(b, bank_refusal(b, heads), j)
+}
+
+// The bank with a byte written to the page of column i, a halted one too.
+pub fn write(
+    b: Bank,
+    i: usize,
+    offset: usize,
+    value: u8,
+    heads: &[u64; 512],
+    doors: &[u64; 512],
+) -> Result
+    ensures { λ r. ⌜ outcome r (now (heads .entry)) (now (doors .entry)) ≡ write (state b (now (heads .entry)) (now (doors .entry))) i offset value ⌝ }
+{
+    write_byte(b, bank_refusal(b, heads), i, offset, value)
 }

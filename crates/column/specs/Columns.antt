@@ -4,7 +4,7 @@ use mathlib.Core.Bool.{Bool, true, false, not, _&&_, _||_, cond}
 use mathlib.Core.List.{List, [], _∷_}
 use lib.Dec.{eqb, leb}
 use Rattle.column.specs.Refusals.{first, earlier, Given, given, refused, givenUnless}
-use Rattle.column.specs.Sets.{has, within}
+use Rattle.column.specs.Sets.{has, insert, within}
 use Rattle.column.specs.Trees.{treeRefusal, columnRefusal}
 use Rattle.column.specs.Packets.{numberSize}
 use Rattle.column.specs.declared.tree.Tree.{Tree}
@@ -61,6 +61,20 @@ watched t c = cond (t .watch) (c .sender) (t .root)
 abbrev pub mayAcknowledge : Tree → ℕ → Column → Bool
 mayAcknowledge t i c = (c .whole && not (t .watch && eqb i (t .root))) || idle c
 
+-- document 02, Point 12, of what is pending: "bit 0 a record received (by order at the root too), bit 1 a halt noted, bit 2 the step `all` accepted"
+abbrev pub recordReceived : ℕ
+recordReceived = 0
+
+abbrev pub haltNoted : ℕ
+haltNoted = 1
+
+abbrev pub tookOver : ℕ
+tookOver = 2
+
+-- "set at each such step and kept until cleared"
+abbrev pub pendingWith : Column → ℕ → ℕ
+pendingWith c bit = insert (c .pending) bit
+
 -- the column halted; all else that it holds is kept
 abbrev pub stopped : Column → Column
 stopped c =
@@ -94,3 +108,28 @@ withSets c s a o =
       mask = c .mask;
       pending = c .pending;
     }
+
+-- the column with another mask, and with something else pending
+abbrev pub withRegisters : Column → ℕ → ℕ → Column
+withRegisters c mask pending =
+    record {
+      running = c .running;
+      number = c .number;
+      doors = c .doors;
+      send = c .send;
+      awaited = c .awaited;
+      owed = c .owed;
+      noted = c .noted;
+      whole = c .whole;
+      sender = c .sender;
+      mask = mask;
+      pending = pending;
+    }
+
+-- the column with one more bit pending
+abbrev pub withPending : Column → ℕ → Column
+withPending c bit = withRegisters c (c .mask) (pendingWith c bit)
+
+-- all of a column but these two: what every step but a write goes by
+abbrev pub plain : Column → Column
+plain c = withRegisters c 0 0

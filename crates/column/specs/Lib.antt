@@ -29,6 +29,10 @@ pub mod FrameLaws
 pub mod FramePlaces
 pub mod FrameExamples
 pub mod Steps
+pub mod Pages
+pub mod PageLaws
+pub mod PageExamples
+pub mod PlainLaws
 pub mod StateLaws
 pub mod Tested
 pub mod TestedLaws

@@ -12,7 +12,7 @@ use lib.Count.{trailingZeros, under, ones, ones-step}
 use lib.Pow.{pow-pos, pow-lt, pow-mono}
 use borrow.Author.Tests.{eq-eqb, ne-eqb, eqb-true}
 use Rattle.column.specs.Cases.{compare-cases, equal-cases}
-use Rattle.column.specs.Sets.{digit, has, single, join, insert, without, lowestIn, within, selected}
+use Rattle.column.specs.Sets.{digit, has, single, join, insert, without, minus, lowestIn, within, selected}
 use Rattle.column.specs.Digits.{digit-lt, digit-cases, digit-zero, digit-suc, digit-none, digit-above, digit-single, digit-other, digit-and, digit-or, digit-xor, or-half, xor-half, same-digits, has-true, has-false, true-has, false-has}
 
 -- ---- who is a member
@@ -79,6 +79,21 @@ has-without m i j = go (equal-cases j i)
     go (inr n) =
         ap (λ (x : ℕ). eqb x 1) (digit-without-other m i j n)
         ∙ sym (and-true (has m j)) ∙ ap (λ (b : Bool). has m j && not b) (sym (ne-eqb j i n))
+
+pub has-minus : (a b j : ℕ) → has (minus a b) j ≡ (has a j && not (has b j))
+has-minus a b j = go (digit-cases a j) (digit-cases b j)
+  where
+    is : digit (minus a b) j ≡ differ (max (digit a j) (digit b j)) (digit b j)
+    is = digit-xor (join a b) b j ∙ ap (λ (x : ℕ). differ x (digit b j)) (digit-or a b j)
+
+    at : (x y : ℕ) → digit a j ≡ x → digit b j ≡ y → digit (minus a b) j ≡ differ (max x y) y
+    at x y e k = is ∙ ap₂ (λ (u v : ℕ). differ (max u v) v) e k
+
+    go : (digit a j ≡ 0) ⊎ (digit a j ≡ 1) → (digit b j ≡ 0) ⊎ (digit b j ≡ 1) → has (minus a b) j ≡ (has a j && not (has b j))
+    go (inl x) (inl y) = has-false _ j (at 0 0 x y) ∙ sym (ap (λ (u : Bool). u && not (has b j)) (has-false a j x))
+    go (inl x) (inr y) = has-false _ j (at 0 1 x y) ∙ sym (ap (λ (u : Bool). u && not (has b j)) (has-false a j x))
+    go (inr x) (inl y) = has-true _ j (at 1 0 x y) ∙ sym (ap₂ (λ (u v : Bool). u && not v) (has-true a j x) (has-false b j y))
+    go (inr x) (inr y) = has-false _ j (at 1 1 x y) ∙ sym (ap₂ (λ (u v : Bool). u && not v) (has-true a j x) (has-true b j y))
 
 pub has-without-self : (m i : ℕ) → has (without m i) i ≡ false
 has-without-self m i = has-without m i i ∙ ap (λ (b : Bool). has m i && not b) (eq-eqb i i refl) ∙ and-false (has m i)

@@ -30,6 +30,10 @@ insert m i = join m (single i)
 abbrev pub without : ℕ → ℕ → ℕ
 without m i = bitXor (insert m i) (single i)
 
+-- the members of a that are none of b
+abbrev pub minus : ℕ → ℕ → ℕ
+minus a b = bitXor (join a b) b
+
 -- the lowest member of a set of columns below `width`, and `width` of the empty set
 abbrev pub lowestIn : ℕ → ℕ → ℕ
 lowestIn width m = trailingZeros width m

@@ -8,8 +8,8 @@ use lib.Count.{trailingZeros}
 use lib.ListN.{replicate}
 use Rattle.column.specs.Sets.{selected}
 use Rattle.column.specs.Trees.{ascending, treeBy, treeInSequence, treeOf, every, climbsIn, treeRefusal}
-use Rattle.column.specs.Columns.{stateRefusal, standing}
-use Rattle.column.specs.Steps.{accepted, packetRefusal, orderRefusal, orderEffect, sendRefusal, sendEffect, send, takeRefusal, acknowledgementEffect, receiveEffect, messageEffect, ackRefusal, ackEffect, ack, allRefusal, noteRefusal, noteEffect, haltRefusal, haltEffect}
+use Rattle.column.specs.Columns.{stateRefusal, standing, withRegisters}
+use Rattle.column.specs.Steps.{accepted, packetRefusal, orderRefusal, orderEffect, sendRefusal, sendEffect, send, takeRefusal, acknowledgementEffect, receiveEffect, messageEffect, ackRefusal, ackEffect, ack, allRefusal, allEffect, noteRefusal, noteEffect, haltRefusal, haltEffect}
 use Rattle.column.specs.declared.tree.Tree.{Tree}
 use Rattle.column.specs.declared.state.Column.{Column}
 use Rattle.column.specs.declared.packet.Packet.the-variants.{Message, Acknowledgement}
@@ -32,9 +32,9 @@ many = treeOf 17 0 (replicate 16 0)
 abbrev astray : Tree
 astray = treeOf 3 0 (0 ∷ 7 ∷ 1 ∷ replicate 13 0)
 
--- a column by its sets to send to, awaited, owed and noted; order number 4, doors 9
+-- a column by its sets to send to, awaited, owed and noted; order number 4, doors 9, mask 160; pending are bits 3 and 7, which no step sets
 abbrev column : Bool → ℕ → ℕ → ℕ → ℕ → Bool → Column
-column running s a o n whole = record { running = running; number = 4; doors = 9; send = s; awaited = a; owed = o; noted = n; whole = whole; sender = 0; mask = 0; pending = 0 }
+column running s a o n whole = record { running = running; number = 4; doors = 9; send = s; awaited = a; owed = o; noted = n; whole = whole; sender = 0; mask = 160; pending = 136 }
 
 abbrev numbered : ℕ → Column → Column
 numbered k c = record { running = c .running; number = k; doors = c .doors; send = c .send; awaited = c .awaited; owed = c .owed; noted = c .noted; whole = c .whole; sender = c .sender; mask = c .mask; pending = c .pending }
@@ -148,7 +148,7 @@ every-refusal = refl
 
 -- an order leaves those awaited, owed and noted as they are
 order-owing : orderEffect three 0 (column true 0 0 2 4 true) 77
-    ≡ accepted (record { running = true; number = 5; doors = 77; send = 2; awaited = 0; owed = 2; noted = 4; whole = true; sender = 0; mask = 0; pending = 0 }) [] false
+    ≡ accepted (record { running = true; number = 5; doors = 77; send = 2; awaited = 0; owed = 2; noted = 4; whole = true; sender = 0; mask = 160; pending = 137 }) [] false
 unfolding orderEffect selected
 order-owing = refl
 
@@ -199,22 +199,27 @@ take-left = refl
 
 -- a higher number is received: those noted stay
 take-received : messageEffect three 1 (column true 0 4 0 1 true) 0 5 77
-    ≡ accepted (record { running = true; number = 5; doors = 77; send = 4; awaited = 0; owed = 1; noted = 1; whole = false; sender = 0; mask = 0; pending = 0 }) [] false
+    ≡ accepted (record { running = true; number = 5; doors = 77; send = 4; awaited = 0; owed = 1; noted = 1; whole = false; sender = 0; mask = 160; pending = 137 }) [] false
 unfolding messageEffect receiveEffect selected
 take-received = refl
 
 -- "a higher number leaves its goal the whole bank": the root's
 take-received-root : messageEffect watching 0 root 2 5 77
-    ≡ accepted (record { running = true; number = 5; doors = 77; send = 2; awaited = 0; owed = 4; noted = 0; whole = true; sender = 2; mask = 0; pending = 0 }) [] false
+    ≡ accepted (record { running = true; number = 5; doors = 77; send = 2; awaited = 0; owed = 4; noted = 0; whole = true; sender = 2; mask = 160; pending = 137 }) [] false
 unfolding messageEffect receiveEffect selected
 take-received-root = refl
 
+-- "Goal becomes the whole bank; the root alone is to be sent to."
+all-root : allEffect three (column true 0 0 0 1 false) ≡ accepted (withRegisters (column true 1 0 0 1 true) 160 140) [] false
+unfolding allEffect
+all-root = refl
+
 -- "if awaited, it is no longer, and its children join the set to send to", and only then
-note-awaited : noteEffect three (column true 0 6 0 0 true) 1 ≡ accepted (column true 4 4 0 2 true) [] false
+note-awaited : noteEffect three (column true 0 6 0 0 true) 1 ≡ accepted (withRegisters (column true 4 4 0 2 true) 160 138) [] false
 unfolding noteEffect selected
 note-awaited = refl
 
-note-other : noteEffect three (column true 0 4 0 0 true) 1 ≡ accepted (column true 0 4 0 2 true) [] false
+note-other : noteEffect three (column true 0 4 0 0 true) 1 ≡ accepted (withRegisters (column true 0 4 0 2 true) 160 138) [] false
 unfolding noteEffect
 note-other = refl
 

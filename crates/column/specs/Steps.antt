@@ -8,7 +8,7 @@ use Rattle.column.specs.Refusals.{first, earlier}
 use Rattle.column.specs.Sets.{has, single, join, insert, without, lowest}
 use Rattle.column.specs.Trees.{choose, children}
 use Rattle.column.specs.Packets.{isMessage, sender, receiver}
-use Rattle.column.specs.Columns.{highest, standing, idle, watched, mayAcknowledge, stopped, withSets}
+use Rattle.column.specs.Columns.{highest, standing, idle, watched, mayAcknowledge, recordReceived, haltNoted, tookOver, pendingWith, stopped, withSets}
 use Rattle.column.specs.declared.tree.Tree.{Tree}
 use Rattle.column.specs.declared.state.Column.{Column}
 use Rattle.column.specs.declared.packet.Packet.{Packet}
@@ -70,7 +70,7 @@ orderEffect t i c doors =
       whole = c .whole;
       sender = c .sender;
       mask = c .mask;
-      pending = c .pending;
+      pending = pendingWith c recordReceived;
     })
     []
     false
@@ -159,7 +159,7 @@ receiveEffect t i c from number doors =
       whole = eqb i (t .root);
       sender = from;
       mask = c .mask;
-      pending = c .pending;
+      pending = pendingWith c recordReceived;
     })
     []
     false
@@ -233,7 +233,7 @@ allEffect t c =
       whole = true;
       sender = c .sender;
       mask = c .mask;
-      pending = c .pending;
+      pending = pendingWith c tookOver;
     })
     []
     false
@@ -269,7 +269,7 @@ noteEffect t c j =
       whole = c .whole;
       sender = c .sender;
       mask = c .mask;
-      pending = c .pending;
+      pending = pendingWith c haltNoted;
     })
     []
     false

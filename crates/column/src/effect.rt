@@ -5,6 +5,9 @@ use crate::members::lowest;
 use crate::packet::Number;
 use crate::packet::Packet;
 use crate::packet::sender;
+use crate::page::HALT_NOTED;
+use crate::page::RECORD_RECEIVED;
+use crate::page::TOOK_OVER;
 use crate::sets::insert;
 use crate::sets::single;
 use crate::sets::without;
@@ -23,7 +26,7 @@ ghost use Rattle.column.specs.Trees.{choose};
 ghost use Rattle.column.specs.Columns.{highest};
 ghost use Rattle.column.specs.Steps.{meant, accepted, refused, orderEffect, sendEffect, acknowledgementEffect, acknowledgeLowest, messageEffect, takeEffect, ackEffect, allEffect, noteEffect, haltEffect};
 
-fn done(c: Column) -> Outcome
+pub fn done(c: Column) -> Outcome
     ensures { λ r. ⌜ meant r ≡ accepted c [] false ⌝ }
 {
     Outcome {
@@ -66,6 +69,7 @@ pub fn order_effect(t: Tree, i: usize, mut c: Column, doors: u64) -> Outcome
     c.number += 1;
     c.doors = doors;
     c.send = children_of(t, i);
+    c.pending |= RECORD_RECEIVED;
     done(c)
 }
 
@@ -150,6 +154,7 @@ fn message_effect(
     c.owed = single(from);
     c.whole = i == t.root;
     c.sender = from as u8;
+    c.pending |= RECORD_RECEIVED;
     done(c)
 }
 
@@ -177,6 +182,7 @@ pub fn all_effect(t: Tree, mut c: Column) -> Outcome
 {
     c.send = single(t.root);
     c.whole = true;
+    c.pending |= TOOK_OVER;
     done(c)
 }
 
@@ -185,6 +191,7 @@ pub fn note_effect(t: Tree, mut c: Column, j: usize) -> Outcome
     ensures { λ r. ⌜ meant r ≡ noteEffect t c j ⌝ }
 {
     c.noted = insert(c.noted, j);
+    c.pending |= HALT_NOTED;
     if has(c.awaited, j) {
         c.awaited = without(c.awaited, j);
         c.send |= children_of(t, j);

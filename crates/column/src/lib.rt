@@ -8,6 +8,7 @@ pub mod frame;
 pub mod members;
 mod number_bytes;
 pub mod packet;
+pub mod page;
 pub mod precedence;
 pub mod refusal;
 pub mod returning;

@@ -28,6 +28,11 @@ pub fn print_step(x: Step) {
         }
         Step::Halt(set) => print_set(b"halt ", set),
         Step::Back(j) => print_number(b"back ", j as u64),
+        Step::Write(i, offset, value) => {
+            print_number(b"write ", i as u64);
+            print_number(b" ", offset as u64);
+            print_number(b" ", value as u64);
+        }
     }
 }
 

@@ -29,6 +29,9 @@ enum-told-3 c = search needs
 enum-told-4 : tie.Need-enum-told-4
 enum-told-4 c = search needs
 
+enum-told-5 : tie.Need-enum-told-5
+enum-told-5 c = search needs
+
 returns : tie.Need-returns
 returns c = rw (c .enum-told .given .1) (c .before .before .receiver-in .ensures)
 
@@ -42,7 +45,7 @@ returns-4 : tie.Need-returns-4
 returns-4 c = rw (c .enum-told4 .given .1) (c .before .before .receiver-in .ensures)
 
 returns-5 : tie.Need-returns-5
-returns-5 c = search needs
+returns-5 c = rw (c .enum-told5 .given .1) (c .before .before .receiver-in .ensures)
 
 returns-6 : tie.Need-returns-6
 returns-6 c = search needs
@@ -52,6 +55,9 @@ returns-7 c = search needs
 
 returns-8 : tie.Need-returns-8
 returns-8 c = search needs
+
+returns-9 : tie.Need-returns-9
+returns-9 c = search needs
 
 pub acting-spec : {M : Type 1} → statement M
 acting-spec =
@@ -66,6 +72,7 @@ acting-spec =
     enum-told-2
     enum-told-3
     enum-told-4
+    enum-told-5
     returns
     returns-2
     returns-3
@@ -73,4 +80,5 @@ acting-spec =
     returns-5
     returns-6
     returns-7
-    returns-8)
+    returns-8
+    returns-9)

@@ -1,7 +1,7 @@
 use borrow.Author.Needs.{needs}
 use borrow.Author.Tests.{eq-eqb, ne-eqb, not-true, not-false}
 use mathlib.Core.Path.{refl, sym, ap, _∙_}
-use Rattle.bank.specs.Quick.{minus}
+use Rattle.column.specs.Sets.{minus}
 use Rattle.bank.specs.Offers.{step-is}
 use Rattle.bank.specs.declared.step.Step.the-variants.{Note}
 use Rattle.bank.proofs.dispatch.offer_of.Statement.{statement}

@@ -7,12 +7,10 @@ use native.Mathlib.Nat.{mod-eq-of-lt}
 use native.Mathlib.Omega.{arith}
 use lib.Bits.{or-lt, xor-lt}
 use lib.Pow.{pow-lt, pow-pos, pow-mono}
-use Rattle.column.specs.Sets.{whole}
-use Rattle.column.specs.SetLaws.{same-members, selected-lt, selected-has}
+use Rattle.column.specs.Sets.{whole, minus}
+use Rattle.column.specs.SetLaws.{same-members, selected-lt, selected-has, has-minus}
 use Rattle.column.specs.SequenceLaws.{whole-has}
 use Rattle.bank.specs.Banks.{runs, runningOf, haltedOf}
-use Rattle.bank.specs.Quick.{minus}
-use Rattle.bank.specs.QuickLaws.{has-minus}
 use Rattle.bank.specs.declared.bank.Bank.{Bank}
 use Rattle.bank.proofs.running.halted.Statement.{statement}
 use Rattle.bank.proofs.running.halted.Tie as tie

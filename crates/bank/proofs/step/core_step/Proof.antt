@@ -52,6 +52,12 @@ enum-told-6 c = search needs
 no-step-requires-3 : tie.Need-no-step-requires-3
 no-step-requires-3 c κs = search needs
 
+enum-told-7 : tie.Need-enum-told-7
+enum-told-7 c = search needs
+
+no-step-requires-4 : tie.Need-no-step-requires-4
+no-step-requires-4 c κs = search needs
+
 returns : tie.Need-returns
 returns c =
     λ good.
@@ -92,6 +98,9 @@ returns-7 c = λ good. rw (c .before .enum-told5 .given .1) (c .no-step2 .ensure
 returns-8 : tie.Need-returns-8
 returns-8 c = λ good. rw (c .before .enum-told6 .given .1) (c .no-step3 .ensures)
 
+returns-9 : tie.Need-returns-9
+returns-9 c = λ good. rw (c .before .enum-told7 .given .1) (c .no-step4 .ensures)
+
 pub core-step-spec : {M : Type 1} → statement M
 core-step-spec =
     tie.close
@@ -112,6 +121,8 @@ core-step-spec =
     no-step-requires-2
     enum-told-6
     no-step-requires-3
+    enum-told-7
+    no-step-requires-4
     returns
     returns-2
     returns-3
@@ -119,4 +130,5 @@ core-step-spec =
     returns-5
     returns-6
     returns-7
-    returns-8)
+    returns-8
+    returns-9)

@@ -6,6 +6,7 @@ use Rattle.bank.specs.Performs.{perform}
 use Rattle.bank.specs.Changes.{isOwn}
 use Rattle.bank.specs.StandingLaws.{stands}
 use Rattle.bank.specs.ReturnLaws.{brought-back}
+use Rattle.bank.specs.PageSteps.{page-written}
 use Rattle.column.specs.TreeLaws.{tree-sixteen}
 use mathlib.Core.Path.{subst}
 use mathlib.Core.Bool.{true}
@@ -88,6 +89,14 @@ bring-back-requires c κs z =
     let r = c .before .before .before .before in
     tree-sixteen _ (stands _ (sym (refusal r) ∙ z) .tree)
 
+enum-known-x-8 : tie.Need-enum-known-x-8
+enum-known-x-8 c = search needs
+
+write-byte-requires : tie.Need-write-byte-requires
+write-byte-requires c κs z =
+    let r = c .before .before .before .before in
+    tree-sixteen _ (stands _ (sym (refusal r) ∙ z) .tree)
+
 returns : tie.Need-returns
 returns c = c .act .ensures
 
@@ -120,6 +129,15 @@ returns-8 c =
     let s = state (a .b) (a .heads .now) (a .doors .now) in
     c .bring-back .ensures (s .heads) (s .doors) ∙ brought-back s _ (refusal r) ∙ rw (k .x7 .given .1)
 
+returns-9 : tie.Need-returns-9
+unfolding perform
+returns-9 c =
+    let k = c .before .before in
+    let r = k .before .before .before in
+    let a = r .before .before .args in
+    let s = state (a .b) (a .heads .now) (a .doors .now) in
+    c .write-byte .ensures (s .heads) (s .doors) ∙ page-written s _ _ _ (refusal r) ∙ rw (k .x8 .given .1)
+
 pub perform-spec : {M : Type 1} → statement M
 perform-spec =
     tie.close
@@ -141,6 +159,8 @@ perform-spec =
     halt-columns-requires
     enum-known-x-7
     bring-back-requires
+    enum-known-x-8
+    write-byte-requires
     returns
     returns-2
     returns-3
@@ -148,4 +168,5 @@ perform-spec =
     returns-5
     returns-6
     returns-7
-    returns-8)
+    returns-8
+    returns-9)

@@ -12,7 +12,7 @@ done-requires c κs = search needs
 
 returns : tie.Need-returns
 unfolding allEffect
-returns c = c .done .ensures ∙ rw (c .before .single .ensures)
+returns c = c .done .ensures ∙ rw (c .before .before .single .ensures)
 
 pub all-effect-spec : {M : Type 1} → statement M
 all-effect-spec = tie.close (tie.spec single-requires done-requires returns)

@@ -53,7 +53,7 @@ done-requires-2 c κs = search needs
 returns-4 : tie.Need-returns-4
 unfolding messageEffect receiveEffect
 returns-4 c =
-    let s = c .before .before in
+    let s = c .before .before .before in
     let k = s .before in
     let e = k .before .before .before in
     c .done2 .ensures

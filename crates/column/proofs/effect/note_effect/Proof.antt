@@ -25,7 +25,7 @@ unfolding noteEffect
 returns c =
     let k = c .before in
     let h = k .before in
-    let noted = h .before .insert .ensures in
+    let noted = h .before .before .insert .ensures in
     c .done .ensures
     ∙ ⊎-elim
     (λ w. rw (w .4, w .2 .ensures, w .1 .ensures, noted, sym (h .has .ensures) ∙ w .0 .taken))

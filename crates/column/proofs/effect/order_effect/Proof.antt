@@ -15,7 +15,7 @@ done-requires c κs = search needs
 
 returns : tie.Need-returns
 unfolding orderEffect
-returns c = c .done .ensures ∙ rw (c .before .children-of .ensures)
+returns c = c .done .ensures ∙ rw (c .before .before .children-of .ensures)
 
 pub order-effect-spec : {M : Type 1} → statement M
 order-effect-spec = tie.close (tie.spec add-c children-of-requires done-requires returns)

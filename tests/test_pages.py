@@ -1,0 +1,252 @@
+"""The register pages beside the model of tests/model_pages.py: random steps, reads and writes, led by the model's state."""
+import collections
+import os
+import random
+import subprocess
+import unittest
+
+import model
+import model_pages
+
+ROOT = os.path.dirname(os.path.dirname(os.path.abspath(__file__)))
+PROGRAM = os.path.join(ROOT, "target", "bin", "pages")
+SEEDS = (1, 2, 3)
+RUNS = 120
+COMMANDS = 250
+LEAST = 5
+TOLD = ["bit 0 by an order", "bit 0 by a take", "bit 1 by a note", "bit 2 by a takeover", "bit 0 by an order, pending before", "bit 0 by a take, pending before",
+        "bit 1 by a note, pending before", "a return with its page kept", "a read of a running column", "a read of a halted column",
+        "a write to 5 of a running column", "a write to 5 of a halted column", "a write to 7 of a running column", "a write to 7 of a halted column",
+        "a clear of what is pending", "a clear of nothing", "the line up", "the line down", "equal number", "lower number answered", "left take, one owed",
+        "run takes note", "run takes take", "refused 4: no such column", "refused 22: an offset above 7", "refused 22: a write above 7", "refused 22: a write elsewhere"]
+
+
+def random_tree(rng):
+    columns = rng.choice((1, 2, 3, 3, 4, 4, 5, 6, 8, 16))
+    order = rng.sample(range(columns), columns)
+    up = [0] * columns
+    for place, column in enumerate(order):
+        up[column] = order[rng.randrange(place)] if place else column
+    return columns, order[0], up, rng.choice(("root", "sender"))
+
+
+def steps(rng, bank):
+    """The steps that the model would accept, most of them; a halt and a return now and then."""
+    columns = range(len(bank.columns))
+    running = [i for i in columns if bank.columns[i].running]
+    found = [("t", rng.randrange(len(bank.network)), 0, 0)] * 8 if bank.network else []
+    for i in running:
+        found += [(letter, i, 0, 0) for letter, refused in (("s", bank.refused_send), ("s", bank.refused_send), ("s", bank.refused_send),
+                                                            ("a", bank.refused_ack), ("g", bank.refused_all)) if not refused(i)]
+        found += [("n", i, j, 0) for j in columns if not bank.refused_note(i, j)] * (4 if i == bank.root else 1)
+    root = bank.columns[bank.root]
+    if root.running and not root.send and not root.awaited:
+        found += [("o", rng.randrange(256), 0, 0)] * 20
+    if len(running) > 1 and rng.random() < 0.02:
+        found = [("h", *(1 << rng.choice([i for i in running if i != bank.root or rng.random() < 0.3] or running)).to_bytes(2, "little"), 0)]
+    if len(running) < len(columns) and bank.at_rest():
+        found += [("b", i, 0, 0) for i in columns if i not in running]
+    return found or [("d", 1, 0, 0)]
+
+
+def page_command(rng, bank):
+    i = rng.randrange(len(bank.columns)) if rng.random() < 0.95 else rng.randrange(256)
+    letter = rng.choice("ppprwww")
+    offset = rng.choice((5, 7, 7, rng.randrange(8), rng.randrange(256))) if letter == "w" else rng.choice((rng.randrange(8), rng.randrange(8), rng.randrange(256)))
+    return letter, i, offset, rng.choice((0, 1, 2, 4, 7, 255, rng.randrange(256)))
+
+
+def random_command(rng, bank):
+    choice = rng.random()
+    if choice < 0.35:
+        return page_command(rng, bank)
+    if choice < 0.37:
+        return "d", rng.randrange(20), 0, 0
+    if choice < 0.4:
+        return rng.choice("ostagnhb"), rng.randrange(20), rng.randrange(20), 0
+    return rng.choice(steps(rng, bank))
+
+
+# A chain of three whose middle column halts: the last one still owes it when the next order comes, and leaves that packet in its place.
+CHAIN = (3, 0, [0, 0, 1])
+LEFT = [("o", 1), ("s", 0), ("t", 0), ("s", 1), ("t", 0), ("h", 2), ("n", 0, 1), ("s", 0), ("w", 2, 7, 1), ("t", 0), ("p", 2), ("a", 2), ("t", 0),
+        ("o", 2), ("s", 0), ("s", 0), ("w", 2, 7, 1), ("t", 0), ("p", 2)]
+
+
+def led(rng, bank, given):
+    """The commands given, with reads and writes between them."""
+    for letter, *numbers in given:
+        while rng.random() < 0.4:
+            yield page_command(rng, bank)
+        yield letter, *numbers, *[0] * (3 - len(numbers))
+
+
+def head(columns, root, up, watch):
+    return bytes([columns, root, watch == "sender", *up, *[0] * (16 - columns)])
+
+
+def random_run(rng, tell):
+    """A tree and its commands, with what the model answers to each."""
+    leaving = rng.random() < 0.2
+    tree = (*CHAIN, rng.choice(("root", "sender"))) if leaving else random_tree(rng)
+    bank = model_pages.Bank(*tree, tell)
+    given = led(rng, bank, LEFT if leaving else [])
+    commands, answers = [], ["ok\n"]
+    while len(commands) < COMMANDS:
+        command = next(given, None) or random_command(rng, bank)
+        commands.append(command)
+        answers.append(model_pages.answer(bank, *command))
+    return tree, commands, answers
+
+
+def printed(tree, commands):
+    data = head(*tree) + b"".join(bytes([ord(letter), *numbers]) for letter, *numbers in commands)
+    return subprocess.run([PROGRAM], input=data, stdout=subprocess.PIPE, check=True).stdout.decode()
+
+
+# ---- wrong pages, each of which some run must tell apart
+
+class ClearedByReading(model_pages.Bank):
+    def read(self, i, offset):
+        value = super().read(i, offset)
+        if offset == 6:
+            self.pending[i] = 0
+        return value
+
+
+class LeftIsReceived(model_pages.Bank):
+    def acknowledge(self, i, owed):
+        super().acknowledge(i, owed)
+        if self.taking:
+            self.pending[i] |= model_pages.RECORD_RECEIVED
+
+    taking = False
+
+    def take(self, place):
+        self.taking = True
+        try:
+            super().take(place)
+        finally:
+            self.taking = False
+
+
+class ThreeBits(model_pages.Bank):
+    def write(self, i, offset, value):
+        super().write(i, offset, value % 8 if offset == model_pages.MASK else value)
+
+
+class PageCopied(model_pages.Bank):
+    def back(self, j):
+        running = [i for i, column in enumerate(self.columns) if column.running]
+        super().back(j)
+        self.masks[j], self.pending[j] = self.masks[running[0]], self.pending[running[0]]
+
+
+class PageFresh(model_pages.Bank):
+    def back(self, j):
+        super().back(j)
+        self.masks[j] = self.pending[j] = 0
+
+
+class BackIsReceived(model_pages.Bank):
+    def back(self, j):
+        super().back(j)
+        self.pending[j] |= model_pages.RECORD_RECEIVED
+
+
+class HaltedRefused(model_pages.Bank):
+    def write(self, i, offset, value):
+        if i < len(self.columns):
+            self.acting(i)
+        super().write(i, offset, value)
+
+
+class HaltedUnread(model_pages.Bank):
+    def read(self, i, offset):
+        self.acting(i)
+        return super().read(i, offset)
+
+
+class ClearSets(model_pages.Bank):
+    def write(self, i, offset, value):
+        super().write(i, offset, value)
+        if offset == model_pages.CLEAR:
+            self.pending[i] |= value
+
+
+class ClearsAll(model_pages.Bank):
+    def write(self, i, offset, value):
+        super().write(i, offset, 255 if offset == model_pages.CLEAR else value)
+
+
+class OrderUntold(model_pages.Bank):
+    def order(self, doors):
+        pending = self.pending[self.root]
+        super().order(doors)
+        self.pending[self.root] = pending
+
+
+class EqualIsReceived(model_pages.Bank):
+    def take(self, place):
+        packet = self.network[place] if place < len(self.network) else None
+        super().take(place)
+        if packet and packet[0] == "message" and packet[3] == self.columns[packet[2]].number:
+            self.pending[packet[2]] |= model_pages.RECORD_RECEIVED
+
+
+class SevenShown(model_pages.Bank):
+    def page(self, i):
+        return super().page(i)[:7] + [self.pending[i]]
+
+
+class HaltedHidden(model_pages.Bank):
+    def page(self, i):
+        column = self.columns[i]
+        return super().page(i) if column.running else [i, 0, 0, 0, 0, self.masks[i], self.pending[i], 0]
+
+
+class AnyPending(model_pages.Bank):
+    def line_up(self, i):
+        return self.pending[i] != 0
+
+
+class DispatchedUntold(model_pages.Bank):
+    def run(self, limit):
+        pending = list(self.pending)
+        text = super().run(limit)
+        self.pending = pending
+        return text
+
+
+WRONG = [ClearedByReading, LeftIsReceived, ThreeBits, PageCopied, PageFresh, BackIsReceived, HaltedRefused, HaltedUnread, ClearSets, ClearsAll, OrderUntold,
+         EqualIsReceived, SevenShown, HaltedHidden, AnyPending, DispatchedUntold]
+
+
+def differs(wrong, tree, commands, answers):
+    bank = wrong(*tree, lambda words: None)
+    return any(model_pages.answer(bank, *command) != answer for command, answer in zip(commands, answers[1:]))
+
+
+class Pages(unittest.TestCase):
+    def test_random_commands_print_what_the_model_prints(self):
+        for seed in SEEDS:
+            rng = random.Random(seed)
+            told = collections.Counter()
+            apart = set()
+            for _ in range(RUNS):
+                tree, commands, answers = random_run(rng, lambda words: told.update([words]))
+                self.assertEqual(printed(tree, commands), "".join(answers), (seed, tree))
+                apart |= {wrong for wrong in WRONG if wrong not in apart and differs(wrong, tree, commands, answers)}
+            few = {words: told[words] for words in TOLD if told[words] < LEAST}
+            self.assertEqual(few, {})
+            self.assertEqual([wrong.__name__ for wrong in WRONG if wrong not in apart], [])
+            print(f"seed {seed}: {RUNS} runs of {COMMANDS} commands, 0 differences, {len(TOLD)} counters, {len(WRONG)} wrong pages told apart")
+
+    def test_trees_that_are_refused(self):
+        for bytes_in, number in ((b"", 2), (bytes([17]), 2), (bytes([3, 3]), 3)):
+            found = subprocess.run([PROGRAM], input=bytes_in + bytes(19 - len(bytes_in)) + b"r" + bytes(3), stdout=subprocess.PIPE, check=True).stdout
+            self.assertEqual(found.decode(), f"refused={number}\n" * 2)
+
+
+if __name__ == "__main__":
+    unittest.main()
