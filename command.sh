@@ -1,4 +1,4 @@
-# What ./lockers, ./fastest and ./journals share, read by each: it builds the program of a crate where it must, hands it a file or standard input, or
+# What ./lockers, ./fastest, ./journals and ./losses share, read by each: it builds the program of a crate where it must, hands it a file or standard input, or
 # two files, and tells by its status whether all was read and written, since the program has no exit status of its own. Each sets before it reads
 # this: `folder`, that of the repository; `name`, its own; `crates`, those that the program rests on, the program's the last; `given`, what it is
 # given, in a word; `most`, as many bytes as the program reads of it; `help`, which prints how it is called; and `pair`, where it is given two.

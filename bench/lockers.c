@@ -1,53 +1,9 @@
 /* The script program of document 01 in plain C, in place: what crates/lockers is measured beside. */
-#include "bank.h"
-#include <string.h>
-#include <unistd.h>
+#include "text.h"
 
-enum { LIMIT = 65536, LONGEST_LIST = 229 };
+enum { LONGEST_LIST = 229 };
 
-struct cursor {
-    const uint8_t *at, *end;
-};
-
-static uint8_t input[LIMIT + 1];
 static struct bank bank;
-static char output[8192];
-static size_t printed;
-
-static bool flush(void) {
-    size_t from = 0;
-    while (from < printed) {
-        ssize_t n = write(STDOUT_FILENO, output + from, printed - from);
-        if (n <= 0)
-            return false;
-        from += (size_t)n;
-    }
-    printed = 0;
-    return true;
-}
-
-static void put(const char *text) {
-    size_t n = strlen(text);
-    memcpy(output + printed, text, n);
-    printed += n;
-}
-
-static void put_number(size_t n) {
-    char digits[20];
-    size_t first = sizeof digits;
-    do
-        digits[--first] = (char)('0' + n % 10);
-    while (n /= 10);
-    memcpy(output + printed, digits + first, sizeof digits - first);
-    printed += sizeof digits - first;
-}
-
-static void put_field(const char *key, size_t n) {
-    put(key);
-    put_number(n);
-    put("\n");
-}
-
 static void put_answer(uint8_t refusal) {
     if (refusal)
         put_field("refused=", refusal);
@@ -74,24 +30,6 @@ static void put_list(size_t i) {
     put("\n");
 }
 
-static bool literal(struct cursor *c, const char *text) {
-    size_t n = strlen(text);
-    if ((size_t)(c->end - c->at) < n || memcmp(c->at, text, n) != 0)
-        return false;
-    c->at += n;
-    return true;
-}
-
-/* After a leading zero, and after the last digit of its width, a numeral ends: what follows is no digit of it. */
-static bool numeral(struct cursor *c, int width, size_t *value) {
-    if (c->at == c->end || *c->at < '0' || *c->at > '9')
-        return false;
-    *value = *c->at++ - '0';
-    while (*value && --width && c->at < c->end && *c->at >= '0' && *c->at <= '9')
-        *value = *value * 10 + (*c->at++ - '0');
-    return true;
-}
-
 static int hexadecimal(uint8_t b) {
     if (b >= '0' && b <= '9')
         return b - '0';
@@ -111,36 +49,10 @@ static bool doors_read(struct cursor *c, uint64_t *doors) {
     return true;
 }
 
-/* A line's numbers up to its end, and how many they are; past the sixteenth they are counted alone. */
-static bool numbers(struct cursor *c, size_t *list, size_t *count) {
-    size_t number;
-    *count = 0;
-    do {
-        if (!numeral(c, 2, &number))
-            return false;
-        if (*count < 16)
-            list[*count] = number;
-        (*count)++;
-    } while (literal(c, ","));
-    return literal(c, "\n");
-}
-
 /* The table's refusal, 0 where the bank is fresh and the cursor stands after it. */
 static uint8_t table(struct cursor *c) {
-    struct tree t = {.first = ASCENDING};
-    size_t parents, listed;
-    if (!literal(c, "columns=") || !numeral(c, 2, &t.columns) || !literal(c, "\nroot=") || !numeral(c, 2, &t.root) || !literal(c, "\nup="))
-        return 1;
-    if (!numbers(c, t.up, &parents))
-        return 1;
-    bool named = literal(c, "first=");
-    if (named && !numbers(c, t.first, &listed))
-        return 1;
-    if (literal(c, "watch=") && !literal(c, "root\n") && !(t.watch = literal(c, "sender\n")))
-        return 1;
-    if (t.columns == 0 || t.columns > 16)
-        return 2;
-    uint8_t refusal = parents == t.columns && (!named || listed == t.columns) ? tree_refusal(&t) : 3;
+    struct tree t;
+    uint8_t refusal = read_tree(c, &t);
     if (!refusal)
         bank_fresh(&bank, &t);
     return refusal;
@@ -240,11 +152,6 @@ static bool script(size_t size) {
 }
 
 int main(void) {
-    size_t size = 0;
-    ssize_t n = 1;
-    while (size < sizeof input && n > 0) {
-        n = read(STDIN_FILENO, input + size, sizeof input - size);
-        size += n > 0 ? (size_t)n : 0;
-    }
-    return n >= 0 && script(size) ? 0 : 1;
+    size_t size;
+    return read_input(&size) && script(size) ? 0 : 1;
 }

@@ -1,4 +1,4 @@
-"""The commands ./lockers, ./fastest and ./journals: what they read and print, when they build, and how they end where something is lost. They run as copies, with
+"""The commands ./lockers, ./fastest, ./journals and ./losses: what they read and print, when they build, and how they end where something is lost. They run as copies, with
 a stand-in for rt."""
 import glob
 import os
@@ -19,7 +19,7 @@ TOOLS = ("bash", "cat", "cp", "date", "dirname", "find", "head", "mkdir", "mktem
 
 class Command(unittest.TestCase):
     name = "lockers"
-    crates = ("column", "fastest", "bank", "closing", "lockers")
+    crates = ("column", "fastest", "bank", "losses", "closing", "lockers")
     given = "script"
     text = TABLE.decode()
     answer = "table=ok\nrest=yes\n"
@@ -231,7 +231,7 @@ class LockersBuilds(Builds, Command):
 
 class Fastest(Command):
     name = "fastest"
-    crates = ("column", "fastest", "bank", "closing", "installer")
+    crates = ("column", "fastest", "bank", "losses", "closing", "installer")
     given = "request"
     text = "columns=5\ndelay=2\ngap=1\n"
     answer = "columns=5\nroot=0\nup=0,0,0,0,1\n"
@@ -262,9 +262,44 @@ class FastestBuilds(Builds, Fastest):
     pass
 
 
+class Losses(Command):
+    name = "losses"
+    crates = ("column", "fastest", "bank", "losses", "closing", "sales")
+    given = "table"
+    text = "columns=3\nroot=0\nup=0,0,1\nafter=2\n"
+    answer = "kept=6\nlost=1\nnone=1\n"
+
+
+class LossesRuns(Runs, Losses):
+    def test_help_names_the_lines_and_where_to_read_more(self):
+        done = self.run_command("--help")
+        self.assertEqual((done.stderr, done.returncode), ("", 0))
+        lines = re.findall(r"^  (\w+=\S+)(?= |$)", done.stdout, re.M)
+        self.assertEqual("".join(f"{line}\n" for line in lines[:4]), self.text)
+        self.assertEqual("".join(f"{line}\n" for line in lines[4:]), self.answer)
+        for word in ("README.md", "x86-64 Linux", "23 for", "13 for"):
+            self.assertIn(word, done.stdout)
+
+    def test_an_input_of_any_length_is_answered(self):
+        for longer in (self.text.ljust(LIMIT, "\n"), self.text.ljust(LIMIT + 1, "\n"), self.text * 10_000):
+            for restored in (True, False):
+                self.assert_answered(self.run_command(self.write("given", longer), restore_signals=restored), "refused=13\n")
+        with open("/dev/zero", encoding="ascii") as endless:
+            self.assert_answered(self.run_command(stdin=endless), "refused=13\n")
+
+    def test_what_readme_shows_of_losses(self):
+        command, printed, _ = BLOCK.findall(section(read("README.md"), "How many halts lose the order"))
+        done = subprocess.run(["bash", "-c", command], cwd=self.folder, env={"PATH": self.path("tools")}, capture_output=True, text=True)
+        self.assert_answered(done, printed)
+
+
+class LossesBuilds(Builds, Losses):
+    pass
+
+
 class Journals(Command):
     name = "journals"
-    crates = ("column", "fastest", "bank", "closing", "journals", "fitter")
+    crates = ("column", "fastest", "bank", "losses", "closing", "journals", "fitter")
     given = "journal"
     text = "column=1\ngot=1,0,1\nsent=1,3,1\n"
     answer = "sent=1,3,1\n"

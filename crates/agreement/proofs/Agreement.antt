@@ -72,7 +72,7 @@ module _ (w : World) (r : Reached w) where
       send-not-six s b t c (sym (ap (λ (n : ℕ). settled s s b (core.unless n c (core.sendEffect t b c))) goes)
       ∙ sym (ap (λ (n : ℕ). unless n s (settled s s b (core.send t b c))) (acting-passes s st b (h .0))) ∙ six)
 
-  agrees : Agreement w
+  pub agrees : Agreement w
   agrees = record {
     at-rest = λ rest i h.
         let issued = r .invariant .records i (column-runs i h) in

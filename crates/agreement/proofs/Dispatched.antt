@@ -127,7 +127,7 @@ settling-turn : (s : State) → isSettling (turn s) ≡ true
 unfolding turn
 settling-turn s = settling-first s (offered s (s .bank .tree .columns)) (Take 0) (settling-offered s (s .bank .tree .columns)) refl
 
-settling-dispatched : (k : ℕ) (s : State) → allSettling (dispatched k s) ≡ true
+pub settling-dispatched : (k : ℕ) (s : State) → allSettling (dispatched k s) ≡ true
 unfolding dispatched allSettling
 settling-dispatched zero s = refl
 settling-dispatched (suc k) s = go (perform s (turn s)) (λ x. settling-dispatched k x)
@@ -216,7 +216,7 @@ module _ (w : World) (r : Reached w) where
       (ap (λ (t : Tree). t .watch) (run-tree w (dispatched limit (w .state))) ∙ o)
       (subst Stopped (sym (lead limit w)) (stopped limit (w .state) h)))
 
-  settles : Settles w
+  pub settles : Settles w
   settles = record {
     any-steps = λ o xs a e. omega (arith, left-within w r o, few-left w xs r o a e);
     few = few;

@@ -67,3 +67,6 @@ mod Dues
 mod Recorded
 mod Entries
 pub mod Journaled
+mod DispatchKept
+mod Counted
+pub mod Losing

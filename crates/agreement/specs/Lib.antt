@@ -11,3 +11,5 @@ pub mod DispatchRuns
 pub mod ReturnRuns
 pub mod Journals
 pub mod JournalRuns
+pub mod Losing
+pub mod LosingRuns

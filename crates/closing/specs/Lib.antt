@@ -26,3 +26,6 @@ pub mod TableTexts
 pub mod AnswerLaws
 pub mod LongRequests
 pub mod RequestExamples
+pub mod LossTexts
+pub mod LossTextLaws
+pub mod LossTextExamples

@@ -2,6 +2,7 @@
 mod hexadecimal;
 pub mod line;
 pub mod list;
+pub mod losses_text;
 pub mod reading;
 pub mod request;
 pub mod script;

@@ -1,0 +1,83 @@
+use borrow.Author.Needs.{needs}
+use Prim.Native.Nat.{_+_, _-_}
+use mathlib.Core.Path.{_≡_}
+use native.Mathlib.Omega.{arith}
+use lib.ListN.{length, take, drop, length-drop}
+use borrow.Author.Tests.{eq-eqb, ne-eqb}
+use Rattle.closing.specs.Tables.{ended, cut}
+use Rattle.closing.specs.Cutting.{line-ended, line-unended}
+use Rattle.closing.specs.LossTexts.{stepsIn}
+use Rattle.closing.proofs.losses_text.step_count.Statement.{statement}
+use Rattle.closing.proofs.losses_text.step_count.Tie as tie
+
+-- the line, and what follows it
+line-is : (c : tie.Else1) → let s = c .before .before .before .args .text .now in
+    let r = c .before .find .result in
+    cut s ≡ ended (take (r - 0) (drop 0 s)) (drop (r + 1) s)
+line-is c =
+    let f = c .before in
+    line-ended (f .before .before .args .text .now) 0 (f .find .result) (omega arith) (f .find .ensures) (omega arith)
+
+find-requires : tie.Need-find-requires
+find-requires c κs = search needs
+
+returns : tie.Need-returns
+unfolding stepsIn
+returns c =
+    let f = c .before in
+    rw (line-unended (f .before .before .args .text .now) 0 (f .find .result) (omega arith) (f .find .ensures) (c .if1 .taken))
+
+add-if2 : tie.Need-add-if2
+add-if2 c = search needs
+
+returns-2 : tie.Need-returns-2
+unfolding stepsIn
+returns-2 c =
+    let b = c .before in
+    let f = b .before in
+    let s = f .before .before .args .text .now in
+    let r = f .find .result in
+    rw (
+      line-is b,
+      ne-eqb (length (drop (r + 1) s)) 0 (λ z. omega (arith, z, length-drop (r + 1) s, c .if2 .taken, f .find .ensures .1, b .if1 .left)),
+    )
+
+sub-keyed : tie.Need-sub-keyed
+sub-keyed c = search needs
+
+part-keyed-start : tie.Need-part-keyed-start
+part-keyed-start c = search needs
+
+part-keyed-end : tie.Need-part-keyed-end
+part-keyed-end c = search needs
+
+slice-aggregate-keyed : tie.Need-slice-aggregate-keyed
+slice-aggregate-keyed c = search needs
+
+keyed-requires : tie.Need-keyed-requires
+keyed-requires c κs = search needs
+
+returns-3 : tie.Need-returns-3
+unfolding stepsIn
+returns-3 c =
+    let x = c .before .before .before in
+    let b = x .before in
+    let f = b .before in
+    let s = f .before .before .args .text .now in
+    let r = f .find .result in
+    rw (line-is b, eq-eqb (length (drop (r + 1) s)) 0 (omega (arith, length-drop (r + 1) s, x .if2 .left))) (c .keyed .ensures)
+
+pub step-count-spec : {M : Type 1} → statement M
+step-count-spec =
+    tie.close
+    (tie.spec
+    find-requires
+    returns
+    add-if2
+    returns-2
+    sub-keyed
+    part-keyed-start
+    part-keyed-end
+    slice-aggregate-keyed
+    keyed-requires
+    returns-3)

@@ -1,0 +1,27 @@
+use borrow.Author.Needs.{needs}
+use mathlib.Core.Path.{_≡_, sym, ap, _∙_}
+use Rattle.bank.specs.Banks.{State, state}
+use Rattle.bank.specs.Steps.{Outcome, after, halt}
+use Rattle.bank.specs.Dispatch.{dispatchOutcome}
+use Rattle.losses.specs.Losses.{toRest, ended}
+use Rattle.losses.specs.LossesLaws.{step-left, dispatch-left}
+use Rattle.losses.proofs.count.ended.Statement.{statement}
+use Rattle.losses.proofs.count.ended.Tie as tie
+
+halt-requires : tie.Need-halt-requires
+halt-requires c κs = search needs
+
+dispatch-requires : tie.Need-dispatch-requires
+dispatch-requires c κs = search needs
+
+returns : tie.Need-returns
+unfolding ended
+returns c =
+    let k = c .before in
+    let h = k .before .before .before in
+    ap (λ (s : State). s .bank)
+    (dispatch-left (k .dispatch .ensures)
+    ∙ ap (λ (s : State). after (dispatchOutcome toRest s)) (step-left (h .halt .result) (h .halt .ensures)))
+
+pub ended-spec : {M : Type 1} → statement M
+ended-spec = tie.close (tie.spec halt-requires dispatch-requires returns)

@@ -1,0 +1,3 @@
+pub mod Losses
+pub mod LossesLaws
+pub mod LossesExamples

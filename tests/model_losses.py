@@ -1,0 +1,248 @@
+"""How many halts lose the order, after document 02, Point 13, written from the papers over the bank of tests/model.py. `tell` is told in words which way each
+input went. The methods of `Losses` are what the papers say; others make wrong programs.
+
+    python3 tests/model_losses.py < table-with-step-count
+"""
+import copy
+import itertools
+import re
+import sys
+
+from model import LIMIT, Refused, refuse, table
+
+
+def silent(words):
+    pass
+
+
+class Losses:
+    most = 8
+    steps = r"after=(0|[1-9][0-9]{0,2})\n"
+
+    def __init__(self, tell=silent):
+        self.tell = tell
+
+    # ---- "give order 1 with clear doors to a fresh bank and dispatch that many steps or to rest"
+
+    def begin(self, bank, steps):
+        bank.order(bytes(8))
+        taken = 0
+        while taken < steps and self.turn(bank):
+            taken += 1
+        self.tell("begun to rest" if bank.at_rest() else "begun")
+        return bank
+
+    def turn(self, bank):
+        return bank.turn()
+
+    # ---- "for every set of columns, halt the set and dispatch to rest"
+
+    def sets(self, columns):
+        return itertools.chain.from_iterable(itertools.combinations(range(columns), size) for size in range(columns + 1))
+
+    def end(self, bank, halted):
+        if halted:
+            if any(packet[2] in halted for packet in bank.network):
+                self.tell("a packet to the set vanishes")
+            if any(packet[1] in halted for packet in bank.network):
+                self.tell("a packet from the set is under way")
+            bank.halt(*halted)
+        while bank.turn():
+            pass
+        assert bank.at_rest() and bank.agrees()
+        return bank
+
+    def fate(self, bank):
+        """The record with which a set ends, or none where no column runs."""
+        return next((str(column.number) for column in bank.columns if column.running), "none")
+
+    def ends(self, bank):
+        """The fates of all sets, each halted in the same bank."""
+        return [self.fate(self.end(copied(bank), halted)) for halted in self.sets(len(bank.columns))]
+
+    def counts(self, bank, steps):
+        fates = self.ends(self.begin(bank, steps))
+        kept, lost, none = (fates.count(fate) for fate in ("1", "0", "none"))
+        self.tell("kept, whatever halts" if not lost else "lost where any other column runs" if not kept else "kept and lost")
+        return f"kept={kept}\nlost={lost}\nnone={none}\n"
+
+    # ---- the program
+
+    def read(self, rest):
+        """The step count of what follows the table: 'another form being 13'"""
+        found = re.fullmatch(self.steps, rest)
+        refuse(13, not found and "another form")
+        return int(found.group(1))
+
+    def check(self, bank):
+        """'23 for more than 8 columns or for watch=sender'"""
+        refuse(23, len(bank.columns) > self.most and "more than 8 columns")
+        refuse(23, bank.watch == "sender" and "watch=sender")
+
+    def asked(self, data):
+        refuse(13, len(data) > LIMIT and "past the limit")
+        bank, rest = table(data.decode("latin-1"), silent)
+        self.check(bank)
+        return bank, self.read(rest)
+
+    def answer(self, data):
+        """What the program prints."""
+        try:
+            text = self.counts(*self.asked(data))
+            self.tell("answered")
+            return text
+        except Refused as refusal:
+            self.tell(f"refused {refusal}")
+            return f"refused={refusal.number}\n"
+
+
+def copied(bank):
+    other = copy.copy(bank)
+    other.columns = [copy.copy(column) for column in bank.columns]
+    for column in other.columns:
+        column.send, column.awaited, column.owed, column.noted = set(column.send), set(column.awaited), set(column.owed), set(column.noted)
+    other.network, other.received, other.awaits, other.taken_over = list(bank.network), list(bank.received), set(bank.awaits), set(bank.taken_over)
+    other.tell = silent
+    return other
+
+
+# ---- wrong programs
+
+class EmptySetLeftOut(Losses):
+    def sets(self, columns):
+        return (halted for halted in super().sets(columns) if halted)
+
+
+class WholeBankLeftOut(Losses):
+    def sets(self, columns):
+        return (halted for halted in super().sets(columns) if len(halted) < columns)
+
+
+class SingleColumns(Losses):
+    def sets(self, columns):
+        return ((column,) for column in range(columns))
+
+
+class OrderIsAStep(Losses):
+    def begin(self, bank, steps):
+        return super().begin(bank, steps - 1)
+
+
+class OneStepMore(Losses):
+    def begin(self, bank, steps):
+        return super().begin(bank, steps + 1)
+
+
+class StepsPastRest(Losses):
+    """At rest the count goes on with a further order."""
+    def turn(self, bank):
+        if not bank.turn():
+            bank.order(bytes(8))
+        return True
+
+
+class StepsNotTaken(Losses):
+    def begin(self, bank, steps):
+        return super().begin(bank, 0)
+
+
+class FromTheBankBefore(Losses):
+    """Each set is halted in the bank that the set before it left, with all columns running again."""
+    def ends(self, bank):
+        fates = []
+        for halted in self.sets(len(bank.columns)):
+            for column in bank.columns:
+                column.running = True
+            fates.append(self.fate(self.end(bank, halted)))
+        return fates
+
+    def end(self, bank, halted):
+        if halted:
+            bank.halt(*halted)
+        while bank.turn():
+            pass
+        return bank
+
+
+class NotDispatchedToRest(Losses):
+    """The lowest column that runs is asked at once."""
+    def end(self, bank, halted):
+        if halted:
+            bank.halt(*halted)
+        return bank
+
+
+class PacketsVanishWithTheirSender(Losses):
+    def end(self, bank, halted):
+        bank.network = [packet for packet in bank.network if packet[1] not in halted]
+        return super().end(bank, halted)
+
+
+class RootNeverHalts(Losses):
+    def end(self, bank, halted):
+        return super().end(bank, tuple(column for column in halted if column != bank.root) if len(halted) < len(bank.columns) else halted)
+
+
+class NobodyIsLost(Losses):
+    def fate(self, bank):
+        return super().fate(bank).replace("none", "0")
+
+
+class NineColumnsPass(Losses):
+    most = 9
+
+
+class SevenColumnsAtMost(Losses):
+    most = 7
+
+
+class SenderPasses(Losses):
+    def check(self, bank):
+        refuse(23, len(bank.columns) > self.most and "more than 8 columns")
+
+
+class ThirteenBeforeTwentyThree(Losses):
+    def asked(self, data):
+        refuse(13, len(data) > LIMIT and "past the limit")
+        bank, rest = table(data.decode("latin-1"), silent)
+        steps = self.read(rest)
+        self.check(bank)
+        return bank, steps
+
+
+class MoreMayFollow(Losses):
+    def read(self, rest):
+        return super().read("".join(rest.splitlines(keepends=True)[:1]))
+
+
+class UnendedTaken(Losses):
+    def read(self, rest):
+        return super().read(rest if rest.endswith("\n") else rest + "\n")
+
+
+class LeadingZeroTaken(Losses):
+    steps = r"after=([0-9]{1,3})\n"
+
+
+class FourDigitsTaken(Losses):
+    steps = r"after=(0|[1-9][0-9]{0,3})\n"
+
+
+class TwoDigitsAtMost(Losses):
+    steps = r"after=(0|[1-9][0-9]?)\n"
+
+
+class WithoutIsNone(Losses):
+    """A table alone is taken for a count of 0."""
+    def read(self, rest):
+        return super().read(rest or "after=0\n")
+
+
+WRONG = {wrong.__name__: wrong for wrong in (
+    EmptySetLeftOut, WholeBankLeftOut, SingleColumns, OrderIsAStep, OneStepMore, StepsPastRest, StepsNotTaken, FromTheBankBefore, NotDispatchedToRest,
+    PacketsVanishWithTheirSender, RootNeverHalts, NobodyIsLost, NineColumnsPass, SevenColumnsAtMost, SenderPasses, ThirteenBeforeTwentyThree, MoreMayFollow,
+    UnendedTaken, LeadingZeroTaken, FourDigitsTaken, TwoDigitsAtMost, WithoutIsNone)}
+
+
+if __name__ == "__main__":
+    sys.stdout.write(Losses().answer(sys.stdin.buffer.read()))
