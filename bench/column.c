@@ -18,6 +18,8 @@ uint8_t tree_refusal(const struct tree *t) {
     if (t->up[t->root] != t->root)
         return 3;
     for (size_t c = 0; c < n; c++) {
+        if (t->up[c] < c)
+            continue;
         size_t at = c, budget = n;
         while (budget > 0 && at != t->root) {
             at = t->up[at];

@@ -15,27 +15,27 @@ static struct column column(uint64_t lap, bool whole) {
     return (struct column){.running = true, .number = lap % 1000, .doors = lap, .whole = whole};
 }
 
-static struct column column_lap(char letter, uint64_t lap) {
+static struct column column_lap(char letter, size_t root, uint64_t lap) {
     struct tree t = {16, 0, {0, 0, 0, 1, 1, 2, 2, 3, 3, 4, 4, 5, 5, 6, 6, 6 + lap % 2}, ASCENDING, false};
     struct column c = column(lap, letter == 'o' || letter == 's' || letter == 'e' || letter == 'n' || letter == 'r');
     switch (letter) {
-    case 'o': order(&t, 0, &c, lap); break;
-    case 's': c.send = 6; send(&t, 0, &c); break;
-    case 'm': take(&t, 1, &c, (struct packet){MESSAGE, 0, 1, 1000, lap}); break;
-    case 'e': c.awaited = 6; take(&t, 0, &c, (struct packet){ACKNOWLEDGEMENT, 2, 0, c.number, 0}); break;
-    case 'a': c.owed = 9; ack(&t, 2, &c); break;
-    case 'l': c.noted = 1; all(&t, 3, &c); break;
-    case 'n': c.awaited = 6; note(&t, 0, &c, 1); break;
-    case 'h': halt(&t, 5, &c); break;
-    default: send(&t, 0, &c); break;
+    case 'o': order(&t, root, &c, lap); break;
+    case 's': c.send = 6; send(&t, root, &c); break;
+    case 'm': take(&t, root + 1, &c, (struct packet){MESSAGE, 0, 1, 1000, lap}); break;
+    case 'e': c.awaited = 6; take(&t, root, &c, (struct packet){ACKNOWLEDGEMENT, 2, 0, c.number, 0}); break;
+    case 'a': c.owed = 9; ack(&t, root + 2, &c); break;
+    case 'l': c.noted = 1; all(&t, root + 3, &c); break;
+    case 'n': c.awaited = 6; note(&t, root, &c, root + 1); break;
+    case 'h': halt(&t, root + 5, &c); break;
+    default: send(&t, root, &c); break;
     }
     return c;
 }
 
-static uint64_t column_laps(char letter, uint64_t laps) {
+static uint64_t column_laps(char letter, size_t root, uint64_t laps) {
     uint64_t sum = 0;
     for (uint64_t lap = 0; lap < laps; lap++) {
-        struct column c = column_lap(letter, lap);
+        struct column c = column_lap(letter, root, lap);
         sum = fold(sum, (uint64_t)c.number + c.send + c.awaited + c.owed + c.noted + c.running);
     }
     return sum;
@@ -69,47 +69,47 @@ static void start(size_t columns) {
         bank.columns[i] = (struct column){.running = i != 2, .whole = i == 0};
 }
 
-static void sent(uint64_t lap) {
-    bank.columns[0].send = 2;
-    bank.columns[0].doors = lap;
-    bank_send(&bank, 0);
+static void sent(size_t root, uint64_t lap) {
+    bank.columns[root].send = 2;
+    bank.columns[root].doors = lap;
+    bank_send(&bank, root);
 }
 
 /* The columns of a set halt, none of which a packet is for, and run again before the next lap. */
-static void halted(uint32_t set, uint64_t lap) {
+static void halted(size_t root, uint32_t set, uint64_t lap) {
     for (uint32_t rest = set; rest; rest &= rest - 1)
         bank.columns[__builtin_ctz(rest)].running = true;
-    bank.columns[0].doors = lap;
+    bank.columns[root].doors = lap;
     bank_halt(&bank, set);
 }
 
-static void bank_lap(char letter, uint64_t lap) {
+static void bank_lap(char letter, size_t root, uint64_t lap) {
     if (letter == 'H' || letter == 'S') {
-        halted(letter == 'H' ? 32768 : 65528, lap);
+        halted(root, letter == 'H' ? 32768 : 65528, lap);
         return;
     }
     if (letter == 'N') {
-        bank.columns[0].send = 0;
-        bank.columns[0].awaited = 4;
-        bank.columns[0].noted = 0;
-        bank_note(&bank, 0, 2);
+        bank.columns[root].send = 0;
+        bank.columns[root].awaited = 4;
+        bank.columns[root].noted = 0;
+        bank_note(&bank, root, root + 2);
         return;
     }
-    sent(lap);
-    bank_take(&bank, 0);
+    sent(root, lap);
+    bank_take(&bank, root);
 }
 
-static uint64_t bank_laps(char letter, uint64_t columns, uint64_t packets, uint64_t laps) {
+static uint64_t bank_laps(char letter, size_t root, uint64_t columns, uint64_t packets, uint64_t laps) {
     start(columns);
     for (uint64_t k = 0; k < packets; k++)
-        sent(k);
+        sent(root, k);
     uint64_t sum = 0;
     for (uint64_t lap = 0; lap < laps; lap++) {
-        bank_lap(letter, lap);
-        const struct column *c = &bank.columns[0];
-        uint64_t sets = (uint64_t)c->send + c->awaited + c->noted + bank.columns[1].owed;
+        bank_lap(letter, root, lap);
+        const struct column *c = &bank.columns[root];
+        uint64_t sets = (uint64_t)c->send + c->awaited + c->noted + bank.columns[root + 1].owed;
         sum = fold(sum, sets + bank.count % 65536 + bank.packets[0].doors % 65536);
-        sum = fold(fold(sum, bank.columns[3].running), bank.columns[15].running);
+        sum = fold(fold(sum, bank.columns[root + 3].running), bank.columns[15 - root].running);
     }
     return sum;
 }
@@ -171,12 +171,14 @@ int main(void) {
     unsigned long long columns, packets, laps;
     if (!fgets(line, sizeof line, stdin))
         return 1;
+    /* A space, and so column 0: what stands in the input no compiler knows. */
+    size_t root = line[1] % 8;
     if (line[0] == 'B')
         printf("%zu %zu\n", offsetof(struct bank, packets), sizeof bank.packets);
     else if (sscanf(line, "%c %llu %llu %llu", &letter, &columns, &packets, &laps) == 4)
-        printf("%llu\n", (unsigned long long)bank_laps(letter, columns, packets, laps));
+        printf("%llu\n", (unsigned long long)bank_laps(letter, root, columns, packets, laps));
     else if (sscanf(line, "%c %llu", &letter, &laps) == 2)
-        printf("%llu\n", (unsigned long long)(letter == 'f' ? frame_laps(laps) : strchr("DFG", letter) ? dispatch_laps(letter, laps) : column_laps(letter, laps)));
+        printf("%llu\n", (unsigned long long)(letter == 'f' ? frame_laps(laps) : strchr("DFG", letter) ? dispatch_laps(letter, laps) : column_laps(letter, root, laps)));
     else
         return 1;
     return 0;

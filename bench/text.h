@@ -10,7 +10,7 @@ struct cursor {
 };
 
 static uint8_t input[LIMIT + 1];
-static char output[8192];
+static char output[16384];
 static size_t printed;
 
 static inline bool flush(void) {
@@ -31,7 +31,7 @@ static inline void put(const char *text) {
     printed += n;
 }
 
-static inline void put_number(size_t n) {
+static inline void put_digits(size_t n) {
     char digits[20];
     size_t first = sizeof digits;
     do
@@ -39,6 +39,20 @@ static inline void put_number(size_t n) {
     while (n /= 10);
     memcpy(output + printed, digits + first, sizeof digits - first);
     printed += sizeof digits - first;
+}
+
+static inline void put_number(size_t n) {
+    char *to = output + printed;
+    if (n >= 100) {
+        put_digits(n);
+    } else if (n < 10) {
+        to[0] = (char)('0' + n);
+        printed += 1;
+    } else {
+        to[0] = (char)('0' + n / 10);
+        to[1] = (char)('0' + n % 10);
+        printed += 2;
+    }
 }
 
 static inline void put_field(const char *key, size_t n) {

@@ -60,13 +60,17 @@ class Scripts(unittest.TestCase):
         self.assertGreater(lists, 9000)
         self.assertEqual(run(TABLE + b"list=0\n" * lists), printed)
 
-    def test_64_texts_are_written_at_a_time(self):
+    def test_texts_are_written_once_the_longest_might_not_fit(self):
         near, far = socket.socketpair(socket.AF_UNIX, socket.SOCK_SEQPACKET)
         with near, far:
-            subprocess.run([PROGRAM], input=TABLE + b"jump=1\n" * 130, stdout=far, check=True)
+            subprocess.run([PROGRAM], input=TABLE + b"jump=1\n" * 3000, stdout=far, check=True)
             far.close()
             written = list(iter(lambda: near.recv(LIMIT), b""))
-        self.assertEqual(written, [b"table=ok\n" + b"refused=13\n" * 63, b"refused=13\n" * 64, b"refused=13\n" * 3 + b"rest=yes\n"])
+        self.assertEqual(written, [b"table=ok\n" + b"refused=13\n" * 1468, b"refused=13\n" * 1469, b"refused=13\n" * 63 + b"rest=yes\n"])
+        room = 16384 - 229
+        for full in written[:2]:
+            self.assertLessEqual(len(full) - len(b"refused=13\n"), room)
+            self.assertGreater(len(full), room)
 
     def test_a_read_that_fails_is_the_end_of_the_script(self):
         data = TABLE + b"send=0\norder=01"

@@ -1,13 +1,15 @@
--- A script's run, one text at a time: the table's answer, then each line's, last whether the bank is at rest.
-use Prim.Native.Nat.{ℕ, zero, suc, _+_}
+-- A script's run, one text at a time: the table's answer, then each line's, last whether the bank is at rest; and as many texts at a time
+-- as surely fit into a buffer.
+use Prim.Native.Nat.{ℕ, zero, suc, _+_, _-_}
 use mathlib.Core.Path.{_≡_}
-use mathlib.Core.Bool.{Bool, true, false, cond}
+use mathlib.Core.Bool.{Bool, true, false, cond, _||_}
 use mathlib.Core.List.{List, [], _++_}
 use lib.Dec.{leb, ltb}
 use lib.ListN.{length, take, drop, replicate}
 use Rattle.bank.specs.Banks.{State, state, capacity, freshBank, noBank}
 use Rattle.bank.specs.Steps.{Outcome, accepted, refused}
 use Rattle.closing.specs.Text.{tableOk, written}
+use Rattle.closing.specs.Closing.{longestList}
 use Rattle.closing.specs.Tables.{Cut, ended, unended, cut, Placed, noTree, readTable}
 use Rattle.closing.specs.Lines.{commandOf}
 use Rattle.closing.specs.declared.script.Run.{Run}
@@ -55,13 +57,43 @@ advance input p =
     cond (p .over) (progress (p .state) (p .position) (p .begun) true [])
     (cond (p .begun) (laterAdvance input p) (firstAdvance input p))
 
+-- ---- as many texts as surely fit
+
+-- the bytes that a run is lent for its texts
+abbrev pub bufferSize : ℕ
+bufferSize = 16384
+
+-- up to here the longest list fits, and no other text is longer
+abbrev pub room : ℕ
+room = bufferSize - longestList
+
+-- a run with another text
+abbrev pub saying : List ℕ → Progress → Progress
+saying text p = progress (p .state) (p .position) (p .begun) (p .over) text
+
+-- one text more, after those before it
+abbrev pub onward : List ℕ → Progress → Progress
+onward input p = let q = advance input p in saying (p .text ++ q .text) q
+
+-- at most so many texts more
+unfoldable pub filled : ℕ → List ℕ → Progress → Progress
+filled zero input p = p
+filled (suc most) input p = cond (p .over || ltb room (length (p .text))) p (filled most input (onward input p))
+
+-- the table, the lines, of which each takes a byte at least, and the rest: no more texts than this are left
+abbrev pub mostTexts : List ℕ → ℕ
+mostTexts input = length input + 2
+
+abbrev pub fill : List ℕ → Progress → Progress
+fill input p = filled (mostTexts input) input (saying [] p)
+
 -- ---- the run as the code holds it
 
 -- the text is the first `length` bytes of the lent buffer
 abbrev pub progressOf : Run → List ℕ → List ℕ → List ℕ → Progress
 progressOf r heads doors out = progress (state (r .bank) heads doors) (r .position) (r .begun) (r .over) (take (r .length) out)
 
--- what an advance leaves: the next progress, and of the buffer nothing else touched
+-- what a call leaves: the next progress, and of the buffer nothing else touched
 pub record Advanced (r : Run) (heads doors out old : List ℕ) (next : Progress) : Type 0 where
   pub progress-is : progressOf r heads doors out ≡ next
   pub length-is : r .length ≡ length (next .text)
@@ -78,6 +110,16 @@ abbrev pub start : Progress
 start = progressOf startRun (replicate capacity 0) (replicate capacity 0) []
 
 -- the texts of n advances, joined
+unfoldable pub textsBy : ℕ → List ℕ → Progress → List ℕ
+textsBy zero input p = []
+textsBy (suc n) input p = let q = advance input p in q .text ++ textsBy n input q
+
+-- the run after n calls that fill the buffer
+unfoldable pub filledBy : ℕ → List ℕ → Progress → Progress
+filledBy zero input p = p
+filledBy (suc n) input p = filledBy n input (fill input p)
+
+-- what these calls leave in it, joined
 unfoldable pub printedBy : ℕ → List ℕ → Progress → List ℕ
 printedBy zero input p = []
-printedBy (suc n) input p = let q = advance input p in q .text ++ printedBy n input q
+printedBy (suc n) input p = let q = fill input p in q .text ++ printedBy n input q

@@ -42,6 +42,16 @@ digits-decimal (suc width) (suc (suc k)) n h f =
     let front = digits-decimal width (suc k) (n / 10) (omega arith) (omega arith, less, more) in
     rw (le-ltb n 10 large) (ap₂ (λ l d. l ++ (d ∷ [])) front (glyph-small (n % 10) (omega arith)))
 
+-- ---- short numbers
+
+pub decimal-one : (n : ℕ) → n < 10 → decimal n ≡ (48 + n) ∷ []
+unfolding decimalIn
+decimal-one n h = rw (lt-ltb n 10 h)
+
+pub decimal-two : (n : ℕ) → 10 ≤ n → n < 100 → decimal n ≡ ((48 + n / 10) ∷ []) ++ ((48 + n % 10) ∷ [])
+unfolding decimalIn
+decimal-two n low high = rw (le-ltb n 10 low, lt-ltb (n / 10) 10 (omega arith))
+
 -- ---- how many digits
 
 pub decimal-length : (width k n : ℕ) → n < 10 ^ suc k → length (decimalIn width n) ≤ suc k

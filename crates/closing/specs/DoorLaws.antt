@@ -1,6 +1,6 @@
 -- The doors of a list: they rise, they are those of the set, and their text grows door by door.
 -- Assumes nothing.
-use Prim.Native.Nat.{ℕ, zero, suc, _+_, _-_, _*_, _/_, _^_, _≤_, _<_}
+use Prim.Native.Nat.{ℕ, zero, suc, _+_, _-_, _*_, _/_, _%_, _^_, _≤_, _<_}
 use mathlib.Core.Path.{_≡_, refl, sym, ap, _∙_}
 use mathlib.Core.Logic.{_⊎_, inl, inr, ⊎-elim, _↔_}
 use mathlib.Core.Bool.{Bool, true, false, cond, true≢false}
@@ -11,20 +11,21 @@ use native.Mathlib.Omega.{arith}
 use lib.Count.{ones, ones-step, ones-le}
 use lib.Dec.{eqb, ltb}
 use lib.ListN.{length, length-append}
-use lib.Pow.{shr-shr}
+use lib.Pow.{shr-shr, shr-le}
 use borrow.Author.Tests.{eqb-true, eqb-false, ltb-true, ltb-false}
 use Rattle.column.specs.Cases.{truth, equal-cases}
-use Rattle.column.specs.Sets.{has}
+use Rattle.column.specs.Sets.{has, lowestIn}
 use Rattle.column.specs.Digits.{true-has, false-has}
+use Rattle.column.specs.SetLaws.{has-none, member-lt, lowest-none, lowest-member}
 use Rattle.closing.specs.Text.{comma, decimal}
 use Rattle.closing.specs.DecimalLaws.{decimal-length}
 use Rattle.closing.specs.Closing.{doorsUpTo, divided}
-use Rattle.closing.specs.DividedLaws.{nextText, divided-last}
+use Rattle.closing.specs.DividedLaws.{nextText, none, divided-last}
 
 -- ---- the text of the doors, door by door
 
 -- what door n + 1 adds: nothing where it is not occupied
-unfoldable pub doorText : Bool → ℕ → ℕ → List ℕ
+unfoldable doorText : Bool → ℕ → ℕ → List ℕ
 doorText first doors n = cond (has doors n) (nextText first (n + 1)) []
 
 -- nothing is written before the first
@@ -35,7 +36,7 @@ pub doors-none : (doors : ℕ) → divided (doorsUpTo 0 doors) ≡ []
 unfolding divided doorsUpTo
 doors-none doors = refl
 
-pub doors-more : (doors n : ℕ)
+doors-more : (doors n : ℕ)
     → divided (doorsUpTo (n + 1) doors) ≡ divided (doorsUpTo n doors) ++ doorText (noneBefore doors n) doors n
 unfolding doorsUpTo doorText
 doors-more doors n = rw add-one (go (has doors n))
@@ -48,13 +49,48 @@ doors-more doors n = rw add-one (go (has doors n))
     go true = divided-last l (suc n)
     go false = sym (append-nil (divided l))
 
-pub door-clear : (first : Bool) (doors n : ℕ) → has doors n ≡ false → doorText first doors n ≡ []
-unfolding doorText
-door-clear first doors n e = rw e
+-- the doors above n of which none is occupied add nothing
+doors-free : (doors n free : ℕ) → ((j : ℕ) → j < free → has (doors / 2 ^ n) j ≡ false) → doorsUpTo (n + free) doors ≡ doorsUpTo n doors
+unfolding doorsUpTo
+doors-free doors n zero h = ap (λ k. doorsUpTo k doors) (add-zero n)
+doors-free doors n (suc free) h =
+    let one : n + suc free ≡ suc (n + free) = omega arith in
+    let clear : has doors (n + free) ≡ false = ap (λ k. eqb (k % 2) 1) (sym (shr-shr doors n free)) ∙ h free (omega arith) in
+    ap (λ k. doorsUpTo k doors) one ∙ rw clear (doors-free doors n free (λ j l. h j (omega arith)))
 
-pub door-taken : (first : Bool) (doors n : ℕ) → has doors n ≡ true → doorText first doors n ≡ nextText first (n + 1)
-unfolding doorText
-door-taken first doors n e = rw e
+-- rest: the doors above n
+module _ (doors n : ℕ) (rest : ℕ) (is : rest ≡ doors / 2 ^ n) where
+  abbrev pub free : ℕ
+  free = lowestIn 64 rest
+
+  pub doors-rest : rest ≡ 0 → n ≤ 64 → doorsUpTo n doors ≡ doorsUpTo 64 doors
+  doors-rest none h =
+      let all : n + (64 - n) ≡ 64 = omega arith in
+      sym (doors-free doors n (64 - n) (λ j l. ap (λ k. has k j) (sym is ∙ none) ∙ has-none j)) ∙ ap (λ k. doorsUpTo k doors) all
+
+  -- the lowest of them is the next door
+  module _ (fits : doors < 2 ^ 64) (some : 0 < rest) where
+    occupied : has doors (n + free) ≡ true
+    occupied =
+        let small : rest < 2 ^ 64 = omega (arith, is, shr-le doors n) in
+        ap (λ k. eqb (k % 2) 1) (sym (shr-shr doors n free) ∙ ap (λ k. k / 2 ^ free) (sym is)) ∙ lowest-member 64 rest small some
+
+    pub door-within : n + free < 64
+    door-within = member-lt 64 doors (n + free) fits occupied
+
+    pub doors-next : divided (doorsUpTo (n + (free + 1)) doors) ≡ divided (doorsUpTo n doors) ++ nextText (noneBefore doors n) (n + (free + 1))
+    unfolding doorText
+    doors-next =
+        let one : n + (free + 1) ≡ n + free + 1 = omega arith in
+        let same : doorsUpTo (n + free) doors ≡ doorsUpTo n doors =
+        doors-free doors n free (λ j l. ap (λ k. has k j) (sym is) ∙ lowest-none 64 rest j l) in
+        rw one
+        (doors-more doors (n + free)
+        ∙ ap (λ b. divided (doorsUpTo (n + free) doors) ++ cond b (nextText (noneBefore doors (n + free)) (n + free + 1)) []) occupied
+        ∙ ap (λ l. divided l ++ nextText (none l) (n + free + 1)) same)
+
+    pub rest-next : rest / 2 ^ free / 2 ^ 1 ≡ doors / 2 ^ (n + (free + 1))
+    rest-next = shr-shr rest free 1 ∙ ap (λ k. k / 2 ^ (free + 1)) is ∙ shr-shr doors n (free + 1)
 
 -- ---- how long the text is
 

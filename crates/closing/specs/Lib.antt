@@ -19,6 +19,8 @@ pub mod Scripts
 pub mod Advances
 pub mod AdvanceLaws
 pub mod ScriptLaws
+pub mod FillLaws
+pub mod Printing
 pub mod Edges
 pub mod Requests
 pub mod RequestLaws

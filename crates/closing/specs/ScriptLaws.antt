@@ -4,14 +4,14 @@ use Prim.Native.Nat.{ℕ, _+_, _-_, _^_, _≤_, _<_}
 use native.Mathlib.Omega.{arith}
 use mathlib.Core.Path.{_≡_, refl, sym, ap, ap₂, _∙_}
 use mathlib.Core.Bool.{Bool, true, false, cond}
-use mathlib.Core.List.{List}
+use mathlib.Core.List.{List, []}
 use lib.Dec.{eqb}
 use lib.ListN.{length, take, drop, length-append}
 use borrow.Author.Tests.{lt-ltb, le-ltb, eq-eqb, eqb-true}
 use Rattle.column.specs.Refusals.{first}
 use Rattle.column.specs.Trees.{treeRefusal}
 use Rattle.column.specs.RefusalLaws.{earlier-none}
-use Rattle.bank.specs.Banks.{State, state, freshBank}
+use Rattle.bank.specs.Banks.{State, state, freshBank, noBank}
 use Rattle.bank.specs.Steps as steps
 use Rattle.bank.specs.Steps.{Outcome, after}
 use Rattle.bank.specs.Dispatch.{dispatched, dispatchOutcome}
@@ -24,12 +24,13 @@ use Rattle.bank.specs.declared.bank.Answer.the-variants.{Done, Refused}
 use Rattle.closing.specs.Text.{newline, Reading, read, unread}
 use Rattle.closing.specs.DecimalLaws.{decimal-length}
 use Rattle.closing.specs.Writing.{Writes, written-taken, writes-within}
-use Rattle.closing.specs.Tables.{cut, Table, tableOf, treeIn, countListed, countedConditions, tableRefusal, Placed, placedAt, noTree, judged, readTable}
+use Rattle.closing.specs.Tables.{Cut, ended, unended, cut, Table, tableOf, treeIn, countListed, countedConditions, tableRefusal, Placed, placedAt, noTree, judged, readTable}
 use Rattle.closing.specs.Cutting.{Found, line-ended, line-unended, line-length}
-use Rattle.closing.specs.Lines.{commandOf}
+use Rattle.closing.specs.Lines.{commandOf, lineMeant}
 use Rattle.closing.specs.Scripts.{limit, Printed, printed, answered, refusedText, stepText, stepsText, dispatchText, dispatchPrinted, listedText}
 use Rattle.closing.specs.declared.script.Run.{Run}
-use Rattle.closing.specs.Advances.{Progress, progress, progressOf, Advanced, tableAdvance, firstAdvance, lineAdvance, laterAdvance, advance}
+use Rattle.closing.specs.declared.script.NextLine.{NextLine}
+use Rattle.closing.specs.Advances.{Progress, progress, progressOf, Advanced, tableAdvance, firstAdvance, lineAdvance}
 
 -- a run whose table is read
 abbrev pub runTo : Bank → ℕ → Bool → ℕ → Run
@@ -39,28 +40,26 @@ runTo b position over length = record { bank = b; position = position; begun = t
 abbrev pub replied : ℕ → Printed → Progress
 replied next a = progress (a .state) next true false (a .text)
 
-abbrev pub stepReplied : ℕ → Outcome State → Progress
-stepReplied next o = replied next (printed (stepText o) (after o))
-
 -- the text of a step's answer, whatever the bank after it
-abbrev pub WritesStep : ℕ → List ℕ → List ℕ → Answer → Type 0
-WritesStep r new old answer = (s : State) → Writes r new old 0 (stepText (steps.answered answer s))
-
--- after a dispatch
-abbrev pub dispatchReplied : ℕ → ℕ → State → Progress
-dispatchReplied next limit s = replied next (dispatchPrinted (length (dispatched limit s)) (dispatchOutcome limit s))
+abbrev pub WritesStep : ℕ → List ℕ → List ℕ → ℕ → Answer → Type 0
+WritesStep r new old at answer = (s : State) → Writes r new old at (stepText (steps.answered answer s))
 
 -- the text of a dispatch, whatever the bank after it
-abbrev pub WritesDispatch : ℕ → List ℕ → List ℕ → ℕ → Answer → Type 0
-WritesDispatch r new old taken answer = (s : State) → Writes r new old 0 (dispatchText taken (steps.answered answer s))
+abbrev pub WritesDispatch : ℕ → List ℕ → List ℕ → ℕ → ℕ → Answer → Type 0
+WritesDispatch r new old at taken answer = (s : State) → Writes r new old at (dispatchText taken (steps.answered answer s))
 
 -- the text of a list, whatever doors the packets carry
-abbrev pub WritesListed : ℕ → List ℕ → List ℕ → Bank → List ℕ → ℕ → Type 0
-WritesListed r new old b heads i = (doors : List ℕ) → Writes r new old 0 (listedText (state b heads doors) i)
+abbrev pub WritesListed : ℕ → List ℕ → List ℕ → ℕ → Bank → List ℕ → ℕ → Type 0
+WritesListed r new old at b heads i = (doors : List ℕ) → Writes r new old at (listedText (state b heads doors) i)
 
 -- the advance of the line that begins where the run has come to
 abbrev pub nextLine : List ℕ → Progress → Progress
 nextLine input p = lineAdvance input p (cut (drop (p .position) input))
+
+-- the line that begins at `start`, and where the one after it begins, whatever the bank
+abbrev pub ReadsLine : NextLine → List ℕ → ℕ → Type 0
+ReadsLine r input start =
+    (p : Progress) → p .position ≡ start → nextLine input p ≡ replied (r .next) (answered (p .state) (lineMeant (r .line)))
 
 -- the table's advance, whatever the network's words, which it leaves
 abbrev pub AdvancedFirst : Run → List ℕ → List ℕ → List ℕ → Run → Type 0
@@ -93,30 +92,29 @@ after-answered : {A : Type 0} (answer : Answer) (a : A) → after (steps.answere
 after-answered Done a = refl
 after-answered (Refused n) a = refl
 
-pub step-advanced : {next n : ℕ} {heads doors out old : List ℕ} (r : Result) (o : Outcome State) → steps.outcome r heads doors ≡ o
-    → WritesStep n out old (r .answer) → Advanced (runTo (r .bank) next false n) heads doors out old (stepReplied next o)
-step-advanced {next} {n} {heads} {doors} r o e w =
-    let s = state (r .bank) heads doors in
-    rw (← e, after-answered (r .answer) s) (text-advanced (stepText (steps.answered (r .answer) s)) (w s))
+-- ---- what a line leaves
 
-pub dispatch-advanced : {next n : ℕ} {heads doors out old : List ℕ} (r : Dispatched) (limit : ℕ) (s : State)
-    → Dispatches r heads doors limit s (dispatchOutcome limit s) → WritesDispatch n out old (r .steps) (r .answer)
-    → Advanced (runTo (r .bank) next false n) heads doors out old (dispatchReplied next limit s)
-dispatch-advanced {heads} {doors} r limit s d w =
-    let m = state (r .bank) heads doors in
-    rw (← d .outcome-is, ← d .count-is, after-answered (r .answer) m) (text-advanced (dispatchText (r .steps) (steps.answered (r .answer) m)) (w m))
+-- its text from `at` on, and the bank after it
+pub record Answers (a : Printed) (b : Bank) (heads doors : List ℕ) (r : ℕ) (new old : List ℕ) (at : ℕ) : Type 0 where
+  pub state-is : a .state ≡ state b heads doors
+  pub text-is : Writes r new old at (a .text)
+
+pub step-answers : {r at : ℕ} {heads doors new old : List ℕ} (d : Result) (o : Outcome State) → steps.outcome d heads doors ≡ o
+    → WritesStep r new old at (d .answer) → Answers (printed (stepText o) (after o)) (d .bank) heads doors r new old at
+step-answers {heads} {doors} d o e w =
+    let s = state (d .bank) heads doors in
+    record { state-is = ap after (sym e) ∙ after-answered (d .answer) s; text-is = rw (← e) (w s) }
+
+pub dispatch-answers : {r at : ℕ} {heads doors new old : List ℕ} (d : Dispatched) (limit : ℕ) (s : State)
+    → Dispatches d heads doors limit s (dispatchOutcome limit s) → WritesDispatch r new old at (d .steps) (d .answer)
+    → Answers (dispatchPrinted (length (dispatched limit s)) (dispatchOutcome limit s)) (d .bank) heads doors r new old at
+dispatch-answers {heads} {doors} d limit s e w =
+    let m = state (d .bank) heads doors in
+    record { state-is = ap after (sym (e .outcome-is)) ∙ after-answered (d .answer) m; text-is = rw (← e .outcome-is, ← e .count-is) (w m) }
 
 -- ---- which advance it is
 
 module _ (input : List ℕ) (p : Progress) where
-  pub advance-later : p .over ≡ false → p .begun ≡ true → advance input p ≡ laterAdvance input p
-  unfolding advance
-  advance-later over begun = rw (over, begun)
-
-  pub advance-first : p .over ≡ false → p .begun ≡ false → advance input p ≡ firstAdvance input p
-  unfolding advance
-  advance-first over begun = rw (over, begun)
-
   pub first-long : limit < length input → firstAdvance input p ≡ progress (p .state) (p .position) true true (refusedText 13)
   unfolding firstAdvance
   first-long h = rw (lt-ltb limit (length input) h)
@@ -140,6 +138,18 @@ module _ (input : List ℕ) (p : Progress) where
         let a = answered (p .state) (commandOf line) in
         let size : p .position + (length line + 1) ≡ r + 1 = omega (arith, line-length input (p .position) r (found .1), found .0) in
         rw (line-ended input (p .position) r from found h) (ap (λ (k : ℕ). progress (a .state) k true false (a .text)) size)
+
+-- each line moves on
+pub line-on : (r : NextLine) (input : List ℕ) (start : ℕ) → ReadsLine r input start → start < length input → start < r .next
+unfolding lineAdvance
+line-on r input start reads h = rw (← ap (λ (q : Progress). q .position) (reads p refl)) (go (cut (drop start input)))
+  where
+    p : Progress
+    p = progress (state (noBank (noTree .tree)) [] []) start true false []
+
+    go : (c : Cut) → start < lineAdvance input p c .position
+    go (ended line rest) = omega arith
+    go unended = h
 
 -- ---- the bank of a table
 
@@ -180,6 +190,10 @@ fresh-bank input t r e made =
 
 -- ---- what a caller prints
 
+pub advanced-writes : {q : Run} {heads doors out old : List ℕ} {next : Progress} → Advanced q heads doors out old next
+    → Writes (q .length) out old 0 (next .text)
+advanced-writes a = record { place = omega (arith, a .length-is); left = a .buffer-is }
+
 -- the text lies within the buffer
 pub text-within : {q : Run} {heads doors out old : List ℕ} {next : Progress} → Advanced q heads doors out old next → q .length ≤ length out
-text-within a = writes-within (record { place = omega (arith, a .length-is); left = a .buffer-is })
+text-within a = writes-within (omega arith) (advanced-writes a)

@@ -76,10 +76,20 @@ written-part old at w =
 pub writes-none : (old : List ℕ) (at : ℕ) → Writes at old old at []
 writes-none old at = record { place = sym (add-zero at); left = sym (written-none old at) }
 
--- a text written at 0 lies within the buffer
-pub writes-within : {r : ℕ} {new old w : List ℕ} → Writes r new old 0 w → r ≤ length new
+-- a text that is written from a place within the buffer ends within it
+pub writes-within : {r : ℕ} {new old : List ℕ} {at : ℕ} {w : List ℕ} → at ≤ length old → Writes r new old at w → r ≤ length new
 unfolding written
-writes-within {old} {w} h = omega (arith, h .place, ap length (h .left), length-append w (drop (0 + length w) old))
+writes-within {old} {at} {w} room h =
+    let rest = w ++ drop (at + length w) old in
+    omega (
+      arith,
+      room,
+      h .place,
+      ap length (h .left),
+      length-append (take at old) rest,
+      length-append w (drop (at + length w) old),
+      length-take-le at old room,
+    )
 
 -- a text that has room has it for its first part
 pub room-first : {n : ℕ} (at : ℕ) (v w : List ℕ) → at + length (v ++ w) ≤ n → at + length v ≤ n

@@ -7,12 +7,10 @@ use bank::standing::acting_refusal;
 use column::state::Column;
 ghost use Prim.Native.Nat.{_+_, _≤_, _<_};
 ghost use mathlib.Core.Path.{_≡_};
-ghost use lib.Dec.{eqb};
 ghost use lib.ListN.{length};
 ghost use Rattle.bank.specs.Banks.{state};
 ghost use Rattle.closing.specs.Closing.{longestList, doorsUpTo, divided, listText, listed, placed, RefusesListing};
 ghost use Rattle.closing.specs.Closing.{list as Closing·list};
-ghost use Rattle.closing.specs.DoorLaws.{doorText};
 ghost use Rattle.closing.specs.Writing.{Writes};
 
 // "The longest list is 229."
@@ -24,36 +22,29 @@ pub enum Listing {
     Refused(u8),
 }
 
-// Door d + 1, where it is occupied; the doors begin at `start`.
-fn put_door(out: &mut [u8], start: usize, at: usize, doors: u64, d: u64) -> usize
-    requires { ⌜ (at + length (doorText (eqb at start) doors d) ≤ length (now out)) × (d < 64) ⌝ }
-    ensures { λ r. ⌜ Writes r (now (out .exit)) (now (out .entry)) at (doorText (eqb at start) doors d) ⌝ }
-{
-    if (doors >> d) % 2 != 1 {
-        return at;
-    }
-    put_next(out, start, at, d + 1)
-}
-
 fn put_doors(out: &mut [u8], at: usize, doors: u64) -> usize
     requires { ⌜ at + length (divided (doorsUpTo 64 doors)) ≤ length (now out) ⌝ }
     ensures { λ r. ⌜ Writes r (now (out .exit)) (now (out .entry)) at (divided (doorsUpTo 64 doors)) ⌝ }
 {
     let mut next = at;
-    let mut d: u64 = 0;
-    while d < 64 {
-        next = put_door(out, at, next, doors, d);
-        d += 1;
+    let mut door: u64 = 0;
+    // The doors above `door`.
+    let mut rest = doors;
+    while rest != 0 {
+        let free = u64::trailing_zeros(rest) as u64;
+        door += free + 1;
+        next = put_next(out, at, next, door);
+        rest = (rest >> free) >> 1;
     }
     next
 }
 
-// The four lines, at the start of what is lent.
-pub(crate) fn put_list(out: &mut [u8], i: usize, c: Column) -> usize
-    requires { ⌜ (i < 16) × (longestList ≤ length (now out)) ⌝ }
-    ensures { λ r. ⌜ Writes r (now (out .exit)) (now (out .entry)) 0 (listText i c) ⌝ }
+// The four lines.
+pub(crate) fn put_list(out: &mut [u8], at: usize, i: usize, c: Column) -> usize
+    requires { ⌜ (i < 16) × (at + longestList ≤ length (now out)) ⌝ }
+    ensures { λ r. ⌜ Writes r (now (out .exit)) (now (out .entry)) at (listText i c) ⌝ }
 {
-    let number = put_field(out, 0, b"column=", i as u64);
+    let number = put_field(out, at, b"column=", i as u64);
     let occupied = put_field(out, number, b"number=", c.number as u64);
     let key = put_field(out, occupied, b"occupied=", u64::count_ones(c.doors) as u64);
     let doors = put_all(out, key, b"doors=");
@@ -67,7 +58,7 @@ fn write_list(i: usize, c: Column, out: &mut [u8]) -> Listing
     ensures { λ r. ⌜ listed r (now (out .exit)) ≡ placed (now (out .entry)) 0 (listText i c) ⌝ }
 {
     let mut scratch = [0u8; LONGEST];
-    let n = put_list(&mut scratch, i, c);
+    let n = put_list(&mut scratch, 0, i, c);
     if out.len() < n {
         return Listing::Refused(11);
     }

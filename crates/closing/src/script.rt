@@ -1,5 +1,5 @@
-// A script's run, one text at a time: the table's answer, then each line's, last whether the bank is at rest. A caller prints them in
-// their order, as they come or some together, so that no buffer bounds what a script prints.
+// A script's run: the table's answer, then each line's, last whether the bank is at rest. A caller lends a buffer, prints the texts that were
+// written into it and lends it again, so that no buffer bounds what a script prints.
 use crate::line::Line;
 use crate::line::parse;
 use crate::list::LONGEST;
@@ -14,25 +14,27 @@ use bank::bank::NO_COLUMN;
 use bank::bank::fresh;
 use bank::dispatch::dispatch;
 use bank::rest::at_rest;
-use bank::step::Step;
 use bank::step::perform;
 use bytes::scan::find;
 use column::tree::ASCENDING;
 use column::tree::Tree;
-ghost use Prim.Native.Nat.{_≤_, _<_};
+ghost use Prim.Native.Nat.{_+_, _≤_, _<_};
 ghost use mathlib.Core.Path.{_≡_};
 ghost use lib.ListN.{length};
 ghost use Rattle.bank.specs.Banks.{state};
-ghost use Rattle.bank.specs.Performs.{perform};
 ghost use Rattle.closing.specs.Closing.{longestList};
-ghost use Rattle.closing.specs.Lines.{commandOf};
-ghost use Rattle.closing.specs.Scripts.{refusedText, stepsText, restText, answered};
-ghost use Rattle.closing.specs.Advances.{progressOf, startRun, Advanced, laterAdvance, advance};
+ghost use Rattle.closing.specs.Scripts.{refusedText, stepsText, restText};
+ghost use Rattle.closing.specs.Advances.{progressOf, startRun, Advanced, bufferSize, fill};
 ghost use Rattle.closing.specs.Writing.{Writes};
-ghost use Rattle.closing.specs.ScriptLaws.{WritesStep, WritesDispatch, WritesListed, AdvancedFirst, runTo, replied, stepReplied, dispatchReplied, nextLine};
+ghost use Rattle.closing.specs.ScriptLaws.{WritesStep, WritesDispatch, WritesListed, ReadsLine, AdvancedFirst, runTo};
+ghost use Rattle.closing.specs.FillLaws.{Fills};
 
 // The longest input that is read.
 pub const LIMIT: usize = 65536;
+// What a run is lent for its texts.
+pub const BUFFER: usize = 16384;
+// Up to here the longest text fits.
+const ROOM: usize = BUFFER - LONGEST;
 
 pub struct Run {
     pub bank: Bank,
@@ -44,6 +46,12 @@ pub struct Run {
     pub over: bool,
     // How many bytes of the lent buffer are the text to print.
     pub length: usize,
+}
+
+struct NextLine {
+    line: Line,
+    // Where the line after it begins.
+    next: usize,
 }
 
 // A run whose table is read.
@@ -59,143 +67,80 @@ fn run_to(bank: Bank, position: usize, over: bool, length: usize) -> Run
     }
 }
 
-fn put_refused(out: &mut [u8], n: u8) -> usize
-    requires { ⌜ longestList ≤ length (now out) ⌝ }
-    ensures { λ r. ⌜ Writes r (now (out .exit)) (now (out .entry)) 0 (refusedText n) ⌝ }
+fn put_refused(out: &mut [u8], at: usize, n: u8) -> usize
+    requires { ⌜ at + longestList ≤ length (now out) ⌝ }
+    ensures { λ r. ⌜ Writes r (now (out .exit)) (now (out .entry)) at (refusedText n) ⌝ }
 {
-    put_field(out, 0, b"refused=", n as u64)
+    put_field(out, at, b"refused=", n as u64)
 }
 
-fn put_rest(b: Bank, heads: &[u64; 512], doors: &[u64; 512], out: &mut [u8]) -> usize
-    requires { ⌜ longestList ≤ length (now out) ⌝ }
-    ensures { λ r. ⌜ Writes r (now (out .exit)) (now (out .entry)) 0 (restText (state b (now (heads .entry)) (now (doors .entry)))) ⌝ }
+fn put_rest(b: Bank, heads: &[u64; 512], doors: &[u64; 512], out: &mut [u8], at: usize) -> usize
+    requires { ⌜ at + longestList ≤ length (now out) ⌝ }
+    ensures { λ r. ⌜ Writes r (now (out .exit)) (now (out .entry)) at (restText (state b (now (heads .entry)) (now (doors .entry)))) ⌝ }
 {
     if at_rest(b, heads, doors) {
-        return put_all(out, 0, b"rest=yes\n");
+        return put_all(out, at, b"rest=yes\n");
     }
-    put_all(out, 0, b"rest=no\n")
+    put_all(out, at, b"rest=no\n")
 }
 
-fn put_step(answer: Answer, out: &mut [u8]) -> usize
-    requires { ⌜ longestList ≤ length (now out) ⌝ }
-    ensures { λ r. ⌜ WritesStep r (now (out .exit)) (now (out .entry)) answer ⌝ }
+fn put_step(answer: Answer, out: &mut [u8], at: usize) -> usize
+    requires { ⌜ at + longestList ≤ length (now out) ⌝ }
+    ensures { λ r. ⌜ WritesStep r (now (out .exit)) (now (out .entry)) at answer ⌝ }
 {
     match answer {
-        Answer::Done => put_all(out, 0, b"step=ok\n"),
-        Answer::Refused(n) => put_refused(out, n),
+        Answer::Done => put_all(out, at, b"step=ok\n"),
+        Answer::Refused(n) => put_refused(out, at, n),
     }
 }
 
-fn put_steps(steps: usize, out: &mut [u8]) -> usize
-    requires { ⌜ longestList ≤ length (now out) ⌝ }
-    ensures { λ r. ⌜ Writes r (now (out .exit)) (now (out .entry)) 0 (stepsText steps) ⌝ }
+fn put_steps(steps: usize, out: &mut [u8], at: usize) -> usize
+    requires { ⌜ at + longestList ≤ length (now out) ⌝ }
+    ensures { λ r. ⌜ Writes r (now (out .exit)) (now (out .entry)) at (stepsText steps) ⌝ }
 {
-    let end = put_field(out, 0, b"steps=", steps as u64);
+    let end = put_field(out, at, b"steps=", steps as u64);
     put_all(out, end, b"step=ok\n")
 }
 
-fn put_dispatched(answer: Answer, steps: usize, out: &mut [u8]) -> usize
-    requires { ⌜ longestList ≤ length (now out) ⌝ }
-    ensures { λ r. ⌜ WritesDispatch r (now (out .exit)) (now (out .entry)) steps answer ⌝ }
+fn put_dispatched(answer: Answer, steps: usize, out: &mut [u8], at: usize) -> usize
+    requires { ⌜ at + longestList ≤ length (now out) ⌝ }
+    ensures { λ r. ⌜ WritesDispatch r (now (out .exit)) (now (out .entry)) at steps answer ⌝ }
 {
     match answer {
-        Answer::Done => put_steps(steps, out),
-        Answer::Refused(n) => put_refused(out, n),
+        Answer::Done => put_steps(steps, out, at),
+        Answer::Refused(n) => put_refused(out, at, n),
     }
 }
 
-fn put_listed(b: Bank, i: usize, heads: &[u64; 512], out: &mut [u8]) -> usize
-    requires { ⌜ longestList ≤ length (now out) ⌝ }
-    ensures { λ r. ⌜ WritesListed r (now (out .exit)) (now (out .entry)) b (now (heads .entry)) i ⌝ }
+fn put_listed(b: Bank, i: usize, heads: &[u64; 512], out: &mut [u8], at: usize) -> usize
+    requires { ⌜ at + longestList ≤ length (now out) ⌝ }
+    ensures { λ r. ⌜ WritesListed r (now (out .exit)) (now (out .entry)) at b (now (heads .entry)) i ⌝ }
 {
     let n = list_refusal(b, i, heads);
     if n != 0 {
-        return put_refused(out, n);
+        return put_refused(out, at, n);
     }
-    put_list(out, i, b.columns[i])
+    put_list(out, at, i, b.columns[i])
 }
 
-// The line's end is before `next`.
-fn perform_line(
-    b: Bank,
-    x: Step,
-    next: usize,
-    heads: &mut [u64; 512],
-    doors: &mut [u64; 512],
-    out: &mut [u8],
-) -> Run
-    requires { ⌜ longestList ≤ length (now out) ⌝ }
-    ensures { λ r. ⌜ Advanced r (now (heads .exit)) (now (doors .exit)) (now (out .exit)) (now (out .entry)) (stepReplied next (perform (state b (now (heads .entry)) (now (doors .entry))) x)) ⌝ }
+// The line that begins at `start`; a last piece without byte 10 is none of them.
+fn next_line(input: &[u8], start: usize) -> NextLine
+    requires { ⌜ start < length (now input) ⌝ }
+    ensures { λ r. ⌜ ReadsLine r (now (input .entry)) start ⌝ }
 {
-    let done = perform(b, x, heads, doors);
-    let answer = done.answer;
-    let length = put_step(answer, out);
-    run_to(done.bank, next, false, length)
-}
-
-fn dispatch_line(
-    b: Bank,
-    limit: usize,
-    next: usize,
-    heads: &mut [u64; 512],
-    doors: &mut [u64; 512],
-    out: &mut [u8],
-) -> Run
-    requires { ⌜ longestList ≤ length (now out) ⌝ }
-    ensures { λ r. ⌜ Advanced r (now (heads .exit)) (now (doors .exit)) (now (out .exit)) (now (out .entry)) (dispatchReplied next limit (state b (now (heads .entry)) (now (doors .entry)))) ⌝ }
-{
-    let done = dispatch(b, limit, heads, doors);
-    let answer = done.answer;
-    let length = put_dispatched(answer, done.steps, out);
-    run_to(done.bank, next, false, length)
-}
-
-fn answer_line(
-    b: Bank,
-    line: &[u8],
-    next: usize,
-    heads: &mut [u64; 512],
-    doors: &mut [u64; 512],
-    out: &mut [u8],
-) -> Run
-    requires { ⌜ longestList ≤ length (now out) ⌝ }
-    ensures { λ r. ⌜ Advanced r (now (heads .exit)) (now (doors .exit)) (now (out .exit)) (now (out .entry)) (replied next (answered (state b (now (heads .entry)) (now (doors .entry))) (commandOf (now (line .entry))))) ⌝ }
-{
-    match parse(line) {
-        Line::Perform(x) => perform_line(b, x, next, heads, doors, out),
-        Line::List(i) => {
-            let length = put_listed(b, i, heads, out);
-            run_to(b, next, false, length)
-        }
-        Line::Dispatch(limit) => dispatch_line(b, limit, next, heads, doors, out),
-        Line::Unread => {
-            let length = put_refused(out, 13);
-            run_to(b, next, false, length)
-        }
-    }
-}
-
-// The next line, or a last piece without byte 10.
-fn next_line(
-    r: Run,
-    input: &[u8],
-    heads: &mut [u64; 512],
-    doors: &mut [u64; 512],
-    out: &mut [u8],
-) -> Run
-    requires { ⌜ (longestList ≤ length (now out)) × (r .position < length (now input)) ⌝ }
-    ensures { λ q. ⌜ Advanced q (now (heads .exit)) (now (doors .exit)) (now (out .exit)) (now (out .entry)) (nextLine (now (input .entry)) (progressOf r (now (heads .entry)) (now (doors .entry)) (now (out .entry)))) ⌝ }
-{
-    let start = r.position;
     let end = find(input, start, input.len(), b'\n');
     if end == input.len() {
-        let length = put_refused(out, 13);
-        return run_to(r.bank, end, false, length);
+        return NextLine {
+            line: Line::Unread,
+            next: end,
+        };
     }
-    answer_line(r.bank, &input[start..end], end + 1, heads, doors, out)
+    let line = parse(&input[start..end]);
+    let next = end + 1;
+    NextLine { line, next }
 }
 
-// After the table.
+// After the table. The bank is a local all through the lines, so that a line that changes nothing copies nothing.
 fn later(
     r: Run,
     input: &[u8],
@@ -203,14 +148,38 @@ fn later(
     doors: &mut [u64; 512],
     out: &mut [u8],
 ) -> Run
-    requires { ⌜ longestList ≤ length (now out) ⌝ }
-    ensures { λ q. ⌜ Advanced q (now (heads .exit)) (now (doors .exit)) (now (out .exit)) (now (out .entry)) (laterAdvance (now (input .entry)) (progressOf r (now (heads .entry)) (now (doors .entry)) (now (out .entry)))) ⌝ }
+    requires { ⌜ bufferSize ≤ length (now out) ⌝ }
+    ensures { λ q. ⌜ Fills q (now (heads .exit)) (now (doors .exit)) (now (out .exit)) (now (input .entry)) r (state (r .bank) (now (heads .entry)) (now (doors .entry))) (now (out .entry)) ⌝ }
 {
-    if input.len() <= r.position {
-        let length = put_rest(r.bank, heads, doors, out);
-        return run_to(r.bank, r.position, true, length);
+    let mut bank = r.bank;
+    let mut position = r.position;
+    let mut at = r.length;
+    while at <= ROOM {
+        if input.len() <= position {
+            at = put_rest(bank, heads, doors, out, at);
+            return run_to(bank, position, true, at);
+        }
+        let read = next_line(input, position);
+        position = read.next;
+        let line = read.line;
+        match line {
+            Line::Perform(x) => {
+                let done = perform(bank, x, heads, doors);
+                let answer = done.answer;
+                at = put_step(answer, out, at);
+                bank = done.bank;
+            }
+            Line::Dispatch(limit) => {
+                let done = dispatch(bank, limit, heads, doors);
+                let answer = done.answer;
+                at = put_dispatched(answer, done.steps, out, at);
+                bank = done.bank;
+            }
+            Line::List(i) => at = put_listed(bank, i, heads, out, at),
+            Line::Unread => at = put_refused(out, at, 13),
+        }
     }
-    next_line(r, input, heads, doors, out)
+    run_to(bank, position, false, at)
 }
 
 fn first(r: Run, input: &[u8], out: &mut [u8]) -> Run
@@ -218,14 +187,14 @@ fn first(r: Run, input: &[u8], out: &mut [u8]) -> Run
     ensures { λ q. ⌜ AdvancedFirst q (now (out .exit)) (now (out .entry)) (now (input .entry)) r ⌝ }
 {
     if LIMIT < input.len() {
-        let length = put_refused(out, 13);
+        let length = put_refused(out, 0, 13);
         return run_to(r.bank, r.position, true, length);
     }
     let table = read_table(input);
     let answer = table.answer;
     match answer {
         Answer::Refused(n) => {
-            let length = put_refused(out, n);
+            let length = put_refused(out, 0, n);
             run_to(r.bank, r.position, true, length)
         }
         Answer::Done => {
@@ -259,24 +228,28 @@ pub fn start() -> Run
     }
 }
 
-// The run after its next text, which is the first `length` bytes of `out`; a run that is over has none left.
-pub fn advance(
+// The run after its next texts, which are the first `length` bytes of `out`: all, or as many until less room is left than the longest
+// takes; a run that is over has none left.
+pub fn fill(
     r: Run,
     input: &[u8],
     heads: &mut [u64; 512],
     doors: &mut [u64; 512],
-    out: &mut [u8; LONGEST],
+    out: &mut [u8; BUFFER],
 ) -> Run
-    ensures { λ q. ⌜ Advanced q (now (heads .exit)) (now (doors .exit)) (now (out .exit)) (now (out .entry)) (advance (now (input .entry)) (progressOf r (now (heads .entry)) (now (doors .entry)) (now (out .entry)))) ⌝ }
-    ensures { λ q. ⌜ q .length ≤ longestList ⌝ }
+    ensures { λ q. ⌜ Advanced q (now (heads .exit)) (now (doors .exit)) (now (out .exit)) (now (out .entry)) (fill (now (input .entry)) (progressOf r (now (heads .entry)) (now (doors .entry)) (now (out .entry)))) ⌝ }
 {
-    if r.over {
-        let mut done = r;
-        done.length = 0;
-        return done;
+    let mut run = r;
+    run.length = 0;
+    if run.over {
+        return run;
     }
-    if r.begun {
-        return later(r, input, heads, doors, out);
+    if run.begun {
+        return later(run, input, heads, doors, out);
     }
-    first(r, input, out)
+    let begun = first(run, input, out);
+    if begun.over {
+        return begun;
+    }
+    later(begun, input, heads, doors, out)
 }

@@ -1,5 +1,6 @@
 // Writers: each puts bytes into a lent buffer from a place on and answers the place after them.
-ghost use Prim.Native.Nat.{_+_, _≤_};
+ghost use Prim.Native.Nat.{_+_, _≤_, _<_};
+ghost use mathlib.Core.List.{[], _∷_};
 ghost use lib.Dec.{eqb};
 ghost use lib.ListN.{length};
 ghost use Rattle.closing.specs.Text.{decimal as Text·decimal, field};
@@ -19,13 +20,37 @@ pub fn put_all(out: &mut [u8], at: usize, bytes: &[u8]) -> usize
     at + i
 }
 
-pub fn put_number(out: &mut [u8], at: usize, n: u64) -> usize
+fn put_digit(out: &mut [u8], at: usize, digit: u64) -> usize
+    requires { ⌜ (at < length (now out)) × (digit < 10) ⌝ }
+    ensures { λ r. ⌜ Writes r (now (out .exit)) (now (out .entry)) at ((48 + digit) ∷ []) ⌝ }
+{
+    out[at] = 48 + (digit as u8);
+    at + 1
+}
+
+// Any number, by way of a small array.
+fn put_digits(out: &mut [u8], at: usize, n: u64) -> usize
     requires { ⌜ at + length (Text·decimal n) ≤ length (now out) ⌝ }
     ensures { λ r. ⌜ Writes r (now (out .exit)) (now (out .entry)) at (Text·decimal n) ⌝ }
 {
     let mut text = [0u8; 20];
     let k = decimal(n, &mut text);
     put_all(out, at, &text[..k])
+}
+
+// Nearly every number of a script has one or two digits.
+pub fn put_number(out: &mut [u8], at: usize, n: u64) -> usize
+    requires { ⌜ at + length (Text·decimal n) ≤ length (now out) ⌝ }
+    ensures { λ r. ⌜ Writes r (now (out .exit)) (now (out .entry)) at (Text·decimal n) ⌝ }
+{
+    if 100 <= n {
+        return put_digits(out, at, n);
+    }
+    if n < 10 {
+        return put_digit(out, at, n);
+    }
+    let units = put_digit(out, at, n / 10);
+    put_digit(out, units, n % 10)
 }
 
 // A number of a line that divides them by commas; the first of them stands at `start`.

@@ -33,11 +33,14 @@ pub fn lists_hold<'a>(up: &'a [usize; 16], first: &'a [usize; 16], n: usize) -> 
 }
 
 // Whether the climb from c meets the root before it has been at more places than there are columns. The climbs from the columns below c
-// have been seen to end, so this one ends where it comes to such a column.
+// have been seen to end, so this one ends where it comes to such a column: in most trees at once, since a parent is lower than its child.
 pub fn climbs_in(up: &[usize; 16], n: usize, root: usize, c: usize) -> bool
     requires { ⌜ (n ≤ 16) × ((c < n) × (ParentsBelow n (now up) × (every (climbsIn (treeOf n root (now up)) n) c ≡ true))) ⌝ }
     ensures { λ r. ⌜ r ≡ climbsIn (treeOf n root (now (up .entry))) n c ⌝ }
 {
+    if up[c] < c {
+        return true;
+    }
     let mut at = c;
     let mut budget = n;
     while 0 < budget {

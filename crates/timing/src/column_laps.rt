@@ -1,4 +1,4 @@
-// Laps of one step of a lone column.
+// Laps of one step of a lone column. The root is handed over, so that no column is known when the program is compiled.
 use crate::laps::fold;
 use crate::laps::heap;
 use column::packet::Number;
@@ -38,27 +38,35 @@ fn column(lap: u64, whole: bool) -> Column {
     }
 }
 
-fn ordered(lap: u64) -> Outcome {
-    order(tree(lap), 0, column(lap, true), lap)
+fn ordered(root: usize, lap: u64) -> Outcome
+    requires { ⌜ root < 8 ⌝ }
+{
+    order(tree(lap), root, column(lap, true), lap)
 }
 
-fn sent(lap: u64) -> Outcome {
+fn sent(root: usize, lap: u64) -> Outcome
+    requires { ⌜ root < 8 ⌝ }
+{
     let mut c = column(lap, true);
     c.send = 6;
-    send(tree(lap), 0, c)
+    send(tree(lap), root, c)
 }
 
-fn received(lap: u64) -> Outcome {
+fn received(root: usize, lap: u64) -> Outcome
+    requires { ⌜ root < 8 ⌝ }
+{
     let p = Packet::Message {
         from: 0,
         to: 1,
         number: 1000,
         doors: lap,
     };
-    take(tree(lap), 1, column(lap, false), p)
+    take(tree(lap), root + 1, column(lap, false), p)
 }
 
-fn ended(lap: u64) -> Outcome {
+fn ended(root: usize, lap: u64) -> Outcome
+    requires { ⌜ root < 8 ⌝ }
+{
     let mut c = column(lap, true);
     c.awaited = 6;
     let p = Packet::Acknowledgement {
@@ -66,46 +74,58 @@ fn ended(lap: u64) -> Outcome {
         to: 0,
         number: c.number,
     };
-    take(tree(lap), 0, c, p)
+    take(tree(lap), root, c, p)
 }
 
-fn acknowledged(lap: u64) -> Outcome {
+fn acknowledged(root: usize, lap: u64) -> Outcome
+    requires { ⌜ root < 8 ⌝ }
+{
     let mut c = column(lap, false);
     c.owed = 9;
-    ack(tree(lap), 2, c)
+    ack(tree(lap), root + 2, c)
 }
 
-fn took_over(lap: u64) -> Outcome {
+fn took_over(root: usize, lap: u64) -> Outcome
+    requires { ⌜ root < 8 ⌝ }
+{
     let mut c = column(lap, false);
     c.noted = 1;
-    all(tree(lap), 3, c)
+    all(tree(lap), root + 3, c)
 }
 
-fn noted(lap: u64) -> Outcome {
+fn noted(root: usize, lap: u64) -> Outcome
+    requires { ⌜ root < 8 ⌝ }
+{
     let mut c = column(lap, true);
     c.awaited = 6;
-    note(tree(lap), 0, c, 1)
+    note(tree(lap), root, c, root + 1)
 }
 
-fn halted(lap: u64) -> Outcome {
-    halt(tree(lap), 5, column(lap, false))
+fn halted(root: usize, lap: u64) -> Outcome
+    requires { ⌜ root < 8 ⌝ }
+{
+    halt(tree(lap), root + 5, column(lap, false))
 }
 
-fn refused(lap: u64) -> Outcome {
-    send(tree(lap), 0, column(lap, true))
+fn refused(root: usize, lap: u64) -> Outcome
+    requires { ⌜ root < 8 ⌝ }
+{
+    send(tree(lap), root, column(lap, true))
 }
 
-fn step(letter: u8, lap: u64) -> Outcome {
+fn step(letter: u8, root: usize, lap: u64) -> Outcome
+    requires { ⌜ root < 8 ⌝ }
+{
     match letter {
-        b'o' => ordered(lap),
-        b's' => sent(lap),
-        b'm' => received(lap),
-        b'e' => ended(lap),
-        b'a' => acknowledged(lap),
-        b'l' => took_over(lap),
-        b'n' => noted(lap),
-        b'h' => halted(lap),
-        _ => refused(lap),
+        b'o' => ordered(root, lap),
+        b's' => sent(root, lap),
+        b'm' => received(root, lap),
+        b'e' => ended(root, lap),
+        b'a' => acknowledged(root, lap),
+        b'l' => took_over(root, lap),
+        b'n' => noted(root, lap),
+        b'h' => halted(root, lap),
+        _ => refused(root, lap),
     }
 }
 
@@ -121,11 +141,13 @@ fn folded(sum: u64, c: Column) -> u64 {
     fold(sum, c.number as u64 + sets + flag(c.running))
 }
 
-pub fn run(letter: u8, laps: u64) -> u64 {
+pub fn run(letter: u8, root: usize, laps: u64) -> u64
+    requires { ⌜ root < 8 ⌝ }
+{
     let mut sum: u64 = 0;
     let mut lap: u64 = 0;
     while lap < laps {
-        let o = step(letter, lap);
+        let o = step(letter, root, lap);
         sum = folded(sum, o.column);
         lap += 1;
     }

@@ -16,16 +16,19 @@ fn main() {
     let mut input = [0u8; 32];
     io::read_full(STDIN_FILENO, &mut input);
     let letter = input[0];
+    // A space, and so column 0: what stands in the input no compiler knows.
+    let root = (input[1] % 8) as usize;
     let sum = match letter {
         b'N' | b'H' | b'S' | b'T' => bank_laps::run(
             letter,
+            root,
             number(&input[2..4]),
             number(&input[5..8]),
             number(&input[9..]),
         ),
         b'D' | b'F' | b'G' => dispatch_laps::run(letter, number(&input[2..])),
         b'f' => frame_laps::run(number(&input[2..])),
-        _ => column_laps::run(letter, number(&input[2..])),
+        _ => column_laps::run(letter, root, number(&input[2..])),
     };
     io::print_decimal(STDOUT_FILENO, sum);
     io::write_all(STDOUT_FILENO, b"\n");

@@ -1,87 +1,101 @@
-use borrow.Author.Needs.{needs}
-use Prim.Native.Nat.{_+_, _-_, _≤_}
-use mathlib.Core.Path.{_≡_, refl, ap, _∙_}
-use mathlib.Core.List.{_++_}
+use Prim.Native.Nat.{ℕ, _+_, _-_, _/_, _^_, _≤_, _<_}
+use mathlib.Core.Path.{_≡_, refl, sym, ap, _∙_}
+use mathlib.Core.List.{List, _++_}
+use native.Mathlib.Nat.{div-one}
 use native.Mathlib.Omega.{arith}
 use lib.Dec.{eqb}
 use lib.ListN.{length}
 use Rattle.closing.specs.Closing.{doorsUpTo, divided}
 use Rattle.closing.specs.Writing.{Writes, writes-none, room-rest, writes-more}
-use Rattle.closing.specs.DoorLaws.{doorText, noneBefore, doors-none, doors-more, doors-grow}
-use Rattle.closing.specs.DividedLaws.{moved}
+use Rattle.closing.specs.DoorLaws.{noneBefore, free, doors-none, doors-grow, doors-rest, door-within, doors-next, rest-next}
+use Rattle.closing.specs.DividedLaws.{nextText, moved}
 use Rattle.closing.proofs.list.put_doors.Statement.{statement}
 use Rattle.closing.proofs.list.put_doors.Tie as tie
 
 abbrev Inv-loop : tie.InvT-loop
-Inv-loop out₀ at doors next₀ d₀ out next d =
-    (d ≤ 64)
-    × (at + length (divided (doorsUpTo 64 doors)) ≤ length out₀)
+Inv-loop out₀ at doors next₀ door₀ rest₀ out next door rest =
+    (door ≤ 64)
+    × (rest ≡ doors / 2 ^ door)
     × (length out ≡ length out₀)
-    × Writes next out out₀ at (divided (doorsUpTo d doors))
+    × Writes next out out₀ at (divided (doorsUpTo door doors))
 
 abbrev μ-loop : tie.MeasureT-loop
-μ-loop out₀ at doors next₀ d₀ out next d = 64 - d
+μ-loop out₀ at doors next₀ door₀ rest₀ out next door rest = 64 - door
 
 -- one door more has room, and whether it is the first shows in the place
 module _ (c : tie.In-loop Inv-loop μ-loop) where
-  room : let a = c .before .before .before .args in
-      let d = c .before .loop .d in
-      a .at + length (divided (doorsUpTo d (a .doors)) ++ doorText (noneBefore (a .doors) d) (a .doors) d) ≤ length (a .out .now)
-  room =
-      let a = c .before .before .before .args in
-      let d = c .before .loop .d in
-      let whole : d + 1 + (64 - (d + 1)) ≡ 64 = omega arith in
-      rw (← doors-more (a .doors) d)
-      (omega (
-        arith,
-        c .before .loop .inv .1,
-        doors-grow (a .doors) (d + 1) (64 - (d + 1)),
-        ap (λ n. length (divided (doorsUpTo n (a .doors)))) whole,
-      ))
+  abbrev start : tie.Start Inv-loop μ-loop
+  start = c .before .before .before
 
-  first : let a = c .before .before .before .args in
-      eqb (c .before .loop .next) (a .at) ≡ noneBefore (a .doors) (c .before .loop .d)
-  first =
-      let a = c .before .before .before .args in
-      ap (λ k. eqb k (a .at)) (c .before .loop .inv .3 .place)
-      ∙ moved (a .at) (length (divided (doorsUpTo (c .before .loop .d) (a .doors))))
+  abbrev doors : ℕ
+  doors = start .args .doors
+
+  abbrev door : ℕ
+  door = c .before .loop .door
+
+  some : 0 < c .before .loop .rest
+  some = omega (arith, c .loop-test .taken)
+
+  abbrev is : c .before .loop .rest ≡ doors / 2 ^ door
+  is = c .before .loop .inv .1
+
+  abbrev next : ℕ
+  next = door + (free doors door (c .before .loop .rest) is + 1)
+
+  within : next ≤ 64
+  within = omega (arith, door-within doors door (c .before .loop .rest) is (start .fits .doors .fits) some)
+
+  abbrev text : List ℕ
+  text = nextText (noneBefore doors door) next
+
+  more : divided (doorsUpTo next doors) ≡ divided (doorsUpTo door doors) ++ text
+  more = doors-next doors door (c .before .loop .rest) is (start .fits .doors .fits) some
+
+  room : start .args .at + length (divided (doorsUpTo door doors) ++ text) ≤ length (start .args .out .now)
+  room =
+      let whole : next + (64 - next) ≡ 64 = omega (arith, within) in
+      rw (← more)
+      (omega (arith, start .pre, doors-grow doors next (64 - next), ap (λ n. length (divided (doorsUpTo n doors))) whole))
+
+  first : eqb (c .before .loop .next) (start .args .at) ≡ noneBefore doors door
+  first = ap (λ k. eqb k (start .args .at)) (c .before .loop .inv .3 .place) ∙ moved (start .args .at) (length (divided (doorsUpTo door doors)))
 
 loop-holds : tie.Need-loop-holds Inv-loop μ-loop
 loop-holds c =
     let a = c .before .args in
-    rw (doors-none (a .doors)) (omega arith, c .before .pre, refl, writes-none (a .out .now) (a .at))
+    rw (doors-none (a .doors)) (omega arith, sym (div-one (a .doors)), refl, writes-none (a .out .now) (a .at))
 
-put-door-requires : tie.Need-put-door-requires Inv-loop μ-loop
-put-door-requires c κs =
-    let l = c .before .before in
-    let a = l .before .before .args in
-    let d = l .loop .d in
-    let before = divided (doorsUpTo d (a .doors)) in
-    let text = doorText (noneBefore (a .doors) d) (a .doors) d in
-    rw (first (c .before)) (
-      room-rest before text (room (c .before)) (l .loop .inv .3) (l .loop .inv .2),
-      c .before .loop-test .taken,
-    )
+cast-free : tie.Need-cast-free Inv-loop μ-loop
+cast-free c = omega (arith, within c)
 
-add-d : tie.Need-add-d Inv-loop μ-loop
-add-d c = search needs
+add-door : tie.Need-add-door Inv-loop μ-loop
+add-door c = omega (arith, within c)
+
+add-door-2 : tie.Need-add-door-2 Inv-loop μ-loop
+add-door-2 c = omega (arith, within c)
+
+put-next-requires : tie.Need-put-next-requires Inv-loop μ-loop
+put-next-requires c κs =
+    let i = c .before in
+    let v = i .before .loop .inv in
+    rw (first i) (room-rest (divided (doorsUpTo (door i) (doors i))) (text i) (room i) (v .3) (v .2))
+
+shr-rest : tie.Need-shr-rest Inv-loop μ-loop
+shr-rest c = let i = c .before .before .before .before in omega (arith, within i)
 
 loop-less : tie.Need-loop-less Inv-loop μ-loop
-loop-less c = search needs
+loop-less c = let i = c .before .before .before .before in omega (arith, within i)
 
 loop-again : tie.Need-loop-again Inv-loop μ-loop
 loop-again c =
     let p = c .before .before in
     let i = p .before .before in
     let v = i .before .loop .inv in
-    let a = i .before .before .before .args in
-    let d = i .before .loop .d in
-    let q = rw (first i) at (p .put-door .ensures) in (
-      omega arith,
-      v .1,
-      p .put-door .kept .0 ∙ v .2,
-      rw (doors-more (a .doors) d)
-          (writes-more (divided (doorsUpTo d (a .doors))) (doorText (noneBefore (a .doors) d) (a .doors) d) (room i) (v .3) q),
+    let q = rw (first i) at (p .put-next .ensures) in (
+      within i,
+      rest-next (doors i) (door i) (i .before .loop .rest) (is i) (start i .fits .doors .fits) (some i),
+      p .put-next .kept .0 ∙ v .2,
+      rw (more i) (writes-more (divided (doorsUpTo (door i) (doors i))) (text i) (room i) (v .3) q),
     )
 
 same-length : tie.Need-same-length Inv-loop μ-loop
@@ -89,9 +103,23 @@ same-length c = c .before .loop .inv .2
 
 returns : tie.Need-returns Inv-loop μ-loop
 returns c =
-    let e : c .before .loop .d ≡ 64 = omega arith in
-    rw (← e) (c .before .loop .inv .3)
+    let l = c .before .loop in
+    let a = c .before .before .before .args in
+    rw (← doors-rest (a .doors) (l .door) (l .rest) (l .inv .1) (c .loop-test .left) (l .inv .0)) (l .inv .3)
 
 pub put-doors-spec : {M : Type 1} → statement M
 put-doors-spec =
-    tie.close (tie.spec Inv-loop μ-loop loop-holds put-door-requires add-d loop-less loop-again same-length returns)
+    tie.close
+    (tie.spec
+    Inv-loop
+    μ-loop
+    loop-holds
+    cast-free
+    add-door
+    add-door-2
+    put-next-requires
+    shr-rest
+    loop-less
+    loop-again
+    same-length
+    returns)

@@ -58,7 +58,7 @@ fourth c = c .before .before .before .before
 
 -- ---- after each text there is room for what follows
 
-room : (s : tie.Start) → 0 + length (field columnKey (s .args .i) ++ from-number (s .args .c)) ≤ length (s .args .out .now)
+room : (s : tie.Start) → s .args .at + length (field columnKey (s .args .i) ++ from-number (s .args .c)) ≤ length (s .args .out .now)
 unfolding listText
 room s =
     let number : s .args .c .number < 2 ^ 32 = search needs in

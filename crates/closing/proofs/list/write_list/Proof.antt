@@ -40,7 +40,7 @@ returns c =
 array-share-prefix-scratch : tie.Need-array-share-prefix-scratch
 array-share-prefix-scratch c =
     let p = c .before .before .before in
-    omega (arith, writes-within (p .put-list .ensures), p .put-list .kept .0)
+    omega (arith, writes-within (omega arith) (p .put-list .ensures), p .put-list .kept .0)
 
 slice-aggregate-put-all : tie.Need-slice-aggregate-put-all
 slice-aggregate-put-all c =

@@ -9,7 +9,7 @@ use Rattle.closing.specs.Writing.{room-first, room-rest, writes-more}
 use Rattle.closing.proofs.script.put_steps.Statement.{statement}
 use Rattle.closing.proofs.script.put_steps.Tie as tie
 
-room : (s : tie.Start) → 0 + length (stepsText (s .args .steps)) ≤ length (s .args .out .now)
+room : (s : tie.Start) → s .args .at + length (stepsText (s .args .steps)) ≤ length (s .args .out .now)
 room s = omega (arith, s .pre, steps-length (s .args .steps) (s .fits .steps .fits))
 
 abbrev start : tie.After-put-field → tie.Start

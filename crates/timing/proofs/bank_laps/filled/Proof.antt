@@ -4,10 +4,10 @@ use Rattle.timing.proofs.bank_laps.filled.Statement.{statement}
 use Rattle.timing.proofs.bank_laps.filled.Tie as tie
 
 abbrev Inv-loop : tie.InvT-loop
-Inv-loop packets heads₀ doors₀ d₀ k₀ heads doors d k = Unit {0}
+Inv-loop root packets heads₀ doors₀ d₀ k₀ heads doors d k = Unit {0}
 
 abbrev μ-loop : tie.MeasureT-loop
-μ-loop packets heads₀ doors₀ d₀ k₀ heads doors d k = packets - k
+μ-loop root packets heads₀ doors₀ d₀ k₀ heads doors d k = packets - k
 
 loop-holds : tie.Need-loop-holds Inv-loop μ-loop
 loop-holds c = search needs

@@ -4,16 +4,22 @@ use Rattle.timing.proofs.bank_laps.halts.Statement.{statement}
 use Rattle.timing.proofs.bank_laps.halts.Tie as tie
 
 abbrev Inv-loop : tie.InvT-loop
-Inv-loop b set laps heads₀ doors₀ sum₀ lap₀ heads doors sum lap = Unit {0}
+Inv-loop b root set laps heads₀ doors₀ sum₀ lap₀ heads doors sum lap = Unit {0}
 
 abbrev μ-loop : tie.MeasureT-loop
-μ-loop b set laps heads₀ doors₀ sum₀ lap₀ heads doors sum lap = laps - lap
+μ-loop b root set laps heads₀ doors₀ sum₀ lap₀ heads doors sum lap = laps - lap
 
 loop-holds : tie.Need-loop-holds Inv-loop μ-loop
 loop-holds c = search needs
 
+mul-c : tie.Need-mul-c Inv-loop μ-loop
+mul-c c = search needs
+
 element-copy-out-c : tie.Need-element-copy-out-c Inv-loop μ-loop
 element-copy-out-c c = search needs
+
+mul-c-2 : tie.Need-mul-c-2 Inv-loop μ-loop
+mul-c-2 c = search needs
 
 element-set-from-c : tie.Need-element-set-from-c Inv-loop μ-loop
 element-set-from-c c = search needs
@@ -46,7 +52,9 @@ halts-spec =
     Inv-loop
     μ-loop
     loop-holds
+    mul-c
     element-copy-out-c
+    mul-c-2
     element-set-from-c
     halt-requires
     element-copy-out-folded

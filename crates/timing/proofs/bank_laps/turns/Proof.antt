@@ -4,10 +4,10 @@ use Rattle.timing.proofs.bank_laps.turns.Statement.{statement}
 use Rattle.timing.proofs.bank_laps.turns.Tie as tie
 
 abbrev Inv-loop : tie.InvT-loop
-Inv-loop laps heads₀ doors₀ d₀ sum₀ lap₀ heads doors d sum lap = Unit {0}
+Inv-loop root laps heads₀ doors₀ d₀ sum₀ lap₀ heads doors d sum lap = Unit {0}
 
 abbrev μ-loop : tie.MeasureT-loop
-μ-loop laps heads₀ doors₀ d₀ sum₀ lap₀ heads doors d sum lap = laps - lap
+μ-loop root laps heads₀ doors₀ d₀ sum₀ lap₀ heads doors d sum lap = laps - lap
 
 loop-holds : tie.Need-loop-holds Inv-loop μ-loop
 loop-holds c = search needs

@@ -4,10 +4,10 @@ use Rattle.timing.proofs.column_laps.run.Statement.{statement}
 use Rattle.timing.proofs.column_laps.run.Tie as tie
 
 abbrev Inv-loop : tie.InvT-loop
-Inv-loop letter laps sum₀ lap₀ sum lap = Unit {0}
+Inv-loop letter root laps sum₀ lap₀ sum lap = Unit {0}
 
 abbrev μ-loop : tie.MeasureT-loop
-μ-loop letter laps sum₀ lap₀ sum lap = laps - lap
+μ-loop letter root laps sum₀ lap₀ sum lap = laps - lap
 
 loop-holds : tie.Need-loop-holds Inv-loop μ-loop
 loop-holds c = search needs
