@@ -14,6 +14,8 @@ static bool fits(const struct bank *b, uint16_t halted, size_t j) { return b->co
 static bool can_send(const struct bank *b, uint16_t halted, size_t i, const struct column *c) {
     if (!c->send)
         return false;
+    if (b->count < CAPACITY)
+        return true;
     size_t k = earliest(&b->tree, c->send);
     return k == i || has(c->noted, k) || fits(b, halted, k);
 }
@@ -22,23 +24,32 @@ static bool can_ack(const struct bank *b, uint16_t halted, size_t i, const struc
     return may_ack(&b->tree, i, c) && fits(b, halted, (size_t)__builtin_ctz(c->owed));
 }
 
-/* The first step that would be accepted, or the take of the oldest packet. */
-static struct step next_step(const struct bank *b, uint16_t halted) {
-    for (size_t i = 0; i < b->tree.columns; i++) {
-        const struct column *c = &b->columns[i];
-        uint16_t new = halted & ~c->noted;
-        if (!c->running)
-            continue;
-        if (new)
-            return (struct step){NOTE, i, (size_t)__builtin_ctz(new)};
-        if (can_send(b, halted, i, c))
-            return (struct step){SEND, i, 0};
-        if (can_ack(b, halted, i, c))
-            return (struct step){ACK, i, 0};
-        if (may_all(&b->tree, i, c))
-            return (struct step){ALL, i, 0};
-    }
-    return (struct step){TAKE, b->packets[0].to % 16, 0};
+/* What column i does, or the take of the oldest packet where it can do nothing. */
+static struct step step_of(const struct bank *b, uint16_t halted, size_t i) {
+    const struct column *c = &b->columns[i];
+    uint16_t new = halted & ~c->noted;
+    struct step take = {TAKE, b->packets[0].to % 16, 0};
+    if (!c->running)
+        return take;
+    if (new)
+        return (struct step){NOTE, i, (size_t)__builtin_ctz(new)};
+    if (can_send(b, halted, i, c))
+        return (struct step){SEND, i, 0};
+    if (can_ack(b, halted, i, c))
+        return (struct step){ACK, i, 0};
+    if (may_all(&b->tree, i, c))
+        return (struct step){ALL, i, 0};
+    return take;
+}
+
+/* Column i as a set where it can do anything, else the empty set. */
+static uint16_t ready(const struct bank *b, uint16_t halted, size_t i) { return (uint16_t)((step_of(b, halted, i).kind != TAKE) << i); }
+
+static uint16_t ready_columns(const struct bank *b, uint16_t halted) {
+    uint16_t set = 0;
+    for (size_t i = 0; i < b->tree.columns; i++)
+        set |= ready(b, halted, i);
+    return set;
 }
 
 static uint8_t perform(struct bank *b, struct step x) {
@@ -74,14 +85,17 @@ uint8_t bank_dispatch(struct bank *b, size_t limit, bool thorough, size_t *steps
     uint8_t refusal = bank_refusal(b);
     if (refusal)
         return refusal;
-    uint16_t halted = halted_columns(b);
-    while (*steps < limit) {
-        struct step x = next_step(b, halted);
+    uint16_t halted = halted_columns(b), set = ready_columns(b, halted);
+    while (*steps < limit && (set || b->count)) {
+        bool full = b->count == CAPACITY;
+        struct step x = step_of(b, halted, set ? (size_t)__builtin_ctz(set) : 0);
         if (thorough ? perform(b, x) : perform_standing(b, x))
             break;
         ++*steps;
         if (!thorough && !still_stands(b, halted, x.i))
             break;
+        bool same = full == (b->count == CAPACITY);
+        set = same ? (uint16_t)(set & ~(1u << x.i)) | ready(b, halted, x.i) : ready_columns(b, halted);
     }
     return 0;
 }

@@ -35,7 +35,7 @@ use Rattle.bank.specs.Steps.{Outcome, accepted, refused, answered, outco
 use Rattle.bank.specs.Performs.{perform}
 use Rattle.bank.specs.StepLaws.{accepted-words, refused-words, fits, put-halted, put-running, put-full, put-count, takesOff, settled-off, acted-refused, acted-settled}
 use Rattle.bank.specs.Steady.{Steady, steady-cond, steady-send, steady-take, Aimed, aimed-unless, aimed-send, aimed-ack, aimed-take}
-use Rattle.bank.specs.Changes.{Becomes, stored, changed, changeBy, Stores, Lit, isOwn, coreStep}
+use Rattle.bank.specs.Changes.{Becomes, stored, changed, changeBy, Lit, isOwn, coreStep}
 use Rattle.bank.specs.Rest.{isRefused}
 use Rattle.bank.specs.Offers.{isRefusal}
 use Rattle.bank.specs.Places.{acts}
@@ -156,17 +156,6 @@ module _ (b : Bank) (i : ℕ) (heads doors : List ℕ) (place : ℕ) (c : Column
           → changeBy x b (stored b i r) h d ≡ settled gone gone i (core.answered c a)
       go Done z = z
       go (Refused n) z = absurd (true≢false (ap isRefused (z ∙ accepted-off a e .1)))
-
--- ---- stored
-
-module _ (z : Result) (b : Bank) (i : ℕ) (r : Change) where
-  pub stores-refused : {n : ℕ} → r .answer ≡ Refused n → answered (z .answer) (z .bank) ≡ refused n b → Stores z b i r
-  stores-refused {n} e k heads doors =
-      refused-words z b heads doors n k ∙ ap (λ (a : Answer). changeBy a b (stored b i r) heads doors) (sym e)
-
-  pub stores-done : r .answer ≡ Done → answered (z .answer) (z .bank) ≡ accepted (stored b i r) → Stores z b i r
-  stores-done e k heads doors =
-      accepted-words z (stored b i r) heads doors k ∙ ap (λ (a : Answer). changeBy a b (stored b i r) heads doors) (sym e)
 
 -- ---- the core's step in a bank that stands
 

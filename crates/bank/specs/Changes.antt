@@ -47,9 +47,6 @@ changeBy (Refused n) before after heads doors = refused n (state before heads do
 abbrev pub changed : Bank → ℕ → Change → List ℕ → List ℕ → Outcome State
 changed b i r heads doors = changeBy (r .answer) b (stored b i r) heads doors
 
-abbrev pub Stores : Result → Bank → ℕ → Change → Type 0
-Stores z b i r = (heads doors : List ℕ) → outcome z heads doors ≡ changed b i r heads doors
-
 -- ---- what a function is handed of a bank
 
 -- the set has who runs

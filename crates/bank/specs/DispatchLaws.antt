@@ -2,12 +2,13 @@
 -- packet is under way. A bank that stands takes its packets, unless its network is full. Assumes nothing.
 use Prim.Native.Nat.{ℕ, zero, suc, _<_}
 use mathlib.Core.Path.{_≡_, refl, sym, ap, ap₂, _∙_}
+use mathlib.Core.Logic.{_⊎_, inl, inr, ⊎-elim}
 use mathlib.Core.Bool.{Bool, true, false, not, _&&_, _||_, cond, and-true, and-false, and-assoc, true≢false}
 use mathlib.Core.List.{List, [], _∷_, _++_}
 use native.Mathlib.Omega.{arith}
 use lib.Dec.{eqb, leb}
 use borrow.Author.Tests.{eq-eqb, ne-eqb, eqb-true, lt-leb, le-leb}
-use Rattle.column.specs.Cases.{and-left, and-right}
+use Rattle.column.specs.Cases.{truth, and-left, and-right}
 use Rattle.column.specs.Refusals.{first}
 use Rattle.column.specs.RefusalLaws.{passed, earlier-none}
 use Rattle.column.specs.Trees.{every}
@@ -23,8 +24,9 @@ use Rattle.bank.specs.Rest.{isRefused, quiet, atRest}
 use Rattle.bank.specs.RestSteps.{refused-exactly}
 use Rattle.bank.specs.Exact.{raised, overfull}
 use Rattle.bank.specs.Dispatch.{offers, offered, firstAccepted, turn}
+use Rattle.bank.specs.Quick.{isTake}
 use Rattle.bank.specs.declared.step.Step.{Step}
-use Rattle.bank.specs.declared.step.Step.the-variants.{Send, Take, Ack, All, Note}
+use Rattle.bank.specs.declared.step.Step.the-variants.{Order, Send, Take, Ack, All, Note, Halt, Back, Write}
 
 -- ---- a turn that is refused
 
@@ -88,15 +90,15 @@ module _ (s : State) where
   turn-refused = first-refused (offered s n) (Take 0) ∙ ap (λ (b : Bool). b && isRefused (take s 0)) (all-offered n)
 
   -- "10: take at a place not below the packet count"
-  none-taken : s .bank .count ≡ 0 → isRefused (take s 0) ≡ true
-  none-taken e = rw (ne-eqb (takeRefusal s 0) 0 (λ z.
-      let p = passed ((10, leb (s .bank .count) 0) ∷ []) tt (earlier-none (bankRefusal s) (first ((10, leb (s .bank .count) 0) ∷ [])) z .1) in
-      true≢false (sym (le-leb (s .bank .count) 0 (omega (arith, e))) ∙ p .0))) refl
+  none-taken : s .bank .count ≡ 0 → (place : ℕ) → isRefused (take s place) ≡ true
+  none-taken e place = rw (ne-eqb (takeRefusal s place) 0 (λ z.
+      let p = passed ((10, leb (s .bank .count) place) ∷ []) tt (earlier-none (bankRefusal s) (first ((10, leb (s .bank .count) place) ∷ [])) z .1) in
+      true≢false (sym (le-leb (s .bank .count) place (omega (arith, e))) ∙ p .0))) refl
 
   pub rest-stops : atRest s ≡ true → isRefused (perform s (turn s)) ≡ true
   unfolding atRest
   rest-stops e = turn-refused
-      ∙ ap₂ _&&_ (and-right (eqb (s .bank .count) 0) _ e) (none-taken (eqb-true (s .bank .count) 0 (and-left (eqb (s .bank .count) 0) _ e)))
+      ∙ ap₂ _&&_ (and-right (eqb (s .bank .count) 0) _ e) (none-taken (eqb-true (s .bank .count) 0 (and-left (eqb (s .bank .count) 0) _ e)) 0)
 
   pub stops-rest : s .bank .count ≡ 0 → isRefused (perform s (turn s)) ≡ true → atRest s ≡ true
   unfolding atRest
@@ -104,6 +106,43 @@ module _ (s : State) where
 
   pub stops-taken : isRefused (perform s (turn s)) ≡ true → isRefused (take s 0) ≡ true
   stops-taken e = and-right (every quietOrHalted n) _ (sym turn-refused ∙ e)
+
+  -- a turn's step is the other one, or is accepted
+  first-taken : (xs : List Step) (other : Step) → (firstAccepted s xs other ≡ other) ⊎ (isRefused (perform s (firstAccepted s xs other)) ≡ false)
+  unfolding firstAccepted
+  first-taken [] other = inl refl
+  first-taken (x ∷ xs) other = go (isRefused (perform s x)) refl (first-taken xs other)
+    where
+      go : (b : Bool) → isRefused (perform s x) ≡ b
+          → (firstAccepted s xs other ≡ other) ⊎ (isRefused (perform s (firstAccepted s xs other)) ≡ false)
+          → (cond b (firstAccepted s xs other) x ≡ other) ⊎ (isRefused (perform s (cond b (firstAccepted s xs other) x)) ≡ false)
+      go true e h = h
+      go false e h = inr e
+
+  module _ (none : s .bank .count ≡ 0) where
+    take-refused : (x : Step) → isTake x ≡ true → isRefused (perform s x) ≡ true
+    unfolding perform
+    take-refused (Order doors) e = absurd (true≢false (sym e))
+    take-refused (Send i) e = absurd (true≢false (sym e))
+    take-refused (Take place) e = none-taken none place
+    take-refused (Ack i) e = absurd (true≢false (sym e))
+    take-refused (All i) e = absurd (true≢false (sym e))
+    take-refused (Note i j) e = absurd (true≢false (sym e))
+    take-refused (Halt m) e = absurd (true≢false (sym e))
+    take-refused (Back j) e = absurd (true≢false (sym e))
+    take-refused (Write i offset value) e = absurd (true≢false (sym e))
+
+    -- where no packet is under way, the bank is at rest exactly where the turn's step is a take
+    pub take-rests : isTake (turn s) ≡ atRest s
+    unfolding turn
+    take-rests = go (isTake (turn s)) refl
+      where
+        go : (b : Bool) → isTake (turn s) ≡ b → b ≡ atRest s
+        go true e = sym (stops-rest none (take-refused (turn s) e))
+        go false e =
+            let goes : isRefused (perform s (turn s)) ≡ false =
+            ⊎-elim (λ z. absurd (true≢false (sym (ap isTake z) ∙ e))) (λ z. z) (first-taken (offered s n) (Take 0)) in
+            sym (⊎-elim (λ r. absurd (true≢false (sym (rest-stops r) ∙ goes))) (λ r. r) (truth (atRest s)))
 
 -- ---- the take of a packet
 

@@ -4,7 +4,7 @@ use Prim.Native.Nat.{ℕ, zero, suc, _+_, _-_, _≤_, _<_}
 use mathlib.Core.Path.{_≡_, refl, sym, ap, _∙_}
 use mathlib.Core.Logic.{_⊎_, inl, inr, ⊎-elim}
 use mathlib.Core.Bool.{true, true≢false}
-use mathlib.Core.List.{List, [], _∷_, _++_}
+use mathlib.Core.List.{List, [], _∷_, _++_, append-nil}
 use native.Mathlib.Numerals.{add-one}
 use native.Mathlib.Omega.{arith}
 use lib.ListN.{length, getD, set, replicate, length-append, List·getD-eq-default, List·getD-append}
@@ -18,6 +18,7 @@ use Rattle.column.specs.TreeLaws.{check-exact, tree-sixteen}
 use Rattle.column.specs.Columns.{fresh, stateRefusal}
 use Rattle.column.specs.StateLaws.{sound-passes}
 use Rattle.column.specs.declared.tree.Tree.{Tree}
+use Rattle.column.specs.declared.state.Column.{Column}
 use Rattle.bank.specs.Banks.{state, noColumn, columnAt, places, freshPlace, freshColumns, freshBank}
 use Rattle.bank.specs.StandingLaws.{Stands}
 use Rattle.bank.specs.declared.bank.Bank.{Bank}
@@ -51,19 +52,46 @@ module _ {A : Type 0} (f : ℕ → A) where
 
 -- ---- the bank on the way to the fresh one: the places below i hold their columns
 
+abbrev placed : Tree → List Column → Bank
+placed t l = record { tree = t; columns = l; count = 0 }
+
 abbrev pub partlyFresh : Tree → ℕ → Bank
-partlyFresh t i = record { tree = t; columns = places (freshPlace t) i ++ replicate (16 - i) noColumn; count = 0 }
+partlyFresh t i = placed t (places (freshPlace t) i ++ replicate (16 - i) noColumn)
 
 -- ---- the fresh bank
 
 module _ (t : Tree) (e : treeRefusal t ≡ 0) where
-  fresh-place : (i : ℕ) → i < t .columns → freshPlace t i ≡ fresh t i
+  pub fresh-place : (i : ℕ) → i < t .columns → freshPlace t i ≡ fresh t i
   unfolding freshPlace
   fresh-place i h = rw (eq-eqb (treeRefusal t) 0 e, lt-leb (t .columns) i h)
 
   unused-place : (i : ℕ) → t .columns ≤ i → freshPlace t i ≡ noColumn
   unfolding freshPlace
   unused-place i h = rw (eq-eqb (treeRefusal t) 0 e, le-leb (t .columns) i h)
+
+  unused-more : (i : ℕ) → t .columns ≤ i → i < 16
+      → places (freshPlace t) i ++ replicate (16 - i) noColumn ≡ places (freshPlace t) (i + 1) ++ replicate (16 - (i + 1)) noColumn
+  unfolding places
+  unused-more i h l =
+      let z : 16 - i ≡ suc (16 - (i + 1)) = omega (arith, l) in
+      ap (λ (k : ℕ). places (freshPlace t) i ++ replicate k noColumn) z
+      ∙ sym (append-snoc (places (freshPlace t) i) noColumn (replicate (16 - (i + 1)) noColumn))
+      ∙ ap (λ (c : Column). (places (freshPlace t) i ++ (c ∷ [])) ++ replicate (16 - (i + 1)) noColumn) (sym (unused-place i h))
+      ∙ rw (add-one i)
+
+  -- the places past the last column are held already
+  rest-unused : (k i : ℕ) → t .columns ≤ i → i + k ≡ 16 → partlyFresh t i ≡ partlyFresh t 16
+  rest-unused zero i h e =
+      let z : i ≡ 16 = omega (arith, e) in
+      ap (partlyFresh t) z
+  rest-unused (suc k) i h e =
+      let z : i + 1 + k ≡ 16 = omega (arith, e) in
+      ap (placed t) (unused-more i h (omega (arith, e))) ∙ rest-unused k (i + 1) (omega (arith, h)) z
+
+  pub fresh-whole : partlyFresh t (t .columns) ≡ freshBank t
+  fresh-whole =
+      let z : t .columns + (16 - t .columns) ≡ 16 = omega (arith, tree-sixteen t e) in
+      rest-unused (16 - t .columns) (t .columns) (omega arith) z ∙ ap (placed t) (append-nil (freshColumns t))
 
   pub fresh-at : (i : ℕ) → i < t .columns → columnAt (freshBank t) i ≡ fresh t i
   fresh-at i h = places-at (freshPlace t) 16 i noColumn (omega (arith, tree-sixteen t e)) ∙ fresh-place i h

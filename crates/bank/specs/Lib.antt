@@ -44,5 +44,8 @@ pub mod QuickLaws
 pub mod QuickTurn
 pub mod Offers
 pub mod ChangeLaws
+pub mod SurveyLaws
+pub mod ReadyTurn
+pub mod ReadyLaws
 pub mod TurnLaws
 pub mod QuickSteps

@@ -71,3 +71,8 @@ pub record Kept (member : ℕ → Bool) (count k : ℕ) (heads doors heads' door
   pub many : k ≡ length (keeping (elsewhere member) (take count heads) (take count heads))
   pub heads-are : heads' ≡ partly (elsewhere member) heads heads count
   pub doors-are : doors' ≡ partly (elsewhere member) heads doors count
+
+-- of `count` packets so many are left: said of every bank of which these are the words
+abbrev pub Vanishes : (ℕ → Bool) → ℕ → ℕ → List ℕ → List ℕ → List ℕ → List ℕ → Type 0
+Vanishes member count kept heads doors heads' doors' =
+    (b : Bank) → state (counting b kept) heads' doors' ≡ vanished (state (counting b count) heads doors) member

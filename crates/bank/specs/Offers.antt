@@ -1,31 +1,16 @@
--- What the functions of the dispatcher answer, and the step of the columns from i on. Assumes nothing.
-use Prim.Native.Nat.{ℕ, suc, _+_, _-_, _<_}
-use mathlib.Core.Path.{_≡_, sym, ap, _∙_}
-use mathlib.Core.Bool.{Bool, true, false, cond}
-use native.Mathlib.Omega.{arith}
+-- What a column does, and the other step where it can do nothing. Assumes nothing.
+use Prim.Native.Nat.{ℕ}
+use mathlib.Core.Path.{_≡_, refl}
+use mathlib.Core.Bool.{Bool, true, false, not, cond}
 use lib.Dec.{eqb}
 use Rattle.column.specs.Sets.{lowest, minus}
-use Rattle.column.specs.Steps as core
 use Rattle.column.specs.declared.tree.Tree.{Tree}
 use Rattle.column.specs.declared.state.Column.{Column}
-use Rattle.bank.specs.Banks.{columnAt}
-use Rattle.bank.specs.RestSteps as few
-use Rattle.bank.specs.Quick.{canSend, canAck, canTakeOver, stepOf, stepFrom}
-use Rattle.bank.specs.declared.bank.Bank.{Bank}
+use Rattle.bank.specs.Quick.{canSend, canAck, canTakeOver, stepOf, isTake, isReady}
 use Rattle.bank.specs.declared.bank.Answer.{Answer}
 use Rattle.bank.specs.declared.bank.Answer.the-variants.{Done, Refused}
-use Rattle.bank.specs.declared.dispatch.Offer.{Offer}
-use Rattle.bank.specs.declared.dispatch.Offer.the-variants.{Is, Nothing}
 use Rattle.bank.specs.declared.step.Step.{Step}
-use Rattle.bank.specs.declared.step.Step.the-variants.{Send, Ack, All, Note}
-
--- the step of an offer, and the other where there is none
-abbrev pub offerMeant : Offer → Step → Step
-offerMeant (Is x) other = x
-offerMeant Nothing other = other
-
-pub record Offers (o : Offer) (t : Tree) (full : Bool) (halted i : ℕ) (c : Column) : Type 0 where
-  pub step-is : (other : Step) → offerMeant o other ≡ stepOf t full halted i c other
+use Rattle.bank.specs.declared.step.Step.the-variants.{Send, Take, Ack, All, Note}
 
 abbrev pub isRefusal : Answer → Bool
 isRefusal Done = false
@@ -40,21 +25,19 @@ unfolding stepOf
 step-is t full halted i c other e f g h k =
     λ x. cond (e x) (cond (f x) (cond (g x) (Send i) (cond (h x) (Ack i) (cond (k x) (All i) other))) (Note i (lowest (minus halted (c .noted))))) other
 
--- from column i of n on: what it offers, or what those after it do
-module _ (b : Bank) (full : Bool) (halted i n : ℕ) (o : Offer) (k : Offers o (b .tree) full halted i (columnAt b i)) (l : i < n) where
-  abbrev after : Step
-  after = stepFrom b full halted (i + 1) (n - (i + 1))
-
-  more : stepFrom b full halted i (n - i) ≡ offerMeant o after
-  unfolding stepFrom
-  more =
-      let e : n - i ≡ suc (n - (i + 1)) = omega arith in
-      let f : suc i ≡ i + 1 = omega arith in
-      ap (stepFrom b full halted i) e
-      ∙ ap (λ (j : ℕ). stepOf (b .tree) full halted i (columnAt b i) (stepFrom b full halted j (n - (i + 1)))) f ∙ sym (k .step-is after)
-
-  pub from-offer : (x : Step) → o ≡ Is x → stepFrom b full halted i (n - i) ≡ x
-  from-offer x e = more ∙ ap (λ (y : Offer). offerMeant y after) e
-
-  pub from-next : o ≡ Nothing → stepFrom b full halted i (n - i) ≡ after
-  from-next e = more ∙ ap (λ (y : Offer). offerMeant y after) e
+-- the other step is taken where it can do nothing
+pub step-other : (t : Tree) (full : Bool) (halted i : ℕ) (c : Column) (other : Step)
+    → stepOf t full halted i c other ≡ cond (isReady t full halted i c) (stepOf t full halted i c (Take 0)) other
+unfolding stepOf
+step-other t full halted i c other =
+    go (c .running) (eqb (minus halted (c .noted)) 0) (canSend t full halted i c) (canAck t full halted i c) (canTakeOver t i c)
+  where
+    go : (r z s a w : Bool)
+        → let chosen : Step → Step = λ o. cond r (cond z (cond s (Send i) (cond a (Ack i) (cond w (All i) o))) (Note i (lowest (minus halted (c .noted))))) o in
+        chosen other ≡ cond (not (isTake (chosen (Take 0)))) (chosen (Take 0)) other
+    go false z s a w = refl
+    go true false s a w = refl
+    go true true true a w = refl
+    go true true false true w = refl
+    go true true false false true = refl
+    go true true false false false = refl

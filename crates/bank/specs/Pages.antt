@@ -36,6 +36,10 @@ abbrev pub write : State → ℕ → ℕ → ℕ → Outcome State
 write s i offset value =
     unless (writeRefusal s i offset) s (accepted (withColumn s i (core.written (columnAt (s .bank) i) offset value)))
 
+-- what is answered, whatever the doors under way, which a write keeps
+abbrev pub Writes : Result → Bank → List ℕ → ℕ → ℕ → ℕ → Type 0
+Writes r b heads i offset value = (doors : List ℕ) → outcome r heads doors ≡ write (state b heads doors) i offset value
+
 -- ---- the line of a column
 
 -- the values of each case of `Line`

@@ -1,8 +1,8 @@
 -- The step of a turn, found by sets alone: in a bank that stands it is the dispatcher's, by `quick-turn` of QuickLaws.
 use Prim.Native.Nat.{ℕ, zero, suc}
-use mathlib.Core.Bool.{Bool, not, _&&_, _||_, cond}
+use mathlib.Core.Bool.{Bool, true, false, not, _&&_, _||_, cond}
 use lib.Dec.{eqb, ltb}
-use Rattle.column.specs.Sets.{has, minus, lowest}
+use Rattle.column.specs.Sets.{has, minus, lowest, selected}
 use Rattle.column.specs.Trees.{choose}
 use Rattle.column.specs.Columns.{idle, watched, mayAcknowledge}
 use Rattle.column.specs.declared.tree.Tree.{Tree}
@@ -38,6 +38,17 @@ stepOf t full halted i c other =
     (Note i (lowest new)))
     other
 
+abbrev pub isTake : Step → Bool
+isTake (Order doors) = false
+isTake (Send i) = false
+isTake (Take place) = true
+isTake (Ack i) = false
+isTake (All i) = false
+isTake (Note i j) = false
+isTake (Halt m) = false
+isTake (Back j) = false
+isTake (Write i offset value) = false
+
 -- the same for k columns from i on
 unfoldable pub stepFrom : Bank → Bool → ℕ → ℕ → ℕ → Step
 stepFrom b full halted i zero = Take 0
@@ -45,6 +56,14 @@ stepFrom b full halted i (suc k) = stepOf (b .tree) full halted i (columnAt b i)
 
 abbrev pub isFull : Bank → Bool
 isFull b = not (ltb (b .count) capacity)
+
+-- column i, which is c, can do anything
+abbrev pub isReady : Tree → Bool → ℕ → ℕ → Column → Bool
+isReady t full halted i c = not (isTake (stepOf t full halted i c (Take 0)))
+
+-- the columns that can do anything
+abbrev pub readyOf : Bank → ℕ
+readyOf b = selected (λ i. isReady (b .tree) (isFull b) (haltedOf b) i (columnAt b i)) (b .tree .columns)
 
 abbrev pub quickTurn : Bank → Step
 quickTurn b = stepFrom b (isFull b) (haltedOf b) 0 (b .tree .columns)

@@ -3,14 +3,14 @@
 use Prim.Native.Nat.{ℕ, zero, suc, _+_, _-_, _≤_, _<_}
 use native.Mathlib.Omega.{arith}
 use mathlib.Core.Path.{_≡_, refl, sym, ap, subst, _∙_}
-use mathlib.Core.Bool.{Bool, true, false, cond, true≢false}
+use mathlib.Core.Bool.{Bool, true, false, not, _&&_, _||_, true≢false}
 use mathlib.Core.List.{List}
-use lib.Dec.{eqb}
+use lib.Dec.{eqb, ltb}
 use lib.ListN.{length, getD}
-use borrow.Author.Tests.{eqb-true}
+use borrow.Author.Tests.{eqb-true, ltb-true, ltb-false}
 use Rattle.column.specs.TreeLaws.{tree-sixteen}
 use Rattle.column.specs.declared.tree.Tree.{Tree}
-use Rattle.bank.specs.Banks.{State, state, runs, bankRefusal}
+use Rattle.bank.specs.Banks.{State, state, columnAt, runs, runningOf, bankRefusal}
 use Rattle.bank.specs.Standing.{stillStands}
 use Rattle.bank.specs.StandingLaws.{stands}
 use Rattle.bank.specs.StandingOn.{room-on, tree-on, runs-on, actor-on, stands-on}
@@ -19,11 +19,14 @@ use Rattle.bank.specs.Performs.{perform}
 use Rattle.bank.specs.Unchanged.{unchanged}
 use Rattle.bank.specs.Rest.{isRefused}
 use Rattle.bank.specs.RestSteps.{broken-refused}
+use Rattle.bank.specs.Changes.{Handed}
+use Rattle.bank.specs.ChangeLaws.{lit-running}
 use Rattle.bank.specs.Places.{acts}
 use Rattle.bank.specs.Dispatch.{turn, dispatched, dispatch}
-use Rattle.bank.specs.Quick.{quickTurn, actingIn}
+use Rattle.bank.specs.Quick.{readyOf, quickTurn, actingIn}
 use Rattle.bank.specs.QuickTurn.{quick-turn}
-use Rattle.bank.specs.TurnLaws.{Turning, turning}
+use Rattle.bank.specs.ReadyTurn.{ready-none}
+use Rattle.bank.specs.TurnLaws.{Turning, turning, turn-none}
 use Rattle.bank.specs.Offers.{isRefusal}
 use Rattle.bank.specs.Dispatches.{Dispatches, Ended}
 use Rattle.bank.specs.declared.bank.Bank.{Bank}
@@ -67,6 +70,15 @@ pub record Going (limit steps : ℕ) (s m : State) : Type 0 where
 -- the dispatch from s ended so
 abbrev pub Over : ℕ → ℕ → State → State → Type 0
 Over limit steps s m = (steps ≡ length (dispatched limit s)) × (m ≡ dispatch limit s)
+
+-- a turn from m to m', in which column i acted
+pub record Turned (limit steps : ℕ) (s m m' : State) (i : ℕ) : Type 0 where
+  pub on : Going limit (steps + 1) s m'
+  -- what the test of the next turn asks
+  pub within : (m' .bank .tree .columns ≤ 16) × (m' .bank .count ≤ 512)
+  pub same : (j : ℕ) → runs (m' .bank) j ≡ runs (m .bank) j
+  pub actor : (i < m .bank .tree .columns) × (runs (m .bank) i ≡ true)
+  pub test : stillStands m' i ≡ eqb (bankRefusal m') 0
 
 -- what the function answers then
 pub over : {r : Dispatched} {b : Bank} {heads doors : List ℕ} {limit steps : ℕ} {s : State} → Ended r b steps → Over limit steps s (state b heads doors)
@@ -118,7 +130,7 @@ module _ {limit steps : ℕ} {s m : State} (g : Going limit steps s m) where
           go Done r e = sym e
           go (Refused n) r e = absurd (true≢false r)
 
-      pub going-on : Going limit (steps + 1) s m'
+      going-on : Going limit (steps + 1) s m'
       going-on =
           let z = goes m ok x quick k m' (sym done) in
           record {
@@ -130,25 +142,47 @@ module _ {limit steps : ℕ} {s m : State} (g : Going limit steps s m) where
       acting-turn : Turning m x
       acting-turn = turning m x quick
 
-      -- what the test of the next turn asks
-      pub turned-within : (m' .bank .tree .columns ≤ 16) × (m' .bank .count ≤ 512)
-      turned-within =
+      within : (m' .bank .tree .columns ≤ 16) × (m' .bank .count ≤ 512)
+      within =
           let z = acting-turn in
           let tree = tree-on m x m' _ (z .moves) ok done (z .actor) in
           let room = room-on m x m' _ (z .moves) ok done (z .actor) in
           (subst (λ (t : Tree). t .columns ≤ 16) (sym tree) (tree-sixteen (m .bank .tree) (stands m ok .tree)), room)
 
-      pub turned-runs : (j : ℕ) → runs (m' .bank) j ≡ runs (m .bank) j
-      turned-runs = let z = acting-turn in runs-on m x m' _ (z .moves) ok done (z .actor)
+      pub turned : (i : ℕ) → i ≡ actingIn x (getD (m .heads) 0 0) → Turned limit steps s m m' i
+      turned i is =
+          let z = acting-turn in
+          let acts-at = ap (acts m x) is ∙ z .actor in
+          record {
+            on = going-on;
+            within = within;
+            same = runs-on m x m' _ (z .moves) ok done (z .actor);
+            actor = actor-on m x m' i (z .moves) ok done acts-at;
+            test = stands-on m x m' i (z .moves) ok done acts-at;
+          }
 
-      module _ (i : ℕ) (is : i ≡ actingIn x (getD (m .heads) 0 0)) where
-        acts-at : acts m x i ≡ true
-        acts-at = ap (acts m x) is ∙ acting-turn .actor
+  -- the limit is reached, or nobody can do anything and no packet is there to take
+  pub going-over : bankRefusal m ≡ 0 → {r : ℕ} → r ≡ readyOf (m .bank)
+      → (ltb steps limit && (not (eqb r 0) || not (eqb (m .bank .count) 0))) ≡ false → Over limit steps s m
+  going-over ok {r} is e = go (ltb steps limit) refl
+    where
+      idle : (x y : Bool) → (not x || not y) ≡ false → (x ≡ true) × (y ≡ true)
+      idle true true e = (refl, refl)
+      idle true false e = absurd (true≢false e)
+      idle false y e = absurd (true≢false e)
 
-        pub turned-actor : (i < 16) × (runs (m .bank) i ≡ true)
-        turned-actor =
-            let z = actor-on m x m' i (acting-turn .moves) ok done acts-at in
-            (omega (arith, z .0, tree-sixteen (m .bank .tree) (stands m ok .tree)), z .1)
+      rests : steps < limit → (eqb r 0 ≡ true) × (eqb (m .bank .count) 0 ≡ true) → Over limit steps s m
+      rests l z =
+          let b = m .bank in
+          let x = quickTurn b in
+          let i = actingIn x (getD (m .heads) 0 0) in
+          let handed : Handed b (b .tree) (runningOf b) i (columnAt b i) (b .count) =
+          record { tree-is = refl; lit = lit-running b refl; column-is = refl; count-is = refl } in
+          let takes = sym (ready-none b (stands m ok .tree)) ∙ ap (λ (n : ℕ). eqb n 0) (sym is) ∙ z .0 in
+          going-stops ok l x refl (Refused 10) m (turn-none (m .heads) (m .doors) handed ok x refl refl takes (eqb-true (b .count) 0 (z .1))) refl
 
-        pub turned-stands : stillStands m' i ≡ eqb (bankRefusal m') 0
-        turned-stands = stands-on m x m' i (acting-turn .moves) ok done acts-at
+      go : (b : Bool) → ltb steps limit ≡ b → Over limit steps s m
+      go true l =
+          rests (ltb-true steps limit l)
+          (idle (eqb r 0) (eqb (m .bank .count) 0) (ap (λ (x : Bool). x && (not (eqb r 0) || not (eqb (m .bank .count) 0))) (sym l) ∙ e))
+      go false l = going-ends (ltb-false steps limit l)

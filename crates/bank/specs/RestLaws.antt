@@ -1,10 +1,10 @@
--- The bank at rest, column by column, where no packet is under way and the bank stands: what the core refuses, and who is noted.
--- The test decides `AtRest`; a fresh bank is at rest, and so is one in which nobody runs and no packet is under way.
+-- The bank at rest, where no packet is under way and the bank stands: nobody can do anything. The test decides `AtRest`; a fresh
+-- bank is at rest, and so is one in which nobody runs and no packet is under way.
 -- Assumes nothing.
 use Prim.Native.Nat.{ℕ, _<_}
-use mathlib.Core.Path.{_≡_, refl, sym, ap, ap₂, _∙_}
+use mathlib.Core.Path.{_≡_, refl, sym, ap, _∙_}
 use mathlib.Core.Logic.{_⊎_, inl, inr, _↔_}
-use mathlib.Core.Bool.{Bool, true, false, not, _&&_, _||_, and-assoc, true≢false}
+use mathlib.Core.Bool.{Bool, true, false, not, _&&_, _||_, true≢false}
 use mathlib.Core.List.{List}
 use lib.Dec.{eqb}
 use borrow.Author.Tests.{eq-eqb, eqb-true}
@@ -19,25 +19,20 @@ use Rattle.column.specs.declared.state.Column.{Column}
 use Rattle.bank.specs.Banks.{State, state, columnAt, runs, freshBank, bankRefusal}
 use Rattle.bank.specs.Steps.{send, ack, all, note}
 use Rattle.bank.specs.Performs.{perform}
-use Rattle.bank.specs.StandingLaws.{stands-passes, every-same}
+use Rattle.bank.specs.StandingLaws.{stands, stands-passes}
 use Rattle.bank.specs.FreshLaws.{fresh-at, fresh-stands}
 use Rattle.bank.specs.Rest.{isRefused, Refused, Running, AtRest, quiet, atRest}
 use Rattle.bank.specs.RestSteps.{refuses, met, broken-refused, send-refused, ack-refused, all-refused, note-refused, any-note-refused}
+use Rattle.bank.specs.DispatchLaws.{take-rests}
+use Rattle.bank.specs.Quick.{isTake, readyOf}
+use Rattle.bank.specs.QuickTurn.{quick-turn}
+use Rattle.bank.specs.ReadyTurn.{ready-none}
 use Rattle.bank.specs.declared.bank.Bank.{Bank}
 use Rattle.bank.specs.declared.step.Step.the-variants.{Send, Ack, All, Note}
 
-abbrev pub allNoted : Bank → ℕ → Column → Bool
-allNoted b i c = every (λ j. runs b j || refuses (noteRefusal (b .tree) i c j)) (b .tree .columns)
-
-abbrev pub columnRests : Bank → ℕ → Bool
-columnRests b i =
-    let t = b .tree in
-    let c = columnAt b i in
-    not (c .running)
-    || (((refuses (sendRefusal t i c) && refuses (ackRefusal t i c)) && refuses (allRefusal t i c)) && allNoted b i c)
-
+-- nobody can do anything
 abbrev pub columnsRest : Bank → Bool
-columnsRest b = every (columnRests b) (b .tree .columns)
+columnsRest b = eqb (readyOf b) 0
 
 -- ---- the test decides `AtRest`
 
@@ -103,24 +98,9 @@ module _ (s : State) where
 
   -- where it stands
   pub rest-columns : s .bank .count ≡ 0 → bankRefusal s ≡ 0 → columnsRest (s .bank) ≡ atRest s
-  unfolding atRest
   rest-columns none good =
-      rw (eq-eqb (s .bank .count) 0 none) (every-same (columnRests (s .bank)) quietOrHalted n
-      (λ i h. ap (λ (x : Bool). not (runs (s .bank) i) || x) (column i h)))
-    where
-      column : (i : ℕ) → i < n
-          → let t = s .bank .tree in
-          let c = columnAt (s .bank) i in
-          (((refuses (sendRefusal t i c) && refuses (ackRefusal t i c)) && refuses (allRefusal t i c)) && allNoted (s .bank) i c) ≡ quiet s i
-      column i h =
-          let t = s .bank .tree in
-          let c = columnAt (s .bank) i in
-          let noted = every-same (λ j. runs (s .bank) j || refuses (noteRefusal t i c j)) (λ j. isRefused (note s i j)) (t .columns)
-          (λ j l. sym (note-refused s none good i j)) in
-          and-assoc (refuses (sendRefusal t i c) && refuses (ackRefusal t i c)) (refuses (allRefusal t i c)) (allNoted (s .bank) i c)
-          ∙ and-assoc (refuses (sendRefusal t i c)) (refuses (ackRefusal t i c)) (refuses (allRefusal t i c) && allNoted (s .bank) i c)
-          ∙ ap₂ _&&_ (sym (send-refused s none good i))
-          (ap₂ _&&_ (sym (ack-refused s none good i)) (ap₂ _&&_ (sym (all-refused s none good i)) noted))
+      let st = stands s good in
+      ready-none (s .bank) (st .tree) ∙ ap isTake (sym (quick-turn s st)) ∙ take-rests s none
 
 -- ---- banks that are at rest
 

@@ -1,6 +1,6 @@
--- A return as the bank's code does it, from the number by which the bank is refused; and what stands in each place after it. Assumes nothing.
+-- A return as the bank's code does it, from what a survey tells; and what stands in each place after it. Assumes nothing.
 use Prim.Native.Nat.{ℕ, _+_, _≤_, _<_}
-use mathlib.Core.Path.{_≡_, refl, ap, _∙_}
+use mathlib.Core.Path.{_≡_, refl, ap, ap₂, _∙_}
 use mathlib.Core.Bool.{Bool, true, false, not, _&&_, cond}
 use mathlib.Core.List.{List, [], _∷_}
 use native.Mathlib.Omega.{arith}
@@ -10,69 +10,84 @@ use lib.Seq.{getD-set-same, getD-set-other}
 use borrow.Author.Tests.{eqb-true, eqb-false, lt-ltb, le-ltb, leb-false, not-false}
 use Rattle.column.specs.Refusals.{first, earlier}
 use Rattle.column.specs.RefusalLaws.{passed, earlier-none}
-use Rattle.column.specs.SetLaws.{has-none, without-none}
-use Rattle.column.specs.Returns.{struck}
+use Rattle.column.specs.Sets.{has, without, minus, whole, lowest}
+use Rattle.column.specs.SetLaws.{has-none, without-none, selected-has}
+use Rattle.column.specs.Returns.{rejoined, struck}
+use Rattle.column.specs.declared.tree.Tree.{Tree}
 use Rattle.column.specs.declared.state.Column.{Column}
 use Rattle.bank.specs.Banks.{State, state, noColumn, columnAt, runs, runningOf, bankRefusal}
 use Rattle.bank.specs.StandingLaws.{Stands, stands}
-use Rattle.bank.specs.Steps.{accepted, outcome, unless}
+use Rattle.bank.specs.SurveyLaws.{others-halted}
+use Rattle.bank.specs.Steps.{outcome}
 use Rattle.bank.specs.Rewriting.{rewriting-at, rewriting-length}
 use Rattle.bank.specs.Rest.{AtRest, atRest}
 use Rattle.bank.specs.RestLaws.{columnsRest, rest-columns, rest-exact}
-use Rattle.bank.specs.Returns.{backConditions, backRefusal, comeBack, withStruck, returned, back}
+use Rattle.bank.specs.Returns.{backConditions, backRefusal, lowestRunning, comeBack, withStruck, returned, back}
 use Rattle.bank.specs.declared.bank.Bank.{Bank}
 use Rattle.bank.specs.declared.bank.Result.{Result}
 
--- ---- the refusal where n is the bank's: the words are not looked at
+-- ---- the refusal where n is the bank's and those in `running` run: the words are not looked at
 
-abbrev pub returningConditions : Bank → ℕ → List (ℕ × Bool)
-returningConditions b j =
+abbrev pub returningConditions : Bank → ℕ → ℕ → List (ℕ × Bool)
+returningConditions b running j =
     (4, leb (b .tree .columns) j)
-    ∷ (6, runs b j)
+    ∷ (6, has running j)
     ∷ (15, eqb j (b .tree .root))
-    ∷ (14, not (eqb (b .count) 0 && columnsRest b))
-    ∷ (16, eqb (runningOf b) 0)
+    ∷ (14, not (eqb (b .count) 0))
+    ∷ (14, not (columnsRest b))
+    ∷ (16, eqb running 0)
     ∷ []
 
-unfoldable pub returningRefusal : ℕ → Bank → ℕ → ℕ
-returningRefusal n b j = earlier n (first (returningConditions b j))
+unfoldable pub returningRefusal : ℕ → Bank → ℕ → ℕ → ℕ
+returningRefusal n b running j = earlier n (first (returningConditions b running j))
 
--- what a return answers, whatever the words, which it keeps
-abbrev pub ComesBack : Result → ℕ → Bank → ℕ → Type 0
-ComesBack r n b j =
-    (heads doors : List ℕ) → outcome r heads doors ≡ unless (returningRefusal n b j) (state b heads doors) (accepted (state (returned b j) heads doors))
+-- what a return answers, whatever the doors under way, which it keeps
+abbrev pub ComesBack : Result → Bank → List ℕ → ℕ → Type 0
+ComesBack r b heads j = (doors : List ℕ) → outcome r heads doors ≡ back (state b heads doors) j
 
 module _ (s : State) (j : ℕ) where
-  rests : bankRefusal s ≡ 0 → (eqb (s .bank .count) 0 && columnsRest (s .bank)) ≡ atRest s
+  abbrev b : Bank
+  b = s .bank
+
+  rests : bankRefusal s ≡ 0 → (eqb (b .count) 0 && columnsRest b) ≡ atRest s
   unfolding atRest
-  rests good = go (eqb (s .bank .count) 0) refl
+  rests good = go (eqb (b .count) 0) refl
     where
-      go : (b : Bool) → eqb (s .bank .count) 0 ≡ b → (b && columnsRest (s .bank)) ≡ atRest s
-      go true e = rest-columns s (eqb-true (s .bank .count) 0 e) good
+      go : (x : Bool) → eqb (b .count) 0 ≡ x → (x && columnsRest b) ≡ atRest s
+      go true e = rest-columns s (eqb-true (b .count) 0 e) good
       go false e = rw e
 
-  returning-refusal : returningRefusal (bankRefusal s) (s .bank) j ≡ backRefusal s j
-  unfolding returningRefusal backRefusal
-  returning-refusal = go (eqb (bankRefusal s) 0) refl
-    where
-      go : (b : Bool) → eqb (bankRefusal s) 0 ≡ b
-          → cond b (first (returningConditions (s .bank) j)) (bankRefusal s) ≡ cond b (first (backConditions s j)) (bankRefusal s)
-      go true e =
-          ap (λ (rest : Bool). first
-          ((4, leb (s .bank .tree .columns) j)
-          ∷ (6, runs (s .bank) j)
-          ∷ (15, eqb j (s .bank .tree .root))
-          ∷ (14, not rest)
-          ∷ (16, eqb (runningOf (s .bank)) 0)
-          ∷ [])) (rests (eqb-true (bankRefusal s) 0 e))
-      go false e = refl
+  -- a column that the bank has not is refused before it is asked whether it runs
+  below-runs : (beyond : Bool) (rest : ℕ) → leb (b .tree .columns) j ≡ beyond
+      → _≡_ {A = ℕ} (cond beyond 4 (cond (has (runningOf b) j) 6 rest)) (cond beyond 4 (cond (runs b j) 6 rest))
+  below-runs true rest e = refl
+  below-runs false rest e =
+      ap (λ (x : Bool). cond x 6 rest) (selected-has (runs b) (b .tree .columns) j (leb-false (b .tree .columns) j e))
 
-  -- what the code answers is the step
-  pub brought-back : {n : ℕ} → n ≡ bankRefusal s
-      → unless (returningRefusal n (s .bank) j) s (accepted (state (returned (s .bank) j) (s .heads) (s .doors))) ≡ back s j
-  brought-back {n} e =
-      ap (λ (k : ℕ). unless k s (accepted (state (returned (s .bank) j) (s .heads) (s .doors))))
-      (ap (λ (k : ℕ). returningRefusal k (s .bank) j) e ∙ returning-refusal)
+  both-fourteen : (none quiet : Bool) (rest : ℕ)
+      → _≡_ {A = ℕ} (cond (not none) 14 (cond (not quiet) 14 rest)) (cond (not (none && quiet)) 14 rest)
+  both-fourteen true quiet rest = refl
+  both-fourteen false quiet rest = refl
+
+  standing-refusal : bankRefusal s ≡ 0 → first (returningConditions b (runningOf b) j) ≡ first (backConditions s j)
+  standing-refusal good =
+      below-runs (leb (b .tree .columns) j) _ refl
+      ∙ ap (λ (k : ℕ). cond (leb (b .tree .columns) j) 4 (cond (runs b j) 6 (cond (eqb j (b .tree .root)) 15 k)))
+      (both-fourteen (eqb (b .count) 0) (columnsRest b) _
+      ∙ ap (λ (x : Bool). cond (not x) 14 (cond (eqb (runningOf b) 0) 16 0)) (rests good))
+
+  -- what the code answers is the refusal
+  pub returning-refusal : {n running : ℕ} → n ≡ bankRefusal s → (n ≡ 0 → running ≡ runningOf b)
+      → returningRefusal n b running j ≡ backRefusal s j
+  unfolding returningRefusal backRefusal
+  returning-refusal {n} {running} e lit = ap (λ (k : ℕ). returningRefusal k b running j) e ∙ go (eqb (bankRefusal s) 0) refl
+    where
+      go : (x : Bool) → eqb (bankRefusal s) 0 ≡ x
+          → cond x (first (returningConditions b running j)) (bankRefusal s) ≡ cond x (first (backConditions s j)) (bankRefusal s)
+      go true z =
+          let good = eqb-true (bankRefusal s) 0 z in
+          ap (λ (r : ℕ). first (returningConditions b r j)) (lit (e ∙ good)) ∙ standing-refusal good
+      go false z = refl
 
 -- ---- what is known where a return is accepted
 
@@ -100,6 +115,11 @@ returning s j e =
 
 -- ---- the places after it
 
+-- the column that comes back, by itself, the one that it copies and who runs
+abbrev pub rejoining : Tree → ℕ → Column → Column → ℕ → Column
+rejoining t running own copied j =
+    rejoined own copied (without (minus (whole (t .columns)) running) j) (not (has running (t .root))) (lowest running)
+
 module _ (b : Bank) (j : ℕ) where
   abbrev strike : Column → Column
   strike c = struck c j
@@ -112,6 +132,26 @@ module _ (b : Bank) (j : ℕ) where
       let z : 0 + k ≡ k = omega arith in
       rewriting-at strike none-struck (λ i. ltb i (b .tree .columns)) 0 (b .columns) k
       ∙ ap (λ i. cond (ltb i (b .tree .columns)) (strike (columnAt b k)) (columnAt b k)) z
+
+  -- the column that comes back is found among those struck: a record and a page are left as they were
+  pub rejoining-struck : {running : ℕ} → running ≡ runningOf b → b .tree .root < b .tree .columns
+      → rejoining (b .tree) running (columnAt (withStruck b j) j) (columnAt (withStruck b j) (lowest running)) j ≡ comeBack b j
+  rejoining-struck {running} e below =
+      let t = b .tree in
+      let l = lowestRunning b in
+      ap (λ (r : ℕ). rejoining t r (columnAt (withStruck b j) j) (columnAt (withStruck b j) (lowest r)) j) e
+      ∙ ap₂ (λ (own copied : Column). rejoining t (runningOf b) own copied j) (struck-at j) (struck-at l)
+      ∙ kept (ltb j (t .columns)) (ltb l (t .columns))
+      ∙ ap₂ (λ (others : ℕ) (run : Bool). rejoined (columnAt b j) (columnAt b l) (without others j) (not run) l)
+      (others-halted b) (selected-has (runs b) (t .columns) (t .root) below)
+    where
+      kept : (x y : Bool) → let l = lowestRunning b in
+          rejoining (b .tree) (runningOf b) (cond x (strike (columnAt b j)) (columnAt b j)) (cond y (strike (columnAt b l)) (columnAt b l)) j
+          ≡ rejoining (b .tree) (runningOf b) (columnAt b j) (columnAt b l) j
+      kept true true = refl
+      kept true false = refl
+      kept false true = refl
+      kept false false = refl
 
   struck-length : length (withStruck b j .columns) ≡ length (b .columns)
   struck-length = rewriting-length strike (λ i. ltb i (b .tree .columns)) 0 (b .columns)

@@ -5,9 +5,17 @@ use mathlib.Core.List.{List}
 use mathlib.Core.Bool.{Bool, not, _&&_, _||_}
 use lib.Dec.{eqb, leb, ltb}
 use Rattle.column.specs.Sets.{has}
-use Rattle.bank.specs.Banks.{State, state, packetAt, columnStands, packetStands, bankRefusal, actingRefusal}
+use Rattle.bank.specs.Banks.{State, state, runningOf, packetAt, columnStands, packetStands, bankRefusal, actingRefusal}
 use Rattle.bank.specs.declared.bank.Bank.{Bank}
+use Rattle.bank.specs.declared.survey.Surveyed.{Surveyed}
 use Rattle.bank.specs.Words.{acknowledging, receiverIn, senderIn}
+
+-- row 4 of a packet but for whether its receiver runs
+unfoldable pub endsStand : ℕ → ℕ → Bool → ℕ → Bool
+endsStand columns root watch head =
+    ltb (receiverIn head) columns
+    && ((ltb (senderIn head) columns && not (eqb (senderIn head) (receiverIn head)))
+    && (leb acknowledging head || (not (eqb (receiverIn head) root) || watch)))
 
 unfoldable pub headStands : ℕ → ℕ → Bool → ℕ → ℕ → Bool
 headStands columns root watch running head =
@@ -19,6 +27,11 @@ headStands columns root watch running head =
 -- n is the refusal of the bank, whatever the doors
 abbrev pub RefusesBank : ℕ → Bank → List ℕ → Type 0
 RefusesBank n b heads = (doors : List ℕ) → n ≡ bankRefusal (state b heads doors)
+
+-- and who runs, where it is not refused
+pub record Surveys (r : Surveyed) (b : Bank) (heads : List ℕ) : Type 0 where
+  pub refuses : RefusesBank (r .refusal) b heads
+  pub running-is : r .refusal ≡ 0 → r .running ≡ runningOf b
 
 abbrev pub RefusesActing : ℕ → Bank → List ℕ → ℕ → Type 0
 RefusesActing n b heads i = (doors : List ℕ) → n ≡ actingRefusal (state b heads doors) i

@@ -87,7 +87,7 @@ module _ (s : State) where
 
 -- ---- a packet by its head
 
-not-below : (a b : ℕ) → leb b a ≡ not (ltb a b)
+pub not-below : (a b : ℕ) → leb b a ≡ not (ltb a b)
 not-below a b = go (truth (ltb a b))
   where
     go : (ltb a b ≡ true) ⊎ (ltb a b ≡ false) → leb b a ≡ not (ltb a b)

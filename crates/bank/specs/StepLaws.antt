@@ -1,15 +1,17 @@
 -- What a step of a bank comes to: refused where row 4 refuses, and otherwise what the core's result makes of the bank.
 -- Assumes nothing.
-use Prim.Native.Nat.{ℕ, _+_, _≤_, _<_}
+use Prim.Native.Nat.{ℕ, _+_, _≤_, _<_, _^_}
 use mathlib.Core.Path.{_≡_, refl, sym, ap, _∙_}
-use mathlib.Core.Bool.{Bool, true, false, cond, true≢false}
+use mathlib.Core.Bool.{Bool, true, false, not, _||_, cond, true≢false}
 use mathlib.Core.List.{List, [], _∷_}
 use native.Mathlib.Omega.{arith}
 use lib.Dec.{eqb, leb}
 use lib.ListN as list
-use borrow.Author.Tests.{eq-eqb, ne-eqb, lt-ltb, le-ltb, leb-false}
+use borrow.Author.Tests.{eq-eqb, ne-eqb, eqb-true, lt-ltb, le-ltb, leb-false}
 use Rattle.column.specs.Refusals.{first, earlier}
 use Rattle.column.specs.RefusalLaws.{passed, earlier-none, earlier-zero}
+use Rattle.column.specs.Sets.{has, join, within}
+use Rattle.column.specs.SetLaws.{within-lt, selected-lt, selected-has}
 use Rattle.column.specs.TreeLaws.{tree-sixteen}
 use Rattle.column.specs.Packets.{receiver}
 use Rattle.column.specs.Columns.{stopped}
@@ -21,8 +23,9 @@ use Rattle.column.specs.declared.step.Answer.the-variants as core-is
 use Rattle.column.specs.declared.tree.Tree.{Tree}
 use Rattle.column.specs.declared.state.Column.{Column}
 use Rattle.column.specs.declared.packet.Packet.{Packet}
-use Rattle.bank.specs.Banks.{State, state, runs, packetAt, capacity, bankRefusal, actingRefusal}
-use Rattle.bank.specs.StandingLaws.{stands, acting}
+use Rattle.bank.specs.Banks.{State, state, runs, runningOf, packetAt, capacity, bankRefusal, actingRefusal}
+use Rattle.bank.specs.StandingLaws.{stands, acting, every-same}
+use Rattle.bank.specs.SurveyLaws.{covers-members}
 use Rattle.bank.specs.Lists.{keeping-few}
 use Rattle.bank.specs.Networks.{withPacket, put, puts, only, elsewhere, vanished}
 use Rattle.bank.specs.Steps.{Outcome, accepted, refused, answered, outcome, unless, withColumn, fitting, settled, acted, takeRefusal}
@@ -167,9 +170,36 @@ takes s place e =
 
 -- ---- halt
 
--- the refusal of a halt where n is the bank's: the words are not looked at
-abbrev pub haltingRefusal : ℕ → Bank → ℕ → ℕ
-haltingRefusal n b m = earlier n (first (strip.haltConditions (state b [] []) m))
+-- the refusal of a halt where n is the bank's, of so many columns, those in `running` running
+abbrev pub haltingRefusal : ℕ → ℕ → ℕ → ℕ → ℕ
+haltingRefusal n columns running m = earlier n (first ((4, not (within m columns)) ∷ (5, not (eqb (join m running) running)) ∷ []))
+
+module _ (s : State) (m : ℕ) where
+  abbrev columns : ℕ
+  columns = s .bank .tree .columns
+
+  members-run : m < 2 ^ columns → eqb (join m (runningOf (s .bank))) (runningOf (s .bank)) ≡ strip.membersRun (s .bank) m
+  members-run h =
+      covers-members columns m (runningOf (s .bank)) h (selected-lt (runs (s .bank)) columns columns (omega arith))
+      ∙ every-same _ _ columns (λ j l. ap (λ (x : Bool). not (has m j) || x) (selected-has (runs (s .bank)) columns j l))
+
+  -- what the code answers is the refusal
+  pub halting-refusal : {n running : ℕ} → n ≡ bankRefusal s → (n ≡ 0 → running ≡ runningOf (s .bank))
+      → haltingRefusal n columns running m ≡ strip.haltRefusal s m
+  unfolding strip.haltRefusal
+  halting-refusal {n} {running} e lit = ap (λ (k : ℕ). haltingRefusal k columns running m) e ∙ go (eqb (bankRefusal s) 0) refl
+    where
+      five : (w : Bool) → within m columns ≡ w
+          → _≡_ {A = ℕ} (cond (not w) 4 (cond (not (eqb (join m (runningOf (s .bank))) (runningOf (s .bank)))) 5 0))
+          (cond (not w) 4 (cond (not (strip.membersRun (s .bank) m)) 5 0))
+      five true w = ap (λ (x : Bool). cond (not x) 5 0) (members-run (within-lt m columns w))
+      five false w = refl
+
+      go : (x : Bool) → eqb (bankRefusal s) 0 ≡ x
+          → cond x (haltingRefusal 0 columns running m) (bankRefusal s) ≡ cond x (first (strip.haltConditions s m)) (bankRefusal s)
+      go true z =
+          ap (λ (r : ℕ). haltingRefusal 0 columns r m) (lit (e ∙ eqb-true (bankRefusal s) 0 z)) ∙ five (within m columns) refl
+      go false z = refl
 
 pub vanished-few : (s : State) (member : ℕ → Bool) → s .bank .count ≤ capacity → vanished s member .bank .count ≤ capacity
 unfolding vanished

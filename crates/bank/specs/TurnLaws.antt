@@ -2,14 +2,15 @@
 use Prim.Native.Nat.{ℕ, zero, suc, _+_, _≤_, _<_}
 use native.Mathlib.Omega.{arith}
 use mathlib.Core.Path.{_≡_, refl, sym, ap, subst, _∙_}
-use mathlib.Core.Bool.{Bool, true, false, cond, true≢false}
+use mathlib.Core.Bool.{Bool, true, false, _&&_, cond, true≢false}
 use mathlib.Core.List.{List}
 use lib.Dec.{eqb}
 use lib.ListN.{getD}
-use borrow.Author.Tests.{eq-eqb, lt-leb, le-leb}
+use borrow.Author.Tests.{eq-eqb, eqb-false, lt-leb, le-leb}
 use Rattle.column.specs.Sets.{lowest, minus}
 use Rattle.column.specs.Packets.{receiver}
 use Rattle.column.specs.Columns.{standing}
+use Rattle.column.specs.StateLaws.{acceptable}
 use Rattle.column.specs.Steps as core
 use Rattle.column.specs.declared.tree.Tree.{Tree}
 use Rattle.column.specs.declared.state.Column.{Column}
@@ -24,8 +25,7 @@ use Rattle.bank.specs.Changes.{Handed, isOwn, coreStep, StepsCore}
 use Rattle.bank.specs.ChangeLaws.{stands-at, own-done}
 use Rattle.bank.specs.Kinds.{byNoColumn}
 use Rattle.bank.specs.Places.{acts}
-use Rattle.bank.specs.Quick.{canSend, canAck, canTakeOver, stepOf, stepFrom, quickTurn, actingIn}
-use Rattle.bank.specs.Turns.{isTake}
+use Rattle.bank.specs.Quick.{isTake, canSend, canAck, canTakeOver, stepOf, stepFrom, quickTurn, actingIn}
 use Rattle.bank.specs.declared.bank.Bank.{Bank}
 use Rattle.bank.specs.declared.step.Step.{Step}
 use Rattle.bank.specs.declared.step.Step.the-variants.{Order, Send, Take, Ack, All, Note, Halt, Back, Write}
@@ -87,6 +87,19 @@ module _ (s : State) where
 
   pub turning : (x : Step) → x ≡ quickTurn (s .bank) → Turning s x
   turning x quick = subst (Turning s) (sym quick) (turning-from (s .bank) _ _ 0 _ (omega arith))
+
+-- who acts is one of the bank's, unless the step is a take where no packet is under way
+pub turn-below : (s : State) → bankRefusal s ≡ 0 → (x : Step) → x ≡ quickTurn (s .bank) → (isTake x && eqb (s .bank .count) 0) ≡ false
+    → actingIn x (getD (s .heads) 0 0) < s .bank .tree .columns
+turn-below s ok x quick e = go (isTake x) refl
+  where
+    go : (b : Bool) → isTake x ≡ b → actingIn x (getD (s .heads) 0 0) < s .bank .tree .columns
+    go true takes =
+        let held : 0 < s .bank .count = omega (arith, eqb-false (s .bank .count) 0 (ap (λ (y : Bool). y && eqb (s .bank .count) 0) (sym takes) ∙ e)) in
+        let to-below = acceptable (s .bank .tree) (packetAt s 0) (stands s ok .packets 0 held) .receiver-below in
+        let is = ap (λ (y : Step). actingIn y (getD (s .heads) 0 0)) (turning s x quick .oldest takes) in
+        omega (arith, to-below, is, receiver-of (getD (s .heads) 0 0) (getD (s .doors) 0 0))
+    go false none = turning s x quick .below none
 
 -- ---- what its step comes to
 

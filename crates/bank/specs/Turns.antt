@@ -1,30 +1,17 @@
 -- What a turn of the dispatcher makes of its column and of the network.
-use Prim.Native.Nat.{ℕ, _<_}
+use Prim.Native.Nat.{ℕ}
 use mathlib.Core.Path.{_≡_}
-use mathlib.Core.Bool.{Bool, true, false}
 use mathlib.Core.List.{List}
 use lib.ListN.{getD}
 use Rattle.column.specs.declared.tree.Tree.{Tree}
 use Rattle.column.specs.declared.state.Column.{Column}
-use Rattle.bank.specs.Banks.{State, state, bankRefusal}
+use Rattle.bank.specs.Banks.{state, bankRefusal}
 use Rattle.bank.specs.Performs.{perform}
 use Rattle.bank.specs.Changes.{changed, Handed}
 use Rattle.bank.specs.Quick.{quickTurn, actingIn}
 use Rattle.bank.specs.declared.bank.Bank.{Bank}
 use Rattle.bank.specs.declared.settling.Change.{Change}
 use Rattle.bank.specs.declared.step.Step.{Step}
-use Rattle.bank.specs.declared.step.Step.the-variants.{Order, Send, Take, Ack, All, Note, Halt, Back, Write}
-
-abbrev pub isTake : Step → Bool
-isTake (Order doors) = false
-isTake (Send i) = false
-isTake (Take place) = true
-isTake (Ack i) = false
-isTake (All i) = false
-isTake (Note i j) = false
-isTake (Halt m) = false
-isTake (Back j) = false
-isTake (Write i offset value) = false
 
 -- of every bank that stands and of which these are the parts: the turn's step
 abbrev pub TakesTurn : Change → Tree → ℕ → Step → ℕ → Column → ℕ → List ℕ → List ℕ → List ℕ → List ℕ → Type 0

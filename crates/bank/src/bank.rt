@@ -2,11 +2,10 @@
 use crate::settling::done;
 use crate::settling::refused;
 use column::state::Column;
-use column::state::FreshColumn;
+use column::tested;
 use column::tree::Tree;
 use column::tree::tree_refusal;
 ghost use mathlib.Core.Path.{_≡_};
-ghost use Rattle.bank.specs.Banks.{freshPlace};
 ghost use Rattle.bank.specs.Steps.{answered, fresh};
 
 // Most packets that the network holds.
@@ -45,16 +44,6 @@ pub const NO_COLUMN: Column = Column {
     pending: 0,
 };
 
-// Column i of a fresh bank; an unused place holds a column that does not run.
-fn fresh_column(t: Tree, i: usize) -> Column
-    ensures { λ r. ⌜ r ≡ freshPlace t i ⌝ }
-{
-    match column::state::fresh(t, i) {
-        FreshColumn::Is(c) => c,
-        FreshColumn::Refused(_) => NO_COLUMN,
-    }
-}
-
 // The bank of a tree as it begins; of a tree that is refused with 2 or 3, a bank in which nobody runs.
 pub fn fresh(t: Tree) -> Result
     ensures { λ r. ⌜ answered (r .answer) (r .bank) ≡ fresh t ⌝ }
@@ -64,13 +53,15 @@ pub fn fresh(t: Tree) -> Result
         columns: [NO_COLUMN; 16],
         count: 0,
     };
-    let n = tree_refusal(t);
-    if n != 0 {
-        return refused(b, n);
+    let refusal = tree_refusal(t);
+    if refusal != 0 {
+        return refused(b, refusal);
     }
+    let n = t.columns;
+    let root = t.root as u8;
     let mut i: usize = 0;
-    while i < 16 {
-        b.columns[i] = fresh_column(t, i);
+    while i < n {
+        b.columns[i] = tested::fresh(root, i);
         i += 1;
     }
     done(b)

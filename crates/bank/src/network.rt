@@ -1,6 +1,5 @@
 // The network's packets in the lent arrays: put at the end, taken off, and those to a column that halts. None of these refuses: all
 // deciding is done before, so that a refused call has written nothing.
-use crate::bank::Bank;
 use crate::words::doors_word;
 use crate::words::head;
 use crate::words::receiver_in;
@@ -10,8 +9,7 @@ ghost use Prim.Native.Nat.{_+_, _≤_, _<_};
 ghost use lib.ListN.{length, take};
 ghost use Rattle.column.specs.Sets.{has};
 ghost use Rattle.bank.specs.Lists.{closedUp, padded};
-ghost use Rattle.bank.specs.Banks.{state};
-ghost use Rattle.bank.specs.Networks.{Appended, ClosedUp, vanished, Kept};
+ghost use Rattle.bank.specs.Networks.{Appended, ClosedUp, Kept, Vanishes};
 
 // The words of packet p stand behind those of `count` others.
 pub fn append(p: Packet, count: usize, heads: &mut [u64; 512], doors: &mut [u64; 512])
@@ -91,16 +89,13 @@ fn clear(words: &mut [u64], from: usize, to: usize)
     }
 }
 
-// The bank without the packets that are addressed to a member of m.
-pub fn vanish(b: Bank, m: u32, heads: &mut [u64; 512], doors: &mut [u64; 512]) -> Bank
-    requires { ⌜ b .count ≤ 512 ⌝ }
-    ensures { λ r. ⌜ state r (now (heads .exit)) (now (doors .exit)) ≡ vanished (state b (now (heads .entry)) (now (doors .entry))) (has m) ⌝ }
+// The packets that are addressed to a member of m are gone, of `count`; answers how many are left.
+pub fn vanish(m: u32, count: usize, heads: &mut [u64; 512], doors: &mut [u64; 512]) -> usize
+    requires { ⌜ count ≤ 512 ⌝ }
+    ensures { λ r. ⌜ Vanishes (has m) count r (now (heads .entry)) (now (doors .entry)) (now (heads .exit)) (now (doors .exit)) ⌝ }
 {
-    let count = b.count;
     let kept = keep(m, count, heads, doors);
     clear(heads, kept, count);
     clear(doors, kept, count);
-    let mut d = b;
-    d.count = kept;
-    d
+    kept
 }

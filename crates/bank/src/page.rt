@@ -4,16 +4,13 @@ use crate::bank::Result;
 use crate::settling::column_at;
 use crate::settling::done;
 use crate::settling::refused;
-use crate::settling::with_column;
 use crate::standing::acting_refusal;
+use crate::survey::survey;
 use column::page::Byte;
 use column::page::writable;
 use column::page::written;
 use column::precedence::refuse_if;
-ghost use mathlib.Core.Path.{_≡_};
-ghost use Prim.Native.Nat.{_≤_};
-ghost use Rattle.bank.specs.Pages.{Reads, TellsLine};
-ghost use Rattle.bank.specs.PageSteps.{writingRefusal, Writes};
+ghost use Rattle.bank.specs.Pages.{Reads, Writes, TellsLine};
 
 pub enum Line {
     Is(bool),
@@ -31,26 +28,22 @@ pub fn read(b: Bank, i: usize, offset: usize, heads: &[u64; 512]) -> Byte
     column::page::read(b.tree, i, column_at(b, i), offset)
 }
 
-// The number n by which the bank is refused, then 4 of a column that it has not, 22 for any offset but 5 and 7; else 0.
-fn write_refusal(b: Bank, n: u8, i: usize, offset: usize) -> u8
-    ensures { λ r. ⌜ r ≡ writingRefusal n b i offset ⌝ }
+// A byte written to the page of column i; or 2 to 4, 22 for any offset but 5 and 7.
+pub(crate) fn write_byte(b: Bank, i: usize, offset: usize, value: u8, heads: &[u64; 512]) -> Result
+    ensures { λ r. ⌜ Writes r b (now (heads .entry)) i offset value ⌝ }
 {
+    let v = survey(b, heads);
     let t = b.tree;
-    let m = refuse_if(n, t.columns <= i, 4);
-    refuse_if(m, !writable(offset), 22)
-}
-
-// A byte written to the page of column i, of a bank that is refused by n.
-pub(crate) fn write_byte(b: Bank, n: u8, i: usize, offset: usize, value: u8) -> Result
-    requires { ⌜ (n ≡ 0 → b .tree .columns ≤ 16) ⌝ }
-    ensures { λ r. ⌜ Writes r n b i offset value ⌝ }
-{
-    let m = write_refusal(b, n, i, offset);
-    if m != 0 {
-        return refused(b, m);
+    let acting = refuse_if(v.refusal, t.columns <= i, 4);
+    let n = refuse_if(acting, !writable(offset), 22);
+    if n != 0 {
+        return refused(b, n);
     }
-    let c = written(column_at(b, i), offset, value);
-    done(with_column(b, i, c))
+    let mut d = b;
+    let c = d.columns[i];
+    let changed = written(c, offset, value);
+    d.columns[i] = changed;
+    done(d)
 }
 
 // Whether the line of column i is up; or 2 to 4.

@@ -2,51 +2,58 @@
 use crate::bank::Bank;
 use crate::bank::Result;
 use crate::rest::columns_rest;
-use crate::running::halted;
-use crate::running::running;
-use crate::settling::column_at;
 use crate::settling::done;
 use crate::settling::refused;
-use crate::settling::runs;
-use crate::settling::with_column;
+use crate::survey::halted;
+use crate::survey::survey;
+use column::members::has;
 use column::members::lowest;
 use column::precedence::refuse_if;
 use column::returning::rejoin;
 use column::returning::strike;
 use column::state::Column;
+use column::tree::Tree;
 ghost use mathlib.Core.Path.{_≡_};
 ghost use Prim.Native.Nat.{_≤_};
-ghost use Rattle.bank.specs.Returns.{comeBack, withStruck};
-ghost use Rattle.bank.specs.ReturnLaws.{returningRefusal, ComesBack};
+ghost use Rattle.bank.specs.Banks.{runningOf};
+ghost use Rattle.bank.specs.Returns.{withStruck};
+ghost use Rattle.bank.specs.ReturnLaws.{returningRefusal, rejoining, ComesBack};
 
-// The number n by which the bank is refused, then 4 of a column that it has not, 6 of one that runs, 15 of the root, 14 where the bank is not
-// at rest, 16 where nobody runs; else 0.
-fn back_refusal(b: Bank, n: u8, j: usize) -> u8
-    requires { ⌜ (n ≡ 0 → b .tree .columns ≤ 16) ⌝ }
-    ensures { λ r. ⌜ r ≡ returningRefusal n b j ⌝ }
+// The number n by which the bank is refused, then 4 of a column that it has not, 6 of one of those who run, 15 of the root, 14 where the bank
+// is not at rest, 16 where nobody runs; else 0.
+fn back_refusal(b: Bank, n: u8, running: u16, j: usize) -> u8
+    requires { ⌜ (n ≡ 0 → (b .tree .columns ≤ 16) × (running ≡ runningOf b)) ⌝ }
+    ensures { λ r. ⌜ r ≡ returningRefusal n b running j ⌝ }
 {
     if n != 0 {
         return n;
     }
     let t = b.tree;
     let mut m = refuse_if(0, t.columns <= j, 4);
-    m = refuse_if(m, runs(b, j), 6);
+    m = refuse_if(m, has(running, j), 6);
     m = refuse_if(m, j == t.root, 15);
-    m = refuse_if(m, !((b.count == 0) & columns_rest(b)), 14);
-    refuse_if(m, running(b) == 0, 16)
+    m = refuse_if(m, b.count != 0, 14);
+    if m != 0 {
+        return m;
+    }
+    if !columns_rest(b, running) {
+        return 14;
+    }
+    refuse_if(0, running == 0, 16)
 }
 
-// Column j as it comes back: with the record of the lowest running column.
-fn come_back(b: Bank, j: usize) -> Column
-    requires { ⌜ b .tree .columns ≤ 16 ⌝ }
-    ensures { λ r. ⌜ r ≡ comeBack b j ⌝ }
+// Column j, which is `own`, as it comes back: with the record of `copied`, the lowest of those who run.
+fn come_back(t: Tree, running: u16, own: Column, copied: Column, j: usize) -> Column
+    requires { ⌜ t .columns ≤ 16 ⌝ }
+    ensures { λ r. ⌜ r ≡ rejoining t running own copied j ⌝ }
 {
-    let t = b.tree;
-    let l = lowest(running(b));
+    let l = lowest(running);
     let sender = l as u8;
-    let own = column_at(b, j);
-    let copied = column_at(b, l);
-    strike(rejoin(own, copied, halted(b), !runs(b, t.root), sender), j)
+    let others = halted(t.columns, running);
+    strike(
+        rejoin(own, copied, others, !has(running, t.root), sender),
+        j,
+    )
 }
 
 // Every column of the bank has j no longer noted.
@@ -66,15 +73,21 @@ fn strike_noted(b: Bank, j: usize) -> Bank
     d
 }
 
-// Column j comes back, of a bank that is refused by n.
-pub fn bring_back(b: Bank, n: u8, j: usize) -> Result
-    requires { ⌜ (n ≡ 0 → b .tree .columns ≤ 16) ⌝ }
-    ensures { λ r. ⌜ ComesBack r n b j ⌝ }
+// Column j comes back. It is struck first: that leaves every record and every page as it was.
+pub fn bring_back(b: Bank, j: usize, heads: &[u64; 512]) -> Result
+    ensures { λ r. ⌜ ComesBack r b (now (heads .entry)) j ⌝ }
 {
-    let m = back_refusal(b, n, j);
-    if m != 0 {
-        return refused(b, m);
+    let v = survey(b, heads);
+    let running = v.running;
+    let n = back_refusal(b, v.refusal, running, j);
+    if n != 0 {
+        return refused(b, n);
     }
-    let c = come_back(b, j);
-    done(with_column(strike_noted(b, j), j, c))
+    let mut d = strike_noted(b, j);
+    let l = lowest(running);
+    let own = d.columns[j];
+    let copied = d.columns[l];
+    let changed = come_back(d.tree, running, own, copied, j);
+    d.columns[j] = changed;
+    done(d)
 }

@@ -14,10 +14,11 @@ use column::state::Column;
 use column::step::Outcome;
 ghost use mathlib.Core.Path.{_≡_};
 ghost use Prim.Native.Nat.{_≤_, _<_};
-ghost use Rattle.bank.specs.Banks.{columnAt, runs};
+ghost use Rattle.bank.specs.Banks.{columnAt};
+ghost use Rattle.bank.specs.Offers.{isRefusal};
 ghost use Rattle.bank.specs.StepLaws.{takesOff};
-ghost use Rattle.bank.specs.Steps.{answered, accepted, refused, withPlace};
-ghost use Rattle.bank.specs.Changes.{Becomes, Delivers, Settles, SettlesTaken, Stores};
+ghost use Rattle.bank.specs.Steps.{answered, accepted, refused};
+ghost use Rattle.bank.specs.Changes.{Becomes, Delivers, Settles, SettlesTaken};
 ghost use Rattle.bank.specs.declared.bank.Answer.the-variants.{Done, Refused};
 
 pub fn done(b: Bank) -> Result
@@ -47,22 +48,6 @@ pub fn column_at(b: Bank, i: usize) -> Column
     }
     let c = b.columns[i];
     c
-}
-
-pub fn runs(b: Bank, i: usize) -> bool
-    ensures { λ r. ⌜ r ≡ runs b i ⌝ }
-{
-    let c = column_at(b, i);
-    c.running
-}
-
-pub fn with_column(b: Bank, i: usize, c: Column) -> Bank
-    requires { ⌜ i < 16 ⌝ }
-    ensures { λ r. ⌜ r ≡ withPlace b i c ⌝ }
-{
-    let mut d = b;
-    d.columns[i] = c;
-    d
 }
 
 // What a step makes of the place of its column and of the network's count; or the number by which it is refused.
@@ -172,18 +157,11 @@ pub fn settle_taken(
     settle(running, o, count - 1, heads, doors)
 }
 
-// The bank in which column i acted.
-pub fn store(b: Bank, i: usize, r: Change) -> Result
-    requires { ⌜ i < 16 ⌝ }
-    ensures { λ z. ⌜ Stores z b i r ⌝ }
+pub fn is_refusal(a: Answer) -> bool
+    ensures { λ r. ⌜ r ≡ isRefusal a ⌝ }
 {
-    let a = r.answer;
     match a {
-        Answer::Refused(n) => refused(b, n),
-        Answer::Done => {
-            let mut d = with_column(b, i, r.column);
-            d.count = r.count;
-            done(d)
-        }
+        Answer::Done => false,
+        Answer::Refused(_) => true,
     }
 }

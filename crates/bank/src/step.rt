@@ -4,17 +4,15 @@ use crate::bank::Result;
 use crate::network::vanish;
 use crate::page::write_byte;
 use crate::returning::bring_back;
-use crate::running::running;
 use crate::settling::Change;
-use crate::settling::column_at;
 use crate::settling::done;
+use crate::settling::is_refusal;
 use crate::settling::refused;
 use crate::settling::settle;
 use crate::settling::settle_taken;
-use crate::settling::store;
-use crate::standing::bank_refusal;
 use crate::strip::halt_refusal;
 use crate::strip::stop;
+use crate::survey::survey;
 use crate::words::packet;
 use crate::words::receiver_in;
 use column::members::has;
@@ -30,7 +28,7 @@ ghost use mathlib.Core.Path.{_≡_};
 ghost use mathlib.Core.Bool.{true};
 ghost use Prim.Native.Nat.{_≤_, _<_};
 ghost use Rattle.column.specs.Steps.{meant, refused};
-ghost use Rattle.bank.specs.Banks.{state, bankRefusal};
+ghost use Rattle.bank.specs.Banks.{state};
 ghost use Rattle.bank.specs.Changes.{isOwn, StepsCore, Takes};
 ghost use Rattle.bank.specs.Pages.{write};
 ghost use Rattle.bank.specs.Performs.{perform};
@@ -93,20 +91,29 @@ pub(crate) fn core_step(t: Tree, running: u16, x: Step, i: usize, c: Column) -> 
     }
 }
 
-// The step x of column i, which takes no packet off, of a bank that is refused by n.
-fn act(b: Bank, n: u8, x: Step, i: usize, heads: &mut [u64; 512], doors: &mut [u64; 512]) -> Result
-    requires { ⌜ (n ≡ bankRefusal (state b (now heads) (now doors))) × ((isOwn x ≡ true) × (acts (state b (now heads) (now doors)) x i ≡ true)) ⌝ }
+// The step x of column i, which takes no packet off. The bank is tested as it is lent, and one copy of it is changed.
+fn act(b: Bank, x: Step, i: usize, heads: &mut [u64; 512], doors: &mut [u64; 512]) -> Result
+    requires { ⌜ (isOwn x ≡ true) × (acts (state b (now heads) (now doors)) x i ≡ true) ⌝ }
     ensures { λ r. ⌜ outcome r (now (heads .exit)) (now (doors .exit)) ≡ perform (state b (now (heads .entry)) (now (doors .entry))) x ⌝ }
 {
+    let v = survey(b, heads);
     let t = b.tree;
-    let m = refuse_if(n, t.columns <= i, 4);
-    if m != 0 {
-        return refused(b, m);
+    let n = refuse_if(v.refusal, t.columns <= i, 4);
+    if n != 0 {
+        return refused(b, n);
     }
-    let set = running(b);
-    let o = core_step(t, set, x, i, column_at(b, i));
-    let r = settle(set, o, b.count, heads, doors);
-    store(b, i, r)
+    let mut d = b;
+    let c = d.columns[i];
+    let o = core_step(t, v.running, x, i, c);
+    let r = settle(v.running, o, d.count, heads, doors);
+    let answer = r.answer;
+    if is_refusal(answer) {
+        return Result { bank: b, answer };
+    }
+    let changed = r.column;
+    d.columns[i] = changed;
+    d.count = r.count;
+    Result { bank: d, answer }
 }
 
 // The packet at a place goes to column i, which is c and its receiver.
@@ -128,63 +135,59 @@ pub(crate) fn taken(
     settle_taken(running, place, o, count, heads, doors)
 }
 
-// The packet at a place of a bank that is refused by n.
-fn take_packet(
-    b: Bank,
-    n: u8,
-    place: usize,
-    heads: &mut [u64; 512],
-    doors: &mut [u64; 512],
-) -> Result
-    requires { ⌜ n ≡ bankRefusal (state b (now heads) (now doors)) ⌝ }
+// The packet at a place goes to its receiver.
+fn take_packet(b: Bank, place: usize, heads: &mut [u64; 512], doors: &mut [u64; 512]) -> Result
     ensures { λ r. ⌜ outcome r (now (heads .exit)) (now (doors .exit)) ≡ take (state b (now (heads .entry)) (now (doors .entry))) place ⌝ }
 {
-    let m = refuse_if(n, b.count <= place, 10);
-    if m != 0 {
-        return refused(b, m);
+    let v = survey(b, heads);
+    let n = refuse_if(v.refusal, b.count <= place, 10);
+    if n != 0 {
+        return refused(b, n);
     }
+    let mut d = b;
     let i = receiver_in(heads[place]);
-    let r = taken(
-        b.tree,
-        running(b),
-        place,
-        i,
-        column_at(b, i),
-        b.count,
-        heads,
-        doors,
-    );
-    store(b, i, r)
+    let c = d.columns[i];
+    let r = taken(d.tree, v.running, place, i, c, d.count, heads, doors);
+    let answer = r.answer;
+    if is_refusal(answer) {
+        return Result { bank: b, answer };
+    }
+    let changed = r.column;
+    d.columns[i] = changed;
+    d.count = r.count;
+    Result { bank: d, answer }
 }
 
-// The columns of a set, of a bank that is refused by n.
-fn halt_columns(b: Bank, n: u8, m: u32, heads: &mut [u64; 512], doors: &mut [u64; 512]) -> Result
-    requires { ⌜ n ≡ bankRefusal (state b (now heads) (now doors)) ⌝ }
+// The columns of a set.
+fn halt_columns(b: Bank, m: u32, heads: &mut [u64; 512], doors: &mut [u64; 512]) -> Result
     ensures { λ r. ⌜ outcome r (now (heads .exit)) (now (doors .exit)) ≡ halt (state b (now (heads .entry)) (now (doors .entry))) m ⌝ }
 {
-    let k = halt_refusal(b, n, m);
-    if k != 0 {
-        return refused(b, k);
+    let v = survey(b, heads);
+    let t = b.tree;
+    let n = halt_refusal(v.refusal, t.columns, v.running, m);
+    if n != 0 {
+        return refused(b, n);
     }
-    done(stop(vanish(b, m, heads, doors), m))
+    let mut d = b;
+    d.count = vanish(m, d.count, heads, doors);
+    done(stop(d, m))
 }
 
 // The bank after any of the nine steps.
 pub fn perform(b: Bank, x: Step, heads: &mut [u64; 512], doors: &mut [u64; 512]) -> Result
     ensures { λ r. ⌜ outcome r (now (heads .exit)) (now (doors .exit)) ≡ perform (state b (now (heads .entry)) (now (doors .entry))) x ⌝ }
 {
-    let n = bank_refusal(b, heads);
     let t = b.tree;
     match x {
-        Step::Order(_) => act(b, n, x, t.root, heads, doors),
-        Step::Send(i) => act(b, n, x, i, heads, doors),
-        Step::Take(place) => take_packet(b, n, place, heads, doors),
-        Step::Ack(i) => act(b, n, x, i, heads, doors),
-        Step::All(i) => act(b, n, x, i, heads, doors),
-        Step::Note(i, _) => act(b, n, x, i, heads, doors),
-        Step::Halt(m) => halt_columns(b, n, m, heads, doors),
-        Step::Back(j) => bring_back(b, n, j),
-        Step::Write(i, offset, value) => write_byte(b, n, i, offset, value),
+        Step::Order(_) => act(b, x, t.root, heads, doors),
+        Step::Send(i) => act(b, x, i, heads, doors),
+        Step::Take(place) => take_packet(b, place, heads, doors),
+        Step::Ack(i) => act(b, x, i, heads, doors),
+        Step::All(i) => act(b, x, i, heads, doors),
+        Step::Note(i, _) => act(b, x, i, heads, doors),
+        Step::Halt(m) => halt_columns(b, m, heads, doors),
+        Step::Back(j) => bring_back(b, j, heads),
+        Step::Write(i, offset, value) => write_byte(b, i, offset, value, heads),
     }
 }
 
@@ -192,56 +195,57 @@ pub fn perform(b: Bank, x: Step, heads: &mut [u64; 512], doors: &mut [u64; 512])
 pub fn order(b: Bank, given: u64, heads: &mut [u64; 512], doors: &mut [u64; 512]) -> Result
     ensures { λ r. ⌜ outcome r (now (heads .exit)) (now (doors .exit)) ≡ order (state b (now (heads .entry)) (now (doors .entry))) given ⌝ }
 {
-    perform(b, Step::Order(given), heads, doors)
+    let t = b.tree;
+    act(b, Step::Order(given), t.root, heads, doors)
 }
 
 // The bank after column i served the lowest that it is to send to; a message to a running one is put.
 pub fn send(b: Bank, i: usize, heads: &mut [u64; 512], doors: &mut [u64; 512]) -> Result
     ensures { λ r. ⌜ outcome r (now (heads .exit)) (now (doors .exit)) ≡ send (state b (now (heads .entry)) (now (doors .entry))) i ⌝ }
 {
-    perform(b, Step::Send(i), heads, doors)
+    act(b, Step::Send(i), i, heads, doors)
 }
 
 // The bank after the packet at a place went to its receiver.
 pub fn take(b: Bank, place: usize, heads: &mut [u64; 512], doors: &mut [u64; 512]) -> Result
     ensures { λ r. ⌜ outcome r (now (heads .exit)) (now (doors .exit)) ≡ take (state b (now (heads .entry)) (now (doors .entry))) place ⌝ }
 {
-    perform(b, Step::Take(place), heads, doors)
+    take_packet(b, place, heads, doors)
 }
 
 // The bank after column i acknowledged its record to the lowest owed.
 pub fn ack(b: Bank, i: usize, heads: &mut [u64; 512], doors: &mut [u64; 512]) -> Result
     ensures { λ r. ⌜ outcome r (now (heads .exit)) (now (doors .exit)) ≡ ack (state b (now (heads .entry)) (now (doors .entry))) i ⌝ }
 {
-    perform(b, Step::Ack(i), heads, doors)
+    act(b, Step::Ack(i), i, heads, doors)
 }
 
 // The bank after column i took over.
 pub fn all(b: Bank, i: usize, heads: &mut [u64; 512], doors: &mut [u64; 512]) -> Result
     ensures { λ r. ⌜ outcome r (now (heads .exit)) (now (doors .exit)) ≡ all (state b (now (heads .entry)) (now (doors .entry))) i ⌝ }
 {
-    perform(b, Step::All(i), heads, doors)
+    act(b, Step::All(i), i, heads, doors)
 }
 
 // The bank after column i noted that j is halted.
 pub fn note(b: Bank, i: usize, j: usize, heads: &mut [u64; 512], doors: &mut [u64; 512]) -> Result
     ensures { λ r. ⌜ outcome r (now (heads .exit)) (now (doors .exit)) ≡ note (state b (now (heads .entry)) (now (doors .entry))) i j ⌝ }
 {
-    perform(b, Step::Note(i, j), heads, doors)
+    act(b, Step::Note(i, j), i, heads, doors)
 }
 
 // The bank with every column of a set halted, and without the packets to them.
 pub fn halt(b: Bank, m: u32, heads: &mut [u64; 512], doors: &mut [u64; 512]) -> Result
     ensures { λ r. ⌜ outcome r (now (heads .exit)) (now (doors .exit)) ≡ halt (state b (now (heads .entry)) (now (doors .entry))) m ⌝ }
 {
-    perform(b, Step::Halt(m), heads, doors)
+    halt_columns(b, m, heads, doors)
 }
 
 // The bank with halted column j running again.
 pub fn back(b: Bank, j: usize, heads: &[u64; 512], doors: &[u64; 512]) -> Result
     ensures { λ r. ⌜ outcome r (now (heads .entry)) (now (doors .entry)) ≡ back (state b (now (heads .entry)) (now (doors .entry))) j ⌝ }
 {
-    bring_back(b, bank_refusal(b, heads), j)
+    bring_back(b, j, heads)
 }
 
 // The bank with a byte written to the page of column i, a halted one too.
@@ -255,5 +259,5 @@ pub fn write(
 ) -> Result
     ensures { λ r. ⌜ outcome r (now (heads .entry)) (now (doors .entry)) ≡ write (state b (now (heads .entry)) (now (doors .entry))) i offset value ⌝ }
 {
-    write_byte(b, bank_refusal(b, heads), i, offset, value)
+    write_byte(b, i, offset, value, heads)
 }

@@ -18,8 +18,11 @@ highest = 256 ^ numberSize - 1
 
 -- "Fresh: all columns run, number 0, doors clear, sets empty, goal own subtree; the root's goal is always the whole bank."; document 02, Point 9:
 -- "Each column keeps who sent its record: the root when fresh"
+abbrev pub freshUnder : ℕ → ℕ → Column
+freshUnder root i = record { running = true; number = 0; doors = 0; send = 0; awaited = 0; owed = 0; noted = 0; whole = eqb i root; sender = root; mask = 0; pending = 0 }
+
 abbrev pub fresh : Tree → ℕ → Column
-fresh t i = record { running = true; number = 0; doors = 0; send = 0; awaited = 0; owed = 0; noted = 0; whole = eqb i (t .root); sender = t .root; mask = 0; pending = 0 }
+fresh t i = freshUnder (t .root) i
 
 -- the values of each case of `FreshColumn`
 abbrev pub freshMeant : FreshColumn → Given Column

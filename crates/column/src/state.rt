@@ -4,6 +4,7 @@ use crate::members::within;
 use crate::packet::Number;
 use crate::precedence::earlier;
 use crate::precedence::refuse_if;
+use crate::tested;
 use crate::tree::Tree;
 use crate::tree::column_refusal;
 use crate::tree::tree_refusal;
@@ -41,20 +42,8 @@ pub fn fresh(t: Tree, i: usize) -> FreshColumn
     if n != 0 {
         return FreshColumn::Refused(n);
     }
-    let sender = t.root as u8;
-    FreshColumn::Is(Column {
-        running: true,
-        number: 0,
-        doors: 0,
-        send: 0,
-        awaited: 0,
-        owed: 0,
-        noted: 0,
-        whole: i == t.root,
-        sender,
-        mask: 0,
-        pending: 0,
-    })
+    let root = t.root as u8;
+    FreshColumn::Is(tested::fresh(root, i))
 }
 
 // 4 where row 4 refuses the state of column i, else 0. The tree is not tested.

@@ -8,18 +8,18 @@ use Rattle.bank.specs.QuickSteps.{broken}
 use Rattle.bank.proofs.dispatch.dispatch.Statement.{statement}
 use Rattle.bank.proofs.dispatch.dispatch.Tie as tie
 
-abbrev given : tie.After-bank-refusal → State
+abbrev given : tie.After-survey → State
 given c = let a = c .before .before .args in state (a .b) (a .heads .now) (a .doors .now)
 
-refusal : (c : tie.After-bank-refusal) → c .bank-refusal .result ≡ bankRefusal (given c)
-refusal c = c .bank-refusal .ensures (given c .doors)
+refusal : (c : tie.After-survey) → c .survey .result .refusal ≡ bankRefusal (given c)
+refusal c = c .survey .ensures .refuses (given c .doors)
 
-bank-refusal-requires : tie.Need-bank-refusal-requires
-bank-refusal-requires c κs = search needs
+survey-requires : tie.Need-survey-requires
+survey-requires c κs = search needs
 
 returns : tie.Need-returns
 returns c =
-    let k = c .before in
+    let k = c .before .before in
     let s = given k in
     let ne : bankRefusal s ≡ 0 → ⊥ = λ e. c .if1 .taken (refusal k ∙ e) in
     record {
@@ -30,13 +30,14 @@ returns c =
 take-turns-requires : tie.Need-take-turns-requires
 take-turns-requires c κs =
     let e = c .before .before in
-    sym (refusal (e .before)) ∙ e .if1 .left
+    let k = e .before .before in
+    (sym (refusal k) ∙ e .if1 .left, k .survey .ensures .running-is (e .if1 .left))
 
 returns-2 : tie.Need-returns-2
 returns-2 c =
     let e = c .before .before .before in
-    let k = e .before in
+    let k = e .before .before in
     rw (eq-eqb (bankRefusal (given k)) 0 (sym (refusal k) ∙ e .if1 .left)) (c .take-turns .ensures)
 
 pub dispatch-spec : {M : Type 1} → statement M
-dispatch-spec = tie.close (tie.spec bank-refusal-requires returns take-turns-requires returns-2)
+dispatch-spec = tie.close (tie.spec survey-requires returns take-turns-requires returns-2)

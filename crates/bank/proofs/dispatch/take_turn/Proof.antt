@@ -1,8 +1,8 @@
 use borrow.Author.Needs.{needs}
-use mathlib.Core.Path.{_≡_, refl, sym, ap, _∙_}
+use mathlib.Core.Path.{_≡_, sym, _∙_}
+use native.Mathlib.Omega.{arith}
 use borrow.Author.Tests.{not-true, not-false}
-use Rattle.bank.specs.ChangeLaws.{refused-at}
-use Rattle.bank.specs.TurnLaws.{turn-own, turn-receiver, turn-none, turn-takes}
+use Rattle.bank.specs.TurnLaws.{turn-own, turn-receiver, turn-takes}
 use Rattle.bank.proofs.dispatch.take_turn.Statement.{statement}
 use Rattle.bank.proofs.dispatch.take_turn.Tie as tie
 
@@ -25,40 +25,23 @@ returns c =
     turn-own (a .heads .now) (a .doors .now) handed ok (a .x) quick is (sym (e .before .is-take .ensures) ∙ not-true _ (e .if1 .taken)) (o .core-step .result) (o .core-step .ensures)
     (c .settle .ensures b (a .i) (handed .count-is) (handed .lit))
 
-unchanged-requires : tie.Need-unchanged-requires
-unchanged-requires c κs = search needs
+taken-requires : tie.Need-taken-requires
+taken-requires c κs =
+    let e = c .before .before in
+    let s = e .before .before in
+    (s .pre .1 (sym (e .before .is-take .ensures) ∙ not-false _ (e .if1 .left)), s .pre .0)
 
 returns-2 : tie.Need-returns-2
 returns-2 c =
     λ b handed ok quick is.
-    let f = c .before in
-    let e = f .before in
-    let a = e .before .before .args in
-    refused-at b (a .i) (a .heads .now) (a .doors .now) (c .unchanged .ensures)
-    ∙ turn-none (a .heads .now) (a .doors .now) handed ok (a .x) quick is (sym (e .before .is-take .ensures) ∙ not-false _ (e .if1 .left)) (f .if2 .taken)
-
-taken-requires : tie.Need-taken-requires
-taken-requires c κs = search needs
-
-returns-3 : tie.Need-returns-3
-returns-3 c =
-    λ b handed ok quick is.
-    let f = c .before .before .before in
-    let e = f .before in
-    let a = e .before .before .args in
+    let e = c .before .before .before in
+    let s = e .before .before in
+    let a = s .args in
     let takes = sym (e .before .is-take .ensures) ∙ not-false _ (e .if1 .left) in
+    let some : a .count ≡ 0 → ⊥ = λ z. omega (arith, z, s .pre .1 takes) in
     c .taken .ensures b handed ok (turn-receiver (a .heads .now) (a .doors .now) handed ok (a .x) quick is takes)
-    ∙ turn-takes (a .heads .now) (a .doors .now) handed ok (a .x) quick is takes (f .if2 .left)
+    ∙ turn-takes (a .heads .now) (a .doors .now) handed ok (a .x) quick is takes some
 
 pub take-turn-spec : {M : Type 1} → statement M
 take-turn-spec =
-    tie.close
-    (tie.spec
-    is-take-requires
-    core-step-requires
-    settle-requires
-    returns
-    unchanged-requires
-    returns-2
-    taken-requires
-    returns-3)
+    tie.close (tie.spec is-take-requires core-step-requires settle-requires returns taken-requires returns-2)

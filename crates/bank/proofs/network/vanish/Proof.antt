@@ -14,22 +14,22 @@ keep-requires : tie.Need-keep-requires
 keep-requires c κs = search needs
 
 lengths : (c : tie.After-keep) → let a = c .before .before .before .args in
-    (a .b .count ≤ length (a .heads .now)) × (a .b .count ≤ length (a .doors .now))
+    (a .count ≤ length (a .heads .now)) × (a .count ≤ length (a .doors .now))
 lengths c = keep-requires (c .before) (c .keep .lifetimes)
 
-few : (c : tie.After-keep) → c .keep .result ≤ c .before .before .before .args .b .count
+few : (c : tie.After-keep) → c .keep .result ≤ c .before .before .before .args .count
 few c =
     let a = c .before .before .before .args in
-    let h = take (a .b .count) (a .heads .now) in
-    omega (arith, c .keep .ensures .many, keeping-few (elsewhere (has (a .m))) h h, length-take (a .b .count) (a .heads .now))
+    let h = take (a .count) (a .heads .now) in
+    omega (arith, c .keep .ensures .many, keeping-few (elsewhere (has (a .m))) h h, length-take (a .count) (a .heads .now))
 
 same : (c : tie.After-keep) → let a = c .before .before .before .args in
-    let h = take (a .b .count) (a .heads .now) in
-    length (keeping (elsewhere (has (a .m))) h h) ≡ length (keeping (elsewhere (has (a .m))) h (take (a .b .count) (a .doors .now)))
+    let h = take (a .count) (a .heads .now) in
+    length (keeping (elsewhere (has (a .m))) h h) ≡ length (keeping (elsewhere (has (a .m))) h (take (a .count) (a .doors .now)))
 same c =
     let a = c .before .before .before .args in
-    let h = take (a .b .count) (a .heads .now) in
-    keeping-same (elsewhere (has (a .m))) h h (take (a .b .count) (a .doors .now)) (simp length-take (omega (arith, lengths c)))
+    let h = take (a .count) (a .heads .now) in
+    keeping-same (elsewhere (has (a .m))) h h (take (a .count) (a .doors .now)) (simp length-take (omega (arith, lengths c)))
 
 clear-requires : tie.Need-clear-requires
 clear-requires c κs =
@@ -51,12 +51,12 @@ returns c =
     let h = a .heads .now in
     let d = a .doors .now in
     let f = elsewhere (has (a .m)) in
-    let n = a .b .count in
+    let n = a .count in
     let s = k .keep .ensures in
     let r = k .keep .result in
     let heads = c .before .before .clear .ensures ∙ partly-padded f h h 0 0 n r n 0 _ (s .heads-are) (s .many) (few k) in
     let doors = c .clear2 .ensures ∙ partly-padded f h d 0 0 n r n 0 _ (s .doors-are) (s .many ∙ same k) (few k) in
-    λ t. state (counting (a .b) (s .many t)) (heads t) (doors t)
+    λ b t. state (counting b (s .many t)) (heads t) (doors t)
 
 pub vanish-spec : {M : Type 1} → statement M
 vanish-spec = tie.close (tie.spec keep-requires clear-requires clear-requires-2 returns)

@@ -1,53 +1,75 @@
 use borrow.Author.Needs.{needs}
 use Prim.Native.Nat.{ℕ, _<_}
-use mathlib.Core.Path.{sym, ap, ap₂, _∙_}
-use mathlib.Core.Bool.{Bool}
-use mathlib.Core.List.{List, [], _∷_}
+use mathlib.Core.Path.{_≡_, sym, ap, _∙_}
+use mathlib.Core.List.{List, []}
 use native.Mathlib.Omega.{arith}
-use lib.Dec.{leb}
-use borrow.Author.Tests.{leb-false}
-use Rattle.column.specs.Refusals.{first, earlier}
-use Rattle.column.specs.RefusalLaws.{passed, earlier-none}
-use Rattle.column.specs.Pages.{written}
+use Rattle.column.specs.RefusalLaws.{earlier-none}
+use Rattle.column.specs.TreeLaws.{tree-sixteen}
 use Rattle.column.specs.declared.state.Column.{Column}
-use Rattle.bank.specs.Banks.{state}
+use Rattle.bank.specs.Banks.{State, state, actingRefusal}
+use Rattle.bank.specs.StandingLaws.{acting}
 use Rattle.bank.specs.StepLaws.{unless-refused, unless-goes, accepted-words}
 use Rattle.bank.specs.Steps.{accepted, withPlace}
-use Rattle.bank.specs.PageSteps.{writingRefusal}
-use Rattle.bank.specs.declared.bank.Bank.{Bank}
+use Rattle.bank.specs.Pages.{writeRefusal}
 use Rattle.bank.proofs.page.write_byte.Statement.{statement}
 use Rattle.bank.proofs.page.write_byte.Tie as tie
 
-write-refusal-requires : tie.Need-write-refusal-requires
-write-refusal-requires c κs = search needs
+abbrev given : tie.Start → List ℕ → State
+given c doors = state (c .args .b) (c .args .heads .now) doors
+
+survey-requires : tie.Need-survey-requires
+survey-requires c κs = search needs
+
+refuse-if-requires : tie.Need-refuse-if-requires
+refuse-if-requires c κs = search needs
+
+writable-requires : tie.Need-writable-requires
+writable-requires c κs = search needs
+
+refuse-if-requires-2 : tie.Need-refuse-if-requires-2
+refuse-if-requires-2 c κs = search needs
 
 refused-requires : tie.Need-refused-requires
 refused-requires c κs = search needs
 
+refusal : (c : tie.After-refuse-if2) (doors : List ℕ) → let s = c .before .before .before .before .before .before in c .refuse-if2 .result ≡ writeRefusal (given s doors) (s .args .i) (s .args .offset)
+unfolding writeRefusal
+refusal c doors =
+    let f = c .before .before in
+    let v = f .before .before .before in
+    rw (c .refuse-if2 .ensures, c .before .writable .ensures, f .refuse-if .ensures, v .survey .ensures .refuses doors)
+
+abbrev start : tie.After-refuse-if2 → tie.Start
+start c = c .before .before .before .before .before .before
+
 returns : tie.Need-returns
 returns c =
     let k = c .before .before in
-    let a = k .before .args in
-    λ heads doors. unless-refused (state (a .b) heads doors) _ _ _ (c .refused .result) (k .write-refusal .ensures) (c .before .if1 .taken) (c .refused .ensures)
+    λ doors. unless-refused (given (start k) doors) _ _ _ (c .refused .result) (refusal k doors) (c .before .if1 .taken) (c .refused .ensures)
 
-column-at-requires : tie.Need-column-at-requires
-column-at-requires c κs = search needs
+-- the refusal has tested that the bank has the column
+below : (c : tie.Else1) → start (c .before) .args .i < 16
+unfolding writeRefusal
+below c =
+    let s = given (start (c .before)) [] in
+    let i = start (c .before) .args .i in
+    let q = acting s i (earlier-none (actingRefusal s i) _ (sym (refusal (c .before) []) ∙ c .if1 .left) .0) in
+    omega (arith, q .1, tree-sixteen (s .bank .tree) (q .0 .tree))
+
+mul-c : tie.Need-mul-c
+mul-c c = search (needs, below c)
+
+element-copy-out-c : tie.Need-element-copy-out-c
+element-copy-out-c c = search (needs, below c)
 
 written-requires : tie.Need-written-requires
 written-requires c κs = search needs
 
--- the refusal has tested that the bank has the column
-below : (c : tie.Else1) → c .before .before .args .i < 16
-unfolding writingRefusal
-below c =
-    let a = c .before .before .args in
-    let four : List (ℕ × Bool) = (4, leb (a .b .tree .columns) (a .i)) ∷ [] in
-    let none = sym (c .before .write-refusal .ensures) ∙ c .if1 .left in
-    let q = earlier-none (a .n) (first four) (earlier-none (earlier (a .n) (first four)) _ none .0) in
-    omega (arith, c .before .before .pre (q .0), leb-false (a .b .tree .columns) (a .i) (passed four tt (q .1) .0))
+mul-changed : tie.Need-mul-changed
+mul-changed c = search (needs, below (c .before .before))
 
-with-column-requires : tie.Need-with-column-requires
-with-column-requires c κs = below (c .before .before)
+element-set-from-changed : tie.Need-element-set-from-changed
+element-set-from-changed c = search (needs, below (c .before .before))
 
 done-requires : tie.Need-done-requires
 done-requires c κs = search needs
@@ -55,26 +77,28 @@ done-requires c κs = search needs
 returns-2 : tie.Need-returns-2
 returns-2 c =
     let w = c .before in
-    let v = w .before in
-    let u = v .before in
-    let k = u .before .before in
-    let a = k .before .args in
-    λ heads doors.
-    accepted-words (c .done .result) _ heads doors (c .done .ensures)
-    ∙ ap (λ (x : Bank). accepted (state x heads doors))
-    (w .with-column .ensures ∙ ap (λ (y : Column). withPlace (a .b) (a .i) y)
-    (v .written .ensures ∙ ap (λ (y : Column). written y (a .offset) (a .value)) (u .column-at .ensures)))
-    ∙ unless-goes (state (a .b) heads doors) _ _ _ (k .write-refusal .ensures) (u .before .if1 .left)
+    let e = w .before .before in
+    let k = e .before in
+    let a = start k .args in
+    λ doors.
+    accepted-words (c .done .result) _ (a .heads .now) doors (c .done .ensures)
+    ∙ ap (λ (y : Column). accepted (state (withPlace (a .b) (a .i) y) (a .heads .now) doors)) (w .written .ensures)
+    ∙ unless-goes (given (start k) doors) _ _ _ (refusal k doors) (e .if1 .left)
 
 pub write-byte-spec : {M : Type 1} → statement M
 write-byte-spec =
     tie.close
     (tie.spec
-    write-refusal-requires
+    survey-requires
+    refuse-if-requires
+    writable-requires
+    refuse-if-requires-2
     refused-requires
     returns
-    column-at-requires
+    mul-c
+    element-copy-out-c
     written-requires
-    with-column-requires
+    mul-changed
+    element-set-from-changed
     done-requires
     returns-2)

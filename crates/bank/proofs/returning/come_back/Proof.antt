@@ -5,26 +5,17 @@ use mathlib.Core.Path.{_∙_}
 use Rattle.bank.proofs.returning.come_back.Statement.{statement}
 use Rattle.bank.proofs.returning.come_back.Tie as tie
 
-running-requires : tie.Need-running-requires
-running-requires c κs = search needs
-
 lowest-requires : tie.Need-lowest-requires
 lowest-requires c κs = search needs
 
 cast-sender : tie.Need-cast-sender
-cast-sender c = omega (arith, c .lowest .ensures, trailing-le 16 (c .before .running .result))
-
-column-at-requires : tie.Need-column-at-requires
-column-at-requires c κs = search needs
-
-column-at-requires-2 : tie.Need-column-at-requires-2
-column-at-requires-2 c κs = search needs
+cast-sender c = omega (arith, c .lowest .ensures, trailing-le 16 (c .before .args .running))
 
 halted-requires : tie.Need-halted-requires
 halted-requires c κs = search needs
 
-runs-requires : tie.Need-runs-requires
-runs-requires c κs = search needs
+has-requires : tie.Need-has-requires
+has-requires c κs = search needs
 
 rejoin-requires : tie.Need-rejoin-requires
 rejoin-requires c κs = search needs
@@ -37,31 +28,16 @@ returns c =
     let joined = c .before in
     let root = joined .before in
     let others = root .before in
-    let copied = others .before in
-    let own = copied .before in
-    let low = own .before in
-    c .strike .ensures
-    ∙ rw (
-      joined .rejoin .ensures,
-      root .runs .ensures,
-      others .halted .ensures,
-      copied .column-at2 .ensures,
-      own .column-at .ensures,
-      low .lowest .ensures,
-      low .before .running .ensures,
-    )
+    c .strike .ensures ∙ rw (joined .rejoin .ensures, root .has .ensures, others .halted .ensures, others .before .lowest .ensures)
 
 pub come-back-spec : {M : Type 1} → statement M
 come-back-spec =
     tie.close
     (tie.spec
-    running-requires
     lowest-requires
     cast-sender
-    column-at-requires
-    column-at-requires-2
     halted-requires
-    runs-requires
+    has-requires
     rejoin-requires
     strike-requires
     returns)

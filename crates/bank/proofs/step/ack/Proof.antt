@@ -1,14 +1,16 @@
 use borrow.Author.Needs.{needs}
+use mathlib.Core.Path.{_≡_, refl}
+use borrow.Author.Tests.{eq-eqb}
 use Rattle.bank.specs.Performs.{perform}
 use Rattle.bank.proofs.step.ack.Statement.{statement}
 use Rattle.bank.proofs.step.ack.Tie as tie
 
-perform-requires : tie.Need-perform-requires
-perform-requires c κs = search needs
+act-requires : tie.Need-act-requires
+act-requires c κs = let i = c .before .before .args .i in (refl, eq-eqb i i refl)
 
 returns : tie.Need-returns
 unfolding perform
-returns c = c .perform .ensures
+returns c = c .act .ensures
 
 pub ack-spec : {M : Type 1} → statement M
-ack-spec = tie.close (tie.spec perform-requires returns)
+ack-spec = tie.close (tie.spec act-requires returns)

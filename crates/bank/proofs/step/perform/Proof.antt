@@ -1,13 +1,9 @@
 use borrow.Author.Needs.{needs}
 use mathlib.Core.Path.{_≡_, refl, sym, ap, _∙_}
 use borrow.Author.Tests.{eq-eqb}
-use Rattle.bank.specs.Banks.{state, bankRefusal}
+use Rattle.bank.specs.Banks.{state}
 use Rattle.bank.specs.Performs.{perform}
 use Rattle.bank.specs.Changes.{isOwn}
-use Rattle.bank.specs.StandingLaws.{stands}
-use Rattle.bank.specs.ReturnLaws.{brought-back}
-use Rattle.bank.specs.PageSteps.{page-written}
-use Rattle.column.specs.TreeLaws.{tree-sixteen}
 use mathlib.Core.Path.{subst}
 use mathlib.Core.Bool.{true}
 use Rattle.bank.specs.Places.{acts}
@@ -15,23 +11,16 @@ use Rattle.bank.specs.declared.step.Step.{Step}
 use Rattle.bank.proofs.step.perform.Statement.{statement}
 use Rattle.bank.proofs.step.perform.Tie as tie
 
-refusal : (c : tie.After-bank-refusal) → let a = c .before .before .args in c .bank-refusal .result ≡ bankRefusal (state (a .b) (a .heads .now) (a .doors .now))
-refusal c = c .bank-refusal .ensures (c .before .before .args .doors .now)
-
-bank-refusal-requires : tie.Need-bank-refusal-requires
-bank-refusal-requires c κs = search needs
-
 enum-told : tie.Need-enum-told
 enum-told c = search needs
 
 act-requires : tie.Need-act-requires
 act-requires c κs =
     let k = c .before .before in
-    let r = k .before .before .before in
-    let a = r .before .before .args in
+    let a = k .before .before .before .args in
     let root = a .b .tree .root in
     let e = k .enum-told .given .1 in
-    (refusal r, (ap isOwn e, subst (λ (y : Step). acts (state (a .b) (a .heads .now) (a .doors .now)) y root ≡ true) (sym e) (eq-eqb root root refl)))
+    (ap isOwn e, subst (λ (y : Step). acts (state (a .b) (a .heads .now) (a .doors .now)) y root ≡ true) (sym e) (eq-eqb root root refl))
 
 enum-known-x : tie.Need-enum-known-x
 enum-known-x c = search needs
@@ -40,13 +29,13 @@ act-requires-2 : tie.Need-act-requires-2
 act-requires-2 c κs =
     let k = c .before .before .before in
     let i = k .x .given .0 .0 in
-    (refusal (k .before .before .before), (refl, eq-eqb i i refl))
+    (refl, eq-eqb i i refl)
 
 enum-known-x-2 : tie.Need-enum-known-x-2
 enum-known-x-2 c = search needs
 
 take-packet-requires : tie.Need-take-packet-requires
-take-packet-requires c κs = refusal (c .before .before .before .before .before .before)
+take-packet-requires c κs = search needs
 
 enum-known-x-3 : tie.Need-enum-known-x-3
 enum-known-x-3 c = search needs
@@ -55,7 +44,7 @@ act-requires-3 : tie.Need-act-requires-3
 act-requires-3 c κs =
     let k = c .before .before .before in
     let i = k .x3 .given .0 .0 in
-    (refusal (k .before .before .before), (refl, eq-eqb i i refl))
+    (refl, eq-eqb i i refl)
 
 enum-known-x-4 : tie.Need-enum-known-x-4
 enum-known-x-4 c = search needs
@@ -64,7 +53,7 @@ act-requires-4 : tie.Need-act-requires-4
 act-requires-4 c κs =
     let k = c .before .before .before in
     let i = k .x4 .given .0 .0 in
-    (refusal (k .before .before .before), (refl, eq-eqb i i refl))
+    (refl, eq-eqb i i refl)
 
 enum-known-x-5 : tie.Need-enum-known-x-5
 enum-known-x-5 c = search needs
@@ -73,29 +62,25 @@ act-requires-5 : tie.Need-act-requires-5
 act-requires-5 c κs =
     let k = c .before .before .before in
     let i = k .x5 .given .0 .0 in
-    (refusal (k .before .before .before), (refl, eq-eqb i i refl))
+    (refl, eq-eqb i i refl)
 
 enum-known-x-6 : tie.Need-enum-known-x-6
 enum-known-x-6 c = search needs
 
 halt-columns-requires : tie.Need-halt-columns-requires
-halt-columns-requires c κs = refusal (c .before .before .before .before .before .before)
+halt-columns-requires c κs = search needs
 
 enum-known-x-7 : tie.Need-enum-known-x-7
 enum-known-x-7 c = search needs
 
 bring-back-requires : tie.Need-bring-back-requires
-bring-back-requires c κs z =
-    let r = c .before .before .before .before in
-    tree-sixteen _ (stands _ (sym (refusal r) ∙ z) .tree)
+bring-back-requires c κs = search needs
 
 enum-known-x-8 : tie.Need-enum-known-x-8
 enum-known-x-8 c = search needs
 
 write-byte-requires : tie.Need-write-byte-requires
-write-byte-requires c κs z =
-    let r = c .before .before .before .before in
-    tree-sixteen _ (stands _ (sym (refusal r) ∙ z) .tree)
+write-byte-requires c κs = search needs
 
 returns : tie.Need-returns
 returns c = c .act .ensures
@@ -123,26 +108,19 @@ returns-7 c = c .halt-columns .ensures ∙ rw (c .before .before .before .before
 returns-8 : tie.Need-returns-8
 unfolding perform
 returns-8 c =
-    let k = c .before .before in
-    let r = k .before .before .before in
-    let a = r .before .before .args in
-    let s = state (a .b) (a .heads .now) (a .doors .now) in
-    c .bring-back .ensures (s .heads) (s .doors) ∙ brought-back s _ (refusal r) ∙ rw (k .x7 .given .1)
+    let k = c .before .before .before in
+    c .bring-back .ensures (k .before .before .before .args .doors .now) ∙ rw (k .x7 .given .1)
 
 returns-9 : tie.Need-returns-9
 unfolding perform
 returns-9 c =
-    let k = c .before .before in
-    let r = k .before .before .before in
-    let a = r .before .before .args in
-    let s = state (a .b) (a .heads .now) (a .doors .now) in
-    c .write-byte .ensures (s .heads) (s .doors) ∙ page-written s _ _ _ (refusal r) ∙ rw (k .x8 .given .1)
+    let k = c .before .before .before in
+    c .write-byte .ensures (k .before .before .before .args .doors .now) ∙ rw (k .x8 .given .1)
 
 pub perform-spec : {M : Type 1} → statement M
 perform-spec =
     tie.close
     (tie.spec
-    bank-refusal-requires
     enum-told
     act-requires
     enum-known-x

@@ -2,7 +2,7 @@ use borrow.Author.Needs.{needs}
 use native.Mathlib.Omega.{arith}
 use mathlib.Core.Path.{sym, ap, _∙_}
 use borrow.Author.Tests.{eq-eqb, ne-eqb}
-use Rattle.column.specs.Refusals.{refused}
+use Rattle.column.specs.Refusals.{given, refused}
 use Rattle.column.specs.RefusalLaws.{earlier-none}
 use Rattle.column.specs.Trees.{treeRefusal}
 use Rattle.column.specs.TreeLaws.{tree-root}
@@ -17,17 +17,21 @@ returns c =
     let e = c .before .column-refusal .ensures in
     simp (ne-eqb _ _ (λ z. c .if1 .taken (e ∙ z))) (ap refused e)
 
-cast-sender : tie.Need-cast-sender
-cast-sender c =
+cast-root : tie.Need-cast-root
+cast-root c =
     let e = c .before in
     let t = e .before .before .args .t in
     let good = earlier-none (treeRefusal t) _ (sym (e .before .column-refusal .ensures) ∙ e .if1 .left) .0 in
     omega (arith, tree-root t good)
 
+fresh-requires : tie.Need-fresh-requires
+fresh-requires c κs = search needs
+
 returns-2 : tie.Need-returns-2
 returns-2 c =
     let e = c .before .before in
-    simp (eq-eqb _ _ (sym (e .before .column-refusal .ensures) ∙ e .if1 .left))
+    simp (eq-eqb _ _ (sym (e .before .column-refusal .ensures) ∙ e .if1 .left)) (ap given (c .fresh .ensures))
 
 pub fresh-spec : {M : Type 1} → statement M
-fresh-spec = tie.close (tie.spec column-refusal-requires returns cast-sender returns-2)
+fresh-spec =
+    tie.close (tie.spec column-refusal-requires returns cast-root fresh-requires returns-2)

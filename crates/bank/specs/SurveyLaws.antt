@@ -1,0 +1,174 @@
+-- What the two passes of a survey gather is what row 4 asks of each column and of each packet; and what who runs tells of a set. Assumes nothing.
+use Prim.Native.Nat.{ℕ, _<_, _^_}
+use mathlib.Core.Path.{_≡_, refl, sym, ap, ap₂, _∙_}
+use mathlib.Core.Logic.{_⊎_, inl, inr}
+use mathlib.Core.Bool.{Bool, true, false, not, _&&_, _||_, cond, true≢false}
+use native.Mathlib.Omega.{arith}
+use lib.Bits.{xor-lt}
+use lib.Dec.{eqb, ltb}
+use lib.Pow.{pow-pos}
+use borrow.Author.Tests.{eq-eqb, ne-eqb, lt-leb, ltb-true}
+use Rattle.column.specs.Cases.{truth, equal-cases, and-left}
+use Rattle.column.specs.Sets.{has, join, insert, minus, whole, within}
+use Rattle.column.specs.SetLaws.{has-none, has-join, has-insert, has-minus, join-lt, insert-lt, same-members, selected-lt, selected-has, within-join}
+use Rattle.column.specs.SequenceLaws.{whole-has}
+use Rattle.column.specs.Columns.{stateRefusal}
+use Rattle.column.specs.Trees.{every}
+use Rattle.column.specs.TreeLaws.{every-at, every-all}
+use Rattle.column.specs.declared.tree.Tree.{Tree}
+use Rattle.column.specs.declared.state.Column.{Column}
+use Rattle.bank.specs.Words.{receiverIn}
+use Rattle.bank.specs.Banks.{runs, runningOf, haltedOf}
+use Rattle.bank.specs.Standing.{endsStand, headStands}
+use Rattle.bank.specs.StandingLaws.{not-below}
+use Rattle.bank.specs.declared.bank.Bank.{Bank}
+
+-- ---- who does not run
+
+-- a column below the count is a member exactly where it is none of those that run
+pub others-halted : (b : Bank) → minus (whole (b .tree .columns)) (runningOf b) ≡ haltedOf b
+others-halted b =
+    let n = b .tree .columns in
+    let most : whole n < 2 ^ n = omega (arith, pow-pos n) in
+    let some = selected-lt (runs b) n n (omega arith) in
+    same-members n _ (haltedOf b) (xor-lt n _ _ (join-lt n _ _ most some) some) (selected-lt (λ j. not (runs b j)) n n (omega arith))
+    (λ j h.
+    has-minus (whole n) (runningOf b) j
+    ∙ ap₂ (λ (x y : Bool). x && not y) (whole-has n j h) (selected-has (runs b) n j h)
+    ∙ sym (selected-has (λ j. not (runs b j)) n j h))
+
+-- ---- a column
+
+column-table : (m stand s a o w own root whole below : Bool)
+    → ((m && (((s && a) && o) && w)) && (stand && (not own && ((not root || whole) && below))))
+    ≡ ((m && stand) && eqb (cond (not s) 4 (cond (not a) 4 (cond (not o) 4 (cond (not w) 4 (cond own 4 (cond (root && not whole) 4 (cond (not below) 4 0))))))) 0)
+column-table false stand s a o w own root whole below = refl
+column-table true stand false a o w own root whole below = go stand
+  where
+    go : (stand : Bool) → false ≡ ((true && stand) && false)
+    go true = refl
+    go false = refl
+column-table true stand true false o w own root whole below = go stand
+  where
+    go : (stand : Bool) → false ≡ ((true && stand) && false)
+    go true = refl
+    go false = refl
+column-table true stand true true false w own root whole below = go stand
+  where
+    go : (stand : Bool) → false ≡ ((true && stand) && false)
+    go true = refl
+    go false = refl
+column-table true stand true true true false own root whole below = go stand
+  where
+    go : (stand : Bool) → false ≡ ((true && stand) && false)
+    go true = refl
+    go false = refl
+column-table true false true true true true own root whole below = refl
+column-table true true true true true true true root whole below = refl
+column-table true true true true true true false true false below = refl
+column-table true true true true true true false true true true = refl
+column-table true true true true true true false true true false = refl
+column-table true true true true true true false false whole true = refl
+column-table true true true true true true false false whole false = refl
+
+-- the members so far and the column's own joined, and its other conditions
+pub column-joined : (t : Tree) (i : ℕ) (c : Column) (members : ℕ) (stand : Bool) → i < t .columns
+    → (within (join members (join (join (join (c .send) (c .awaited)) (c .owed)) (c .noted))) (t .columns)
+    && (stand && (not (has (c .owed) i) && ((not (eqb i (t .root)) || c .whole) && ltb (c .sender) (t .columns)))))
+    ≡ ((within members (t .columns) && stand) && eqb (stateRefusal t i c) 0)
+unfolding stateRefusal
+column-joined t i c members stand h =
+    let n = t .columns in
+    rw (
+      within-join members (join (join (join (c .send) (c .awaited)) (c .owed)) (c .noted)) n,
+      within-join (join (join (c .send) (c .awaited)) (c .owed)) (c .noted) n,
+      within-join (join (c .send) (c .awaited)) (c .owed) n,
+      within-join (c .send) (c .awaited) n,
+      lt-leb n i h,
+      not-below (c .sender) n,
+    )
+    (column-table (within members n) stand (within (c .send) n) (within (c .awaited) n) (within (c .owed) n) (within (c .noted) n)
+    (has (c .owed) i) (eqb i (t .root)) (c .whole) (ltb (c .sender) n))
+
+-- ---- a packet
+
+pub head-ends : (columns root : ℕ) (watch : Bool) (running head : ℕ)
+    → headStands columns root watch running head ≡ (endsStand columns root watch head && has running (receiverIn head))
+unfolding headStands endsStand
+head-ends columns root watch running head = go (ltb (receiverIn head) columns) _ _
+  where
+    go : (a b c : Bool) → (a && (b && c)) ≡ ((a && b) && c)
+    go true b c = refl
+    go false b c = refl
+
+pub ends-below : (columns root : ℕ) (watch : Bool) (head : ℕ) → endsStand columns root watch head ≡ true → receiverIn head < columns
+unfolding endsStand
+ends-below columns root watch head e = ltb-true (receiverIn head) columns (and-left (ltb (receiverIn head) columns) _ e)
+
+pub covers-none : (k r : ℕ) → r < 2 ^ k → eqb (join 0 r) r ≡ true
+covers-none k r h = eq-eqb (join 0 r) r (same-members k (join 0 r) r (join-lt k 0 r (pow-pos k) h) h (λ i l. has-join 0 r i ∙ rw (has-none i)))
+
+-- every member of m and i itself are of r
+pub covers-insert : (k r m i : ℕ) → m < 2 ^ k → r < 2 ^ k → i < k → eqb (join (insert m i) r) r ≡ (eqb (join m r) r && has r i)
+covers-insert k r m i hm hr hi = go (truth (has r i))
+  where
+    or-true : (b : Bool) → (b || true) ≡ true
+    or-true true = refl
+    or-true false = refl
+
+    or-none : (b : Bool) → (b || false) ≡ b
+    or-none true = refl
+    or-none false = refl
+
+    and-true : (b : Bool) → (b && true) ≡ b
+    and-true true = refl
+    and-true false = refl
+
+    and-false : (b : Bool) → (b && false) ≡ false
+    and-false true = refl
+    and-false false = refl
+
+    member : (j : ℕ) → has (join (insert m i) r) j ≡ ((has m j || eqb j i) || has r j)
+    member j = has-join (insert m i) r j ∙ ap (λ (x : Bool). x || has r j) (has-insert m i j)
+
+    same : has r i ≡ true → (j : ℕ) → j < k → has (join (insert m i) r) j ≡ has (join m r) j
+    same e j l = member j ∙ at (equal-cases j i) ∙ sym (has-join m r j)
+      where
+        at : (j ≡ i) ⊎ (j ≡ i → ⊥) → ((has m j || eqb j i) || has r j) ≡ (has m j || has r j)
+        at (inl p) = rw (p, e, or-true (has m i || eqb i i), or-true (has m i))
+        at (inr p) = rw (ne-eqb j i p, or-none (has m j))
+
+    go : (has r i ≡ true) ⊎ (has r i ≡ false) → eqb (join (insert m i) r) r ≡ (eqb (join m r) r && has r i)
+    go (inl e) =
+        ap (λ (x : ℕ). eqb x r) (same-members k (join (insert m i) r) (join m r) (join-lt k (insert m i) r (insert-lt k m i hm hi) hr) (join-lt k m r hm hr) (same e))
+        ∙ sym (and-true (eqb (join m r) r)) ∙ ap (λ (x : Bool). eqb (join m r) r && x) (sym e)
+    go (inr e) =
+        ne-eqb (join (insert m i) r) r (λ p. true≢false (sym (member i ∙ rw (eq-eqb i i refl, or-true (has m i))) ∙ ap (λ (x : ℕ). has x i) p ∙ e))
+        ∙ sym (and-false (eqb (join m r) r)) ∙ ap (λ (x : Bool). eqb (join m r) r && x) (sym e)
+
+-- ---- a set of columns
+
+-- every member of m is of r
+pub covers-members : (n m r : ℕ) → m < 2 ^ n → r < 2 ^ n → eqb (join m r) r ≡ every (λ j. not (has m j) || has r j) n
+covers-members n m r hm hr = go (truth (every test n))
+  where
+    test : ℕ → Bool
+    test j = not (has m j) || has r j
+
+    joined : (a b : Bool) → (not a || b) ≡ true → (a || b) ≡ b
+    joined true b e = sym e
+    joined false b e = refl
+
+    apart : (a b : Bool) → (a || b) ≡ b → (not a || b) ≡ true
+    apart true b e = sym e
+    apart false b e = refl
+
+    go : (every test n ≡ true) ⊎ (every test n ≡ false) → eqb (join m r) r ≡ every test n
+    go (inl e) =
+        eq-eqb (join m r) r (same-members n (join m r) r (join-lt n m r hm hr) hr
+        (λ j l. has-join m r j ∙ joined (has m j) (has r j) (every-at test n j e l)))
+        ∙ sym e
+    go (inr e) =
+        ne-eqb (join m r) r (λ p. true≢false
+        (sym (every-all test n (λ j l. apart (has m j) (has r j) (sym (has-join m r j) ∙ ap (λ (x : ℕ). has x j) p))) ∙ e))
+        ∙ sym e
