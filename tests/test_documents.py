@@ -16,9 +16,9 @@ from scripts import SCRIPTS
 from stack import ROUNDS, runs_in
 
 CITING = ("SPECIFICATION.md", "REPORT.md", "PROOFS.md")
-SHORT = re.compile(r"^(column|fastest|bank|losses|figure|agreement|closing|journals|edges|handed)/(proofs/)?([A-Za-z_]+)(\.rt)?$")
-WHOLE = re.compile(r"^(crates/.+|tests/.+|docs/.+|examples/.+|crates\.txt|README\.md)$")
-BLOCK = re.compile(r"```\n(.*?)```", re.S)
+SHORT = re.compile(r"^(column|fastest|bank|losses|figure|agreement|closing|journals|firmware|edges|handed)/(proofs/)?([A-Za-z_]+)(\.rt)?$")
+WHOLE = re.compile(r"^(crates/.+|tests/.+|docs/.+|examples/.+|include/.+|crates\.txt|README\.md)$")
+BLOCK = re.compile(r"```c?\n(.*?)```", re.S)
 REQUEST = ("columns=5", "delay=2", "gap=1")
 QUOTED = re.compile(r'"(?:[^"]|"(?:send|await|exactly)")*"')
 
@@ -101,7 +101,7 @@ class Documents(Citations):
     def test_the_layers_are_the_crates_and_their_modules(self):
         layers = section(read("docs", "PROOFS.md"), "Layers")
         self.assertEqual(set(re.findall(r"crates/(\w+)", layers)), set(re.findall(r"^(\w+):", read("crates.txt"), re.M)))
-        libraries = ("column", "fastest", "bank", "losses", "closing", "journals")
+        libraries = ("column", "fastest", "bank", "losses", "closing", "journals", "firmware")
         modules = {os.path.relpath(path, ROOT) for crate in libraries for path in glob.glob(os.path.join(ROOT, "crates", crate, "src", "*.rt"))}
         named = {file_of(word) for word in spans(layers)} - {None}
         self.assertEqual(named, {path for path in modules if not path.endswith("lib.rt")})
@@ -136,9 +136,9 @@ class Readme(Citations):
 
     def test_every_refusal_is_met_by_its_example(self):
         refusals = [(int(row[0]), row[2]) for row in self.rows("The refusals")]
-        self.assertEqual([number for number, _ in refusals], list(range(1, 24)))
+        self.assertEqual([number for number, _ in refusals], list(range(1, 25)))
         told = {number: cell for number, cell in refusals if not any("=" in line for line in spans(cell))}
-        self.assertEqual(set(told), {8, 9, 11, 12, 18, 19, 20, 21, 22})
+        self.assertEqual(set(told), {8, 9, 11, 12, 18, 19, 20, 21, 22, 24})
         for number, cell in refusals:
             if number == 17:
                 self.assertEqual(answer(self.in_place(REQUEST, spans(cell)).encode()), "refused=17\n")

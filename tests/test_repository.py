@@ -34,7 +34,7 @@ def public_functions(crate):
         return
     modules = re.findall(r"^pub mod (\w+);", read(top), re.M)
     for path in [top] + [os.path.join(os.path.dirname(top), f"{module}.rt") for module in modules]:
-        for found in re.finditer(r"^(.*)\npub fn (\w+)((?:.|\n)*?)^\{", read(path), re.M):
+        for found in re.finditer(r'^(.*)\n(?:#\[no_mangle\]\n)?pub (?:extern "C" )?fn (\w+)((?:.|\n)*?)^\{', read(path), re.M):
             yield f"{crate}::{found.group(2)}", found.group(1), found.group(3)
 
 

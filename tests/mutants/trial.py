@@ -23,7 +23,7 @@ def function_of(path, line):
         return os.path.basename(os.path.dirname(path))
     if path.endswith(".rt"):
         with open(path, encoding="utf8") as file:
-            return re.search(r"fn (\w+)", file.read().split("\n")[line - 1]).group(1)
+            return re.search(r"fn (\w+)", file.read().split("\n", line - 1)[-1]).group(1)
     return None
 
 

@@ -8,6 +8,8 @@ use lib.Dec.{eqb, leb}
 use lib.ListN.{length}
 use Rattle.column.specs.Refusals.{first, earlier, Given, given, refused}
 use Rattle.column.specs.Sets.{has}
+use Rattle.column.specs.Columns.{standing}
+use Rattle.column.specs.declared.tree.Tree.{Tree}
 use Rattle.column.specs.declared.state.Column.{Column}
 use Rattle.bank.specs.Banks.{State, state, columnAt, runs, actingRefusal}
 use Rattle.bank.specs.declared.bank.Bank.{Bank}
@@ -74,3 +76,12 @@ unfoldable pub list : State → ℕ → List ℕ → ℕ → Listed
 list s i old at =
     let n = listRefusal s i in
     cond (eqb n 0) (placed old at (listText i (columnAt (s .bank) i))) (record { answer = refused n; buffer = old })
+
+-- the list of a lone column: its tree and its state are tested, and that it runs
+abbrev pub loneRefusal : Tree → ℕ → Column → ℕ
+loneRefusal t i c = earlier (standing t i c) (first ((5, not (c .running)) ∷ []))
+
+unfoldable pub loneList : Tree → ℕ → Column → List ℕ → Listed
+loneList t i c old =
+    let n = loneRefusal t i c in
+    cond (eqb n 0) (placed old 0 (listText i c)) (record { answer = refused n; buffer = old })

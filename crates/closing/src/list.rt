@@ -4,12 +4,15 @@ use crate::text::put_field;
 use crate::text::put_next;
 use bank::bank::Bank;
 use bank::standing::acting_refusal;
+use column::precedence::refuse_if;
 use column::state::Column;
+use column::state::standing;
+use column::tree::Tree;
 ghost use Prim.Native.Nat.{_+_, _≤_, _<_};
 ghost use mathlib.Core.Path.{_≡_};
 ghost use lib.ListN.{length};
 ghost use Rattle.bank.specs.Banks.{state};
-ghost use Rattle.closing.specs.Closing.{longestList, doorsUpTo, divided, listText, listed, placed, RefusesListing};
+ghost use Rattle.closing.specs.Closing.{longestList, doorsUpTo, divided, listText, listed, placed, loneList, RefusesListing};
 ghost use Rattle.closing.specs.Closing.{list as Closing·list};
 ghost use Rattle.closing.specs.Writing.{Writes};
 
@@ -100,4 +103,15 @@ pub fn list(
         return Listing::Refused(11);
     }
     write_list(i, b.columns[i], &mut buf[at..])
+}
+
+// The list of a column of which nothing but its tree and its state is known, at the start of what is lent: its length, or 2, 3, 4, 5, 11.
+pub fn lone_list(t: Tree, i: usize, c: Column, buf: &mut [u8]) -> Listing
+    ensures { λ r. ⌜ listed r (now (buf .exit)) ≡ loneList t i c (now (buf .entry)) ⌝ }
+{
+    let n = refuse_if(standing(t, i, c), !c.running, 5);
+    if n != 0 {
+        return Listing::Refused(n);
+    }
+    write_list(i, c, buf)
 }

@@ -6,11 +6,12 @@ use mathlib.Core.List.{List, [], _∷_, reverse, reverseAux, reverse-reverse}
 use native.Mathlib.Nat.{pow-suc, one-le-pow}
 use native.Mathlib.Omega.{arith}
 use lib.Dec.{eqb}
+use borrow.Author.Tests.{le-leb}
 use lib.ListN.{length, take, drop, getD, length-drop, length-reverse}
 use lib.Pow.{shr-shr, field, mod-mod-pow}
 use lib.Seq.{length-take-le, getD-drop}
 use Rattle.column.specs.Sets.{digit, has}
-use Rattle.column.specs.Packets.{lowFirst, lowValue, highFirst, highValue, occupied}
+use Rattle.column.specs.Packets.{lowFirst, lowValue, highFirst, highValue, word, occupied}
 
 -- ---- lists of bytes
 
@@ -85,6 +86,10 @@ high-first-value s h =
 
 pub high-value-lt : (k : ℕ) (s : List ℕ) → Bytes s → length s ≤ k → highValue s < 256 ^ k
 high-value-lt k s h l = low-value-lt k (reverse s) (bytes-reverse s h) (omega (arith, length-reverse s))
+
+-- what a word can hold
+pub word-is : (value : List ℕ → ℕ) (s : List ℕ) → length s ≤ 8 → word value s ≡ value s
+word-is value s h = rw (le-leb (length s) 8 h)
 
 -- ---- doors: "Door d, 1 to 64, is occupied when bit (d−1) mod 8, lowest bit 0, of byte (d−1)/8 rounded down is 1"
 

@@ -57,6 +57,10 @@ highFirst count n = reverse (lowFirst count n)
 abbrev pub highValue : List ℕ → ℕ
 highValue s = lowValue (reverse s)
 
+-- what bytes mean that a word of 64 bits can hold, at most eight; 0 of more
+abbrev pub word : (List ℕ → ℕ) → List ℕ → ℕ
+word value s = cond (leb (length s) 8) (value s) 0
+
 -- "Door d, 1 to 64, is occupied when bit (d−1) mod 8, lowest bit 0, of byte (d−1)/8 rounded down is 1"
 abbrev pub occupied : List ℕ → ℕ → Bool
 occupied bytes d = has (getD bytes ((d - 1) / 8) 0) ((d - 1) % 8)

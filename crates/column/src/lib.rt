@@ -6,7 +6,7 @@ pub mod converter;
 mod effect;
 pub mod frame;
 pub mod members;
-mod number_bytes;
+pub mod number_bytes;
 pub mod packet;
 pub mod page;
 pub mod precedence;

@@ -1,13 +1,18 @@
-// Numbers in any count of bytes, which the length of the slice says. Eight bytes are what a u64 holds.
-ghost use Prim.Native.Nat.{_≤_};
+// Numbers in any count of bytes, which the length of the slice says.
 ghost use mathlib.Core.Path.{_≡_};
 ghost use lib.ListN.{length};
-ghost use Rattle.column.specs.Packets.{lowFirst, lowValue, highFirst, highValue};
+ghost use Rattle.column.specs.Packets.{lowFirst, lowValue, highFirst, highValue, word};
 
+// Eight bytes are what a u64 holds.
+const WORD_SIZE: usize = 8;
+
+// What at most eight bytes mean, the lowest first; 0 of more.
 pub fn low_value(s: &[u8]) -> u64
-    requires { ⌜ length (now s) ≤ 8 ⌝ }
-    ensures { λ r. ⌜ r ≡ lowValue (now (s .entry)) ⌝ }
+    ensures { λ r. ⌜ r ≡ word lowValue (now (s .entry)) ⌝ }
 {
+    if WORD_SIZE < s.len() {
+        return 0;
+    }
     let mut value: u64 = 0;
     let mut i = s.len();
     while 0 < i {
@@ -18,10 +23,13 @@ pub fn low_value(s: &[u8]) -> u64
     value
 }
 
+// What at most eight bytes mean, the highest first; 0 of more.
 pub fn high_value(s: &[u8]) -> u64
-    requires { ⌜ length (now s) ≤ 8 ⌝ }
-    ensures { λ r. ⌜ r ≡ highValue (now (s .entry)) ⌝ }
+    ensures { λ r. ⌜ r ≡ word highValue (now (s .entry)) ⌝ }
 {
+    if WORD_SIZE < s.len() {
+        return 0;
+    }
     let mut value: u64 = 0;
     let mut i = 0;
     while i < s.len() {
@@ -32,6 +40,7 @@ pub fn high_value(s: &[u8]) -> u64
     value
 }
 
+// Fills the bytes with a number, the lowest first; what they cannot hold of it is left out.
 pub fn put_low_first(out: &mut [u8], number: u64)
     ensures { λ _. ⌜ now (out .exit) ≡ lowFirst (length (now (out .entry))) number ⌝ }
 {
@@ -44,6 +53,7 @@ pub fn put_low_first(out: &mut [u8], number: u64)
     }
 }
 
+// Fills the bytes with a number, the highest first; what they cannot hold of it is left out.
 pub fn put_high_first(out: &mut [u8], number: u64)
     ensures { λ _. ⌜ now (out .exit) ≡ highFirst (length (now (out .entry))) number ⌝ }
 {

@@ -6,7 +6,7 @@ use native.Mathlib.Omega.{arith}
 use lib.ListN.{length, getD, take, drop, length-take}
 use borrow.Author.Tests.{eq-eqb, ne-eqb, le-leb, lt-leb}
 use Rattle.column.specs.Packets.{lowValue, highValue}
-use Rattle.column.specs.NumberLaws.{high-value-lt, part-bytes}
+use Rattle.column.specs.NumberLaws.{high-value-lt, part-bytes, word-is}
 use Rattle.column.specs.Packets.{readIn}
 use Rattle.column.specs.PacketLaws.{read-short}
 use borrow.Author.Needs.{needs}
@@ -48,7 +48,10 @@ number : (c : tie.After-high-value)
 number c =
     let a = c .before .before .before .before .before .before .before .before .args in
     let e : 3 + a .w .count - 3 ≡ a .w .count = omega arith in
-    c .high-value .ensures ∙ ap (λ k. highValue (take k (drop 3 (a .s .now)))) e
+    let part = take (3 + a .w .count - 3) (drop 3 (a .s .now)) in
+    c .high-value .ensures
+    ∙ word-is highValue part (simp length-take (omega arith))
+    ∙ ap (λ k. highValue (take k (drop 3 (a .s .now)))) e
 
 cast-number : tie.Need-cast-number
 cast-number c =
@@ -93,7 +96,9 @@ returns-3 c =
     let s = a .s .now in
     let e : 3 + a .w .count + 8 - (3 + a .w .count) ≡ 8 = omega arith in
     let doors : c .before .low-value .result ≡ lowValue (take 8 (drop (3 + a .w .count) s)) =
-    c .before .low-value .ensures ∙ ap (λ k. lowValue (take k (drop (3 + a .w .count) s))) e in
+    c .before .low-value .ensures
+    ∙ word-is lowValue (take (3 + a .w .count + 8 - (3 + a .w .count)) (drop (3 + a .w .count) s)) (simp length-take (omega arith))
+    ∙ ap (λ k. lowValue (take k (drop (3 + a .w .count) s))) e in
     rw (eq-eqb (getD s 0 0) (a .w .message) (k .before .if2 .taken), le-leb (3 + a .w .count + 8) (length s) (k .if3 .left))
     (rw (number h, doors) at (c .checked .ensures))
 

@@ -9,6 +9,7 @@ use lib.ListN.{length, getD, take, length-take}
 use lib.Seq.{take-suc, take-length}
 use Rattle.column.specs.Packets.{lowValue, highValue}
 use Rattle.column.specs.NumberLaws.{bytes-take, high-value-lt}
+use borrow.Author.Tests.{le-leb, lt-leb}
 use borrow.Author.Needs.{needs}
 use Rattle.column.proofs.number_bytes.high_value.Statement.{statement}
 use Rattle.column.proofs.number_bytes.high_value.Tie as tie
@@ -24,6 +25,9 @@ Inv-loop s value₀ i₀ value i = (i ≤ length s) × (value ≡ highValue (tak
 abbrev μ-loop : tie.MeasureT-loop
 μ-loop s value₀ i₀ value i = length s - i
 
+returns : tie.Need-returns Inv-loop μ-loop
+returns c = rw (lt-leb (length (c .before .args .s .now)) 8 (c .if1 .taken))
+
 loop-holds : tie.Need-loop-holds Inv-loop μ-loop
 unfolding lowValue
 loop-holds c = search needs
@@ -37,7 +41,7 @@ cast-byte c = omega (arith, c .shared-slice-known .given (c .before .before .loo
 small : (c : tie.After-shared-slice-known Inv-loop μ-loop) → c .before .before .loop .value < 256 ^ 7
 small c =
     let l = c .before .before in
-    let s = l .before .args .s .now in
+    let s = l .before .before .args .s .now in
     let i = l .loop .i in
     omega (arith, high-value-lt 7 (take i s) (bytes-take i s (λ k. c .shared-slice-known .given k .fits)) (simp length-take (omega arith)))
 
@@ -56,16 +60,17 @@ loop-less c = search needs
 loop-again : tie.Need-loop-again Inv-loop μ-loop
 loop-again c =
     let l = c .before .before in
-    let s = l .before .args .s .now in
+    let s = l .before .before .args .s .now in
     let i = l .loop .i in
     (omega arith, omega (arith, more s i (omega arith)))
 
-returns : tie.Need-returns Inv-loop μ-loop
-returns c =
+returns-2 : tie.Need-returns-2 Inv-loop μ-loop
+returns-2 c =
     let l = c .before in
-    let s = l .before .args .s .now in
+    let s = l .before .before .args .s .now in
     let e : l .loop .i ≡ length s = omega arith in
-    l .loop .inv .1 ∙ ap (λ (k : ℕ). highValue (take k s)) e ∙ ap highValue (take-length s)
+    rw (le-leb (length s) 8 (omega arith))
+    (l .loop .inv .1 ∙ ap (λ (k : ℕ). highValue (take k s)) e ∙ ap highValue (take-length s))
 
 pub high-value-spec : {M : Type 1} → statement M
 high-value-spec =
@@ -73,6 +78,7 @@ high-value-spec =
     (tie.spec
     Inv-loop
     μ-loop
+    returns
     loop-holds
     shared-slice-read-byte
     cast-byte
@@ -81,4 +87,4 @@ high-value-spec =
     add-i
     loop-less
     loop-again
-    returns)
+    returns-2)

@@ -9,6 +9,7 @@ use lib.ListN.{length, getD, drop, length-drop}
 use lib.Seq.{drop-cons, drop-length}
 use Rattle.column.specs.Packets.{lowValue}
 use Rattle.column.specs.NumberLaws.{bytes-drop, low-value-lt}
+use borrow.Author.Tests.{le-leb, lt-leb}
 use borrow.Author.Needs.{needs}
 use Rattle.column.proofs.number_bytes.low_value.Statement.{statement}
 use Rattle.column.proofs.number_bytes.low_value.Tie as tie
@@ -24,9 +25,12 @@ Inv-loop s value₀ i₀ value i = (i ≤ length s) × (value ≡ lowValue (drop
 abbrev μ-loop : tie.MeasureT-loop
 μ-loop s value₀ i₀ value i = i
 
+returns : tie.Need-returns Inv-loop μ-loop
+returns c = rw (lt-leb (length (c .before .args .s .now)) 8 (c .if1 .taken))
+
 loop-holds : tie.Need-loop-holds Inv-loop μ-loop
 unfolding lowValue
-loop-holds c = (omega arith, sym (ap lowValue (drop-length (c .args .s .now))))
+loop-holds c = (omega arith, sym (ap lowValue (drop-length (c .before .args .s .now))))
 
 sub-i : tie.Need-sub-i Inv-loop μ-loop
 sub-i c = search needs
@@ -40,7 +44,7 @@ cast-byte c = omega (arith, c .shared-slice-known .given (c .before .before .loo
 small : (c : tie.After-shared-slice-known Inv-loop μ-loop) → c .before .before .loop .value < 256 ^ 7
 small c =
     let l = c .before .before in
-    let s = l .before .args .s .now in
+    let s = l .before .before .args .s .now in
     let i = l .loop .i in
     omega (arith, low-value-lt 7 (drop i s) (bytes-drop i s (λ k. c .shared-slice-known .given k .fits)) (simp length-drop (omega arith)))
 
@@ -56,17 +60,18 @@ loop-less c = search needs
 loop-again : tie.Need-loop-again Inv-loop μ-loop
 loop-again c =
     let l = c .before .before in
-    let s = l .before .args .s .now in
+    let s = l .before .before .args .s .now in
     let i = l .loop .i in
     let e : i - 1 + 1 ≡ i = omega arith in
     (omega arith, omega (arith, rw e at (more s (i - 1) (omega arith))))
 
-returns : tie.Need-returns Inv-loop μ-loop
-returns c =
+returns-2 : tie.Need-returns-2 Inv-loop μ-loop
+returns-2 c =
     let l = c .before in
-    let s = l .before .args .s .now in
+    let s = l .before .before .args .s .now in
     let e : l .loop .i ≡ 0 = omega arith in
-    l .loop .inv .1 ∙ ap (λ (k : ℕ). lowValue (drop k s)) e
+    rw (le-leb (length s) 8 (omega arith))
+    (l .loop .inv .1 ∙ ap (λ (k : ℕ). lowValue (drop k s)) e)
 
 pub low-value-spec : {M : Type 1} → statement M
 low-value-spec =
@@ -74,6 +79,7 @@ low-value-spec =
     (tie.spec
     Inv-loop
     μ-loop
+    returns
     loop-holds
     sub-i
     shared-slice-read-byte
@@ -82,4 +88,4 @@ low-value-spec =
     add-value
     loop-less
     loop-again
-    returns)
+    returns-2)

@@ -1,0 +1,77 @@
+-- Blocks of bytes in which a caller keeps a tree and a column, field by field. Numbers of several bytes have the highest first, doors byte 0 first, as in
+-- packets. Every block of its size means a tree or a column.
+use Prim.Native.Nat.{ℕ, _+_, _*_, _/_, _%_}
+use mathlib.Core.Bool.{Bool, _&&_, cond}
+use mathlib.Core.List.{List, [], _∷_, _++_}
+use lib.Dec.{eqb, leb}
+use lib.ListN.{take, drop, getD}
+use Rattle.column.specs.Packets.{lowFirst, lowValue, highFirst, highValue, numberSize, doorsSize}
+use Rattle.column.specs.declared.tree.Tree.{Tree}
+use Rattle.column.specs.declared.state.Column.{Column}
+
+abbrev pub bit : Bool → ℕ
+bit b = cond b 1 0
+
+-- ---- a tree: columns with the watch, root, sixteen parents, the sequence of sixteen
+
+abbrev pub treeSize : ℕ
+treeSize = 34
+
+-- byte 0: bits 0 to 6 the count of columns, bit 7 whether a column watches the one that sent its record
+abbrev pub treeIn : List ℕ → Tree
+treeIn s =
+    record {
+      columns = getD s 0 0 % 128;
+      root = getD s 1 0;
+      up = take 16 (drop 2 s);
+      first = take 16 (drop 18 s);
+      watch = leb 128 (getD s 0 0);
+    }
+
+abbrev pub treeBytes : Tree → List ℕ
+treeBytes t = (t .columns % 128 + bit (t .watch) * 128) ∷ t .root ∷ (t .up ++ t .first)
+
+-- ---- a column: doors, number, four sets, status, and the page's mask and what is pending
+
+abbrev pub columnSize : ℕ
+columnSize = 23
+
+abbrev pub setSize : ℕ
+setSize = 2
+
+-- the status: bit 0 whether it runs, bit 1 whether its goal is the whole bank, bits 2 to 7 who sent its record
+abbrev pub statusOf : Column → ℕ
+statusOf c = bit (c .running) + (bit (c .whole) * 2 + c .sender % 64 * 4)
+
+-- the bytes of a number from a place on
+abbrev pub fieldIn : List ℕ → ℕ → ℕ → ℕ
+fieldIn s at size = highValue (take size (drop at s))
+
+abbrev pub columnIn : List ℕ → Column
+columnIn s =
+    record {
+      doors = lowValue (take doorsSize (drop 0 s));
+      number = fieldIn s 8 numberSize;
+      send = fieldIn s 12 setSize;
+      awaited = fieldIn s 14 setSize;
+      owed = fieldIn s 16 setSize;
+      noted = fieldIn s 18 setSize;
+      running = eqb (getD s 20 0 % 2) 1;
+      whole = eqb (getD s 20 0 / 2 % 2) 1;
+      sender = getD s 20 0 / 4;
+      mask = getD s 21 0;
+      pending = getD s 22 0;
+    }
+
+abbrev pub columnBytes : Column → List ℕ
+columnBytes c =
+    lowFirst doorsSize (c .doors)
+    ++ (highFirst numberSize (c .number)
+    ++ (highFirst setSize (c .send)
+    ++ (highFirst setSize (c .awaited)
+    ++ (highFirst setSize (c .owed)
+    ++ (highFirst setSize (c .noted)
+    ++ (statusOf c ∷ c .mask ∷ c .pending ∷ []))))))
+
+abbrev pub blockSizes : ℕ → ℕ → Bool
+blockSizes tree column = eqb tree treeSize && eqb column columnSize

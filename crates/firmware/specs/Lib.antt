@@ -1,0 +1,7 @@
+pub mod Blocks
+pub mod Calls
+pub mod CallLaws
+pub mod BlockLaws
+pub mod PutLaws
+pub mod KeptLaws
+pub mod AnswerLaws

@@ -1,0 +1,7 @@
+// The core of one column for firmware in C: functions over numbers and blocks of bytes alone. `include/mudasgup.h` declares them.
+// A refused call leaves every byte that was lent to it.
+mod answer;
+mod block;
+pub mod packets;
+pub mod state;
+pub mod steps;
