@@ -2,7 +2,9 @@
 import glob
 import os
 import re
+import runpy
 import subprocess
+import sys
 import unittest
 
 ROOT = os.path.dirname(os.path.dirname(os.path.abspath(__file__)))
@@ -21,6 +23,16 @@ def files():
     ignored = {name.strip("/") for name in read(os.path.join(ROOT, ".gitignore")).split()}
     paths = [os.path.relpath(os.path.join(folder, name), ROOT) for folder, _, names in os.walk(ROOT) for name in names]
     return [path for path in paths if not ignored & set(path.split(os.sep))]
+
+
+def runner(name):
+    """What a runner of tests/mutants defines, by its names."""
+    folder = os.path.join(ROOT, "tests", "mutants")
+    sys.path.insert(0, folder)
+    try:
+        return runpy.run_path(os.path.join(folder, name))
+    finally:
+        sys.path.remove(folder)
 
 
 def sources(pattern):
@@ -65,11 +77,19 @@ class Repository(unittest.TestCase):
         for path in sources("column/src/*.rt"):
             self.assertIsNone(re.search(r"\bnetwork\b", read(path)), path)
 
+    def test_no_module_rests_on_one_that_rests_on_it(self):
+        for crate in CRATES:
+            below = {os.path.basename(path)[:-3]: set(re.findall(r"^use crate::(\w+)", read(path), re.M)) for path in sources(f"{crate}/src/*.rt")}
+            while below:
+                lowest = {module for module, used in below.items() if not used & set(below)}
+                self.assertTrue(lowest, f"{crate}: a circle between {sorted(below)}")
+                below = {module: used for module, used in below.items() if module not in lowest}
+
     def test_functions_and_files_stay_short(self):
         for path in sources("**/*.rt") + sources("**/*.antt"):
-            self.assertLessEqual(read(path).count("\n"), 320, path)
+            self.assertLessEqual(read(path).count("\n"), 300, path)
         for path in sources("**/*.rt"):
-            for body in re.findall(r"^(?:pub )?fn \w+.*?^\}", read(path), re.M | re.S):
+            for body in re.findall(r'^(?:pub(?:\(crate\))? )?(?:extern "C" )?fn \w+.*?^\}', read(path), re.M | re.S):
                 self.assertLess(body.count("\n"), 40, f"{path}: {body[:60]}")
 
     def test_layout(self):
@@ -103,6 +123,14 @@ class Repository(unittest.TestCase):
                     texts[file] = texts[file].replace(old, line[len("new: "):])
                     pairs += 1
             self.assertGreater(pairs, 0, path)
+
+    def test_every_slip_fits_the_definition_of_the_step_once(self):
+        slips = runner("slips")
+        steps = read(os.path.join(ROOT, slips["STEPS"]))
+        self.assertEqual(len(slips["SLIPS"]), 5)
+        for name, old, new in slips["SLIPS"]:
+            self.assertEqual(steps.count(old), 1, f"{name}: {old}")
+            self.assertNotEqual(old, new, name)
 
     def test_no_machine_path(self):
         self.assertGreater(len(files()), 100)

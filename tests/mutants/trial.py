@@ -48,15 +48,50 @@ def first_error(log):
     return None
 
 
+def applied(crate, text):
+    """The files of a crate that an edit changes, by their paths, as they are after it."""
+    texts = {}
+    path = old = None
+    for line in text.split("\n"):
+        if line.startswith("file: "):
+            path = os.path.join("crates", crate, line.removeprefix("file: "))
+        elif line.startswith("old: "):
+            old = line.removeprefix("old: ")
+        elif line.startswith("new:"):
+            if path not in texts:
+                with open(os.path.join(ROOT, path), encoding="utf8") as file:
+                    texts[path] = file.read()
+            texts[path] = texts[path].replace(old, line.removeprefix("new:").removeprefix(" "), 1)
+    return texts
+
+
+def write(copy, texts):
+    for path, text in texts.items():
+        with open(os.path.join(copy, path), "w", encoding="utf8") as file:
+            file.write(text)
+
+
+def checked(copy, crate, log):
+    """What the prover says of the crate, by its edit loop: whatever an edit cannot have changed is not checked again."""
+    with open(log, "w", encoding="utf8") as file:
+        done = subprocess.run(["rt", "dev", crate], cwd=copy, stdout=file, stderr=subprocess.STDOUT)
+    with open(log, encoding="utf8") as file:
+        return done.returncode, file.read()
+
+
 def refusals(crate, edits):
     """The edits, given as their texts by label, each tried on the crate: the label with the log of its check, and what the prover said in all."""
     with tempfile.TemporaryDirectory() as folder:
-        copy = copied(folder, "target")
-        os.makedirs(os.path.join(copy, "crates", crate, "must-fail"))
-        for label, text in edits.items():
-            with open(os.path.join(copy, "crates", crate, "must-fail", f"{label}.edit"), "w", encoding="utf8") as file:
-                file.write(text)
-        done = subprocess.run(["rt", "must-fail", crate], cwd=copy, capture_output=True, text=True)
-        logs = {os.path.basename(os.path.dirname(log)): log for log in glob.glob(os.path.join(copy, "target", "must-fail", crate, "*", ".log"))}
-        for label in sorted(edits):
-            yield label, logs.get(label), done.stdout
+        copy = copied(folder)
+        log = os.path.join(folder, "log")
+        if subprocess.run(["rt", "check", crate], cwd=copy, stdout=subprocess.DEVNULL, stderr=subprocess.DEVNULL).returncode != 0 or checked(copy, crate, log)[0] != 0:
+            raise RuntimeError(f"{crate} is not proved as it is")
+        for label, text in sorted(edits.items()):
+            texts = applied(crate, text)
+            before = {}
+            for path in texts:
+                with open(os.path.join(copy, path), encoding="utf8") as file:
+                    before[path] = file.read()
+            write(copy, texts)
+            yield label, log, checked(copy, crate, log)[1]
+            write(copy, before)

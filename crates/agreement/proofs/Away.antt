@@ -13,7 +13,6 @@ use borrow.Author.Tests.{eq-eqb, ne-eqb}
 use Rattle.column.specs.Cases.{equal-cases}
 use Rattle.column.specs.Sets.{has, single, insert}
 use Rattle.column.specs.SetLaws.{has-single, has-without-self, insert-without, lt-within}
-use Rattle.column.specs.Trees.{every}
 use Rattle.column.specs.TreeLaws.{every-all, tree-sixteen}
 use Rattle.column.specs.Columns.{standing}
 use Rattle.column.specs.Returns.{struck}
@@ -27,8 +26,8 @@ use Rattle.bank.specs.Steps.{Outcome, accepted, withColumn, acted, halted, halt
 use Rattle.bank.specs.Performs.{perform}
 use Rattle.bank.specs.Rest.{Running}
 use Rattle.bank.specs.Strips.{among, Distinct}
-use Rattle.bank.specs.declared.step.Step.{Step}
-use Rattle.bank.specs.declared.step.Step.the-variants.{Note, Halt}
+use Rattle.bank.specs.declared.bank.Step.{Step}
+use Rattle.bank.specs.declared.bank.Step.the-variants.{Note, Halt}
 use Rattle.agreement.specs.History.{World, told, run}
 use Rattle.agreement.specs.Dispatching.{allAccepted}
 use Rattle.agreement.specs.Returning.{noticed}

@@ -18,8 +18,8 @@ use Rattle.bank.specs.Rest.{Running, AtRest}
 use Rattle.bank.specs.StandingLaws.{Stands}
 use Rattle.bank.specs.RestLaws.{halted-rests}
 use Rattle.bank.specs.Places.{tree-kept}
-use Rattle.bank.specs.declared.step.Step.{Step}
-use Rattle.bank.specs.declared.step.Step.the-variants.{Order}
+use Rattle.bank.specs.declared.bank.Step.{Step}
+use Rattle.bank.specs.declared.bank.Step.the-variants.{Order}
 use Rattle.agreement.specs.History.{World, rootOf, told, run, Line, stepsOf, follow}
 use Rattle.agreement.specs.Agreement.{begin}
 use Rattle.agreement.specs.Companions.{Passes, Ordered, OrdersCount, HaltedRests, KeepsTree}

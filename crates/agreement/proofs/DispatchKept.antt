@@ -14,8 +14,8 @@ use Rattle.bank.specs.Kinds.{byNoColumn}
 use Rattle.bank.specs.Places.{acts}
 use Rattle.bank.specs.StandingOn.{runs-on}
 use Rattle.bank.specs.Unchanged.{unchanged}
-use Rattle.bank.specs.declared.step.Step.{Step}
-use Rattle.bank.specs.declared.step.Step.the-variants.{Order, Send, Take, Ack, All, Note, Halt, Back, Write}
+use Rattle.bank.specs.declared.bank.Step.{Step}
+use Rattle.bank.specs.declared.bank.Step.the-variants.{Order, Send, Take, Ack, All, Note, Halt, Back, Write}
 use Rattle.agreement.specs.History.{World, ordersAfter, told, run}
 use Rattle.agreement.specs.Dispatching.{isSettling, allSettling}
 use Rattle.agreement.proofs.Reached.{Reached, next, reached-passes}

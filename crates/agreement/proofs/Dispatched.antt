@@ -17,8 +17,8 @@ use Rattle.bank.specs.Rest.{isRefused, AtRest}
 use Rattle.bank.specs.RestLaws.{rest-exact}
 use Rattle.bank.specs.Dispatch.{offers, offered, firstAccepted, turn, onward, dispatched, dispatch}
 use Rattle.bank.specs.DispatchLaws.{stops-rest, stops-taken, take-accepted}
-use Rattle.bank.specs.declared.step.Step.{Step}
-use Rattle.bank.specs.declared.step.Step.the-variants.{Order, Send, Take, Ack, All, Note, Halt, Back, Write}
+use Rattle.bank.specs.declared.bank.Step.{Step}
+use Rattle.bank.specs.declared.bank.Step.the-variants.{Order, Send, Take, Ack, All, Note, Halt, Back, Write}
 use Rattle.agreement.specs.History.{World, columnsOf, ordersAfter, told, run, WatchesRoot}
 use Rattle.agreement.specs.Dispatching.{stepsWithin, isSettling, allSettling, allAccepted, Settles, Rests}
 use Rattle.agreement.proofs.Potential.{potential}

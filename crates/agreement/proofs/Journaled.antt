@@ -15,8 +15,8 @@ use Rattle.bank.specs.Kinds.{isBack}
 use Rattle.bank.specs.Strips.{haltOne, andThen, singles}
 use Rattle.bank.specs.StripLaws.{singly, listed, distinct-listed, members-listed}
 use Rattle.bank.specs.Unchanged.{unchanged}
-use Rattle.bank.specs.declared.step.Step.{Step}
-use Rattle.bank.specs.declared.step.Step.the-variants.{Order, Send, Take, Ack, All, Note, Halt, Back, Write}
+use Rattle.bank.specs.declared.bank.Step.{Step}
+use Rattle.bank.specs.declared.bank.Step.the-variants.{Order, Send, Take, Ack, All, Note, Halt, Back, Write}
 use Rattle.agreement.specs.History.{World, ordersAfter, told, run}
 use Rattle.agreement.specs.Agreement.{begin}
 use Rattle.agreement.specs.Journals.{Journals, allGot, allSent, journalsAfter, recorded, journals, Stays, NoneBack, Proper, Consistent, JournalsAgree, TextsAgree}
@@ -35,7 +35,8 @@ use Rattle.agreement.proofs.Companions.{run-tree}
 use Rattle.agreement.proofs.SpreadKept.{Onward}
 use Rattle.agreement.proofs.Dues.{Recorded}
 use Rattle.agreement.proofs.Recorded.{recorded-kept, recorded-fresh, consistent}
-use Rattle.agreement.proofs.Entries.{gotBy, putBy, gots-by, puts-by, sent-told, got-told}
+use Rattle.agreement.proofs.Entries.{sent-told, got-told}
+use Rattle.agreement.proofs.EventPackets.{gotBy, putBy, gots-by, puts-by}
 
 abbrev RecordedIn : World → Journals → Type 0
 RecordedIn w j = Recorded (w .state .bank .tree) (modelOf (w .state) (w .orders)) j

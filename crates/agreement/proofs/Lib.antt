@@ -65,6 +65,7 @@ mod Lines
 mod Logged
 mod Dues
 mod Recorded
+mod EventPackets
 mod Entries
 pub mod Journaled
 mod DispatchKept

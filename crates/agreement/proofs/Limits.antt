@@ -8,7 +8,7 @@ use Rattle.bank.specs.Banks.{State, capacity}
 use Rattle.bank.specs.NetworkLaws.{packets-length}
 use Rattle.bank.specs.Steps.{refused}
 use Rattle.bank.specs.Performs.{perform}
-use Rattle.bank.specs.declared.step.Step.{Step}
+use Rattle.bank.specs.declared.bank.Step.{Step}
 use Rattle.agreement.specs.History.{World, columnsOf, WatchesRoot}
 use Rattle.agreement.specs.Limits.{packetLimit, NeverFills, At480, NeverNine}
 use Rattle.agreement.proofs.Counting.{network-bounded}

@@ -27,7 +27,7 @@ use Rattle.bank.specs.StandingLaws.{every-same}
 use Rattle.bank.specs.StripStates.{column-at}
 use Rattle.bank.specs.StripLaws.{halt-accepted}
 use Rattle.bank.specs.declared.bank.Bank.{Bank}
-use Rattle.bank.specs.declared.step.Step.the-variants.{Order, Halt}
+use Rattle.bank.specs.declared.bank.Step.the-variants.{Order, Halt}
 use Rattle.losses.specs.Losses.{mostColumns, lossesRefusal, ordered, begun, toRest, ended, nobodyRuns, allHold, endsWith, oneIf, countedTo, lossesOf}
 use Rattle.losses.specs.LossesLaws.{begun-tree, ended-tree, Counting, counting, order-accepted}
 use Rattle.losses.specs.declared.count.Losses.{Losses}
@@ -40,7 +40,7 @@ use Rattle.agreement.proofs.Reached.{Reached, start, next, reached, rea
 use Rattle.agreement.proofs.Companions.{told-tree, run-tree, orders-count}
 use Rattle.agreement.proofs.Agreement.{agrees}
 use Rattle.agreement.proofs.Dispatched.{settles}
-use Rattle.agreement.proofs.DispatchKept.{step-runs, told-state, told-orders, Same, dispatchedOn, dispatch-same, dispatch-is}
+use Rattle.agreement.proofs.DispatchKept.{step-runs, told-state, told-orders, dispatchedOn, dispatch-same, dispatch-is}
 use Rattle.agreement.proofs.Counted.{fails-somewhere, counted-three, counted-full}
 
 -- 9 times N squared less 5 times N grows with N

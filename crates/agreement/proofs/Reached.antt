@@ -27,8 +27,8 @@ use Rattle.bank.specs.Performs.{perform}
 use Rattle.bank.specs.Strips.{haltOne, andThen, singles}
 use Rattle.bank.specs.StripLaws.{singly, listed, distinct-listed, members-listed}
 use Rattle.bank.specs.Unchanged.{unchanged}
-use Rattle.bank.specs.declared.step.Step.{Step}
-use Rattle.bank.specs.declared.step.Step.the-variants.{Order, Send, Take, Ack, All, Note, Halt, Back, Write}
+use Rattle.bank.specs.declared.bank.Step.{Step}
+use Rattle.bank.specs.declared.bank.Step.the-variants.{Order, Send, Take, Ack, All, Note, Halt, Back, Write}
 use Rattle.agreement.specs.History.{World, rootOf, WatchesRoot, receivedAfter, awaitsAfter, told, run, Line, stepsOf, follow}
 use Rattle.agreement.specs.Agreement.{begin, AfterEveryList}
 use Rattle.agreement.proofs.Model as model

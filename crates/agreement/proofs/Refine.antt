@@ -13,7 +13,7 @@ use Rattle.column.specs.Cases.{and-right}
 use Rattle.column.specs.Refusals.{first}
 use Rattle.column.specs.RefusalLaws.{passed, earlier-none}
 use Rattle.column.specs.Sets.{has, join, insert, without, lowest}
-use Rattle.column.specs.SetLaws.{lowest-member}
+use Rattle.column.specs.LowestLaws.{lowest-member}
 use Rattle.column.specs.Trees.{treeRefusal, choose, children}
 use Rattle.column.specs.TreeLaws.{tree-sixteen}
 use Rattle.column.specs.ChoiceLaws.{choose-member}

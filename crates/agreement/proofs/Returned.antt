@@ -26,7 +26,7 @@ use Rattle.bank.specs.ReturnLaws.{Returning, returning, place-mine, place-struc
 use Rattle.bank.specs.StripStates.{column-at}
 use Rattle.bank.specs.Strips.{among, Distinct}
 use Rattle.bank.specs.declared.bank.Bank.{Bank}
-use Rattle.bank.specs.declared.step.Step.the-variants.{Note, Halt, Back}
+use Rattle.bank.specs.declared.bank.Step.the-variants.{Note, Halt, Back}
 use Rattle.agreement.specs.History.{World, told, run}
 use Rattle.agreement.specs.Dispatching.{allAccepted}
 use Rattle.agreement.specs.Returning.{StillRests, RestsAfter, noticed, Restored, Undone, Restores}

@@ -1,7 +1,7 @@
 -- Nobody whom a column has still to serve is under another, whoever is watched: every move but a return keeps it. Assumes nothing.
 use Prim.Native.Nat.{ℕ, _<_}
 use mathlib.Core.Path.{_≡_, refl, sym, subst}
-use mathlib.Core.Logic.{_≢_, _⊎_, ⊎-elim, inl, inr}
+use mathlib.Core.Logic.{_≢_, ⊎-elim, inl, inr}
 use mathlib.Core.Bool.{true, true≢false}
 use mathlib.Core.List.{List}
 use borrow.Author.Tests.{eqb-true}

@@ -26,8 +26,8 @@ use Rattle.bank.specs.StandingLaws.{Stands, stands}
 use Rattle.bank.specs.Steps as bank
 use Rattle.bank.specs.Steps.{accepted}
 use Rattle.bank.specs.Performs.{perform}
-use Rattle.bank.specs.declared.step.Step.{Step}
-use Rattle.bank.specs.declared.step.Step.the-variants.{Order, Send, Take, Ack, All, Note, Halt, Back, Write}
+use Rattle.bank.specs.declared.bank.Step.{Step}
+use Rattle.bank.specs.declared.bank.Step.the-variants.{Order, Send, Take, Ack, All, Note, Halt, Back, Write}
 use Rattle.agreement.specs.History.{World, changed, rootOf, leaves, leftBy, heard, acknowledged, receivedAfter, awaitsAfter}
 use Rattle.agreement.proofs.Model as model
 use Rattle.agreement.proofs.Received as moves

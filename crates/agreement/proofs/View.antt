@@ -15,8 +15,8 @@ use Rattle.bank.specs.Words.{numbers}
 use Rattle.bank.specs.Banks.{State, columnAt, packetAt}
 use Rattle.bank.specs.NetworkLaws.{packetsOf, Whole}
 use Rattle.bank.specs.Returns.{lowestRunning}
-use Rattle.bank.specs.declared.step.Step.{Step}
-use Rattle.bank.specs.declared.step.Step.the-variants.{Order, Send, Take, Ack, All, Note, Halt, Back, Write}
+use Rattle.bank.specs.declared.bank.Step.{Step}
+use Rattle.bank.specs.declared.bank.Step.the-variants.{Order, Send, Take, Ack, All, Note, Halt, Back, Write}
 use Rattle.agreement.proofs.Model as model
 use Rattle.agreement.proofs.Move as move
 

@@ -16,7 +16,7 @@ use Rattle.bank.specs.NetworkLaws.{packetsOf}
 use Rattle.bank.specs.Steps.{accepted, withColumn}
 use Rattle.bank.specs.Pages.{writeRefusal}
 use Rattle.bank.specs.Performs.{perform}
-use Rattle.bank.specs.declared.step.Step.the-variants.{Write}
+use Rattle.bank.specs.declared.bank.Step.the-variants.{Write}
 use Rattle.agreement.proofs.Move.{withRunning}
 use Rattle.agreement.proofs.View.{modelOf, Formed}
 use Rattle.agreement.proofs.Refining.{accepted-goes}

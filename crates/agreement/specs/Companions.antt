@@ -9,7 +9,7 @@ use Rattle.bank.specs.Banks.{State, columnAt, capacity, bankRefusal}
 use Rattle.bank.specs.Steps.{accepted}
 use Rattle.bank.specs.Performs.{perform}
 use Rattle.bank.specs.Rest.{Running, AtRest}
-use Rattle.bank.specs.declared.step.Step.the-variants.{Order}
+use Rattle.bank.specs.declared.bank.Step.the-variants.{Order}
 use Rattle.agreement.specs.History.{World, rootOf, Line, follow}
 use Rattle.agreement.specs.Agreement.{begin, AfterEveryList}
 

@@ -20,8 +20,8 @@ use Rattle.bank.specs.Steps.{fitting, acted, delivered, rewriting, halted, halt
 use Rattle.bank.specs.Performs.{perform}
 use Rattle.bank.specs.Rest.{AtRest}
 use Rattle.bank.specs.Dispatch.{offered, firstAccepted, turn, dispatched, dispatch}
-use Rattle.bank.specs.declared.step.Step.{Step}
-use Rattle.bank.specs.declared.step.Step.the-variants.{Order, Send, Take, Ack, All, Note, Halt}
+use Rattle.bank.specs.declared.bank.Step.{Step}
+use Rattle.bank.specs.declared.bank.Step.the-variants.{Order, Send, Take, Ack, All, Note, Halt}
 use Rattle.agreement.specs.History.{World, columnsOf, WatchesRoot, told, run, step}
 use Rattle.agreement.specs.Agreement.{begin}
 use Rattle.agreement.specs.Premises.{follow-steps}

@@ -8,8 +8,8 @@ use lib.ListN.{length}
 use Rattle.bank.specs.Performs.{perform}
 use Rattle.bank.specs.Rest.{isRefused, AtRest}
 use Rattle.bank.specs.Dispatch.{dispatched, dispatch}
-use Rattle.bank.specs.declared.step.Step.{Step}
-use Rattle.bank.specs.declared.step.Step.the-variants.{Order, Send, Take, Ack, All, Note, Halt, Back, Write}
+use Rattle.bank.specs.declared.bank.Step.{Step}
+use Rattle.bank.specs.declared.bank.Step.the-variants.{Order, Send, Take, Ack, All, Note, Halt, Back, Write}
 use Rattle.agreement.specs.History.{World, columnsOf, WatchesRoot, told, run}
 use Rattle.agreement.specs.Agreement.{AfterEveryList}
 

@@ -17,8 +17,8 @@ use Rattle.bank.specs.Steps.{Outcome, accepted, refused}
 use Rattle.bank.specs.Performs.{perform}
 use Rattle.bank.specs.Returns.{lowestRunning}
 use Rattle.bank.specs.Dispatch.{dispatched}
-use Rattle.bank.specs.declared.step.Step.{Step}
-use Rattle.bank.specs.declared.step.Step.the-variants.{Order, Send, Take, Ack, All, Note, Halt, Back, Write}
+use Rattle.bank.specs.declared.bank.Step.{Step}
+use Rattle.bank.specs.declared.bank.Step.the-variants.{Order, Send, Take, Ack, All, Note, Halt, Back, Write}
 
 -- the state of a bank with its past
 pub record World : Type 0 where

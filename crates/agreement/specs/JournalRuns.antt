@@ -14,8 +14,8 @@ use Rattle.bank.specs.Banks.{capacity, places, freshPlace, bankRefusal}
 use Rattle.bank.specs.Networks.{put, puts, vanished}
 use Rattle.bank.specs.Steps.{fitting, acted, delivered, rewriting, halted, haltRefusal}
 use Rattle.bank.specs.Performs.{perform}
-use Rattle.bank.specs.declared.step.Step.{Step}
-use Rattle.bank.specs.declared.step.Step.the-variants.{Order, Send, Take, All, Note, Halt}
+use Rattle.bank.specs.declared.bank.Step.{Step}
+use Rattle.bank.specs.declared.bank.Step.the-variants.{Order, Send, Take, All, Note, Halt}
 use Rattle.journals.specs.Journals.{line}
 use Rattle.journals.specs.declared.line.Way.the-variants.{Sent, Got}
 use Rattle.journals.specs.declared.line.Line.{Line}

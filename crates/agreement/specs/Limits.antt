@@ -5,8 +5,8 @@ use mathlib.Core.Path.{_≡_}
 use Rattle.bank.specs.Banks.{State}
 use Rattle.bank.specs.Steps.{refused}
 use Rattle.bank.specs.Performs.{perform}
-use Rattle.bank.specs.declared.step.Step.{Step}
-use Rattle.agreement.specs.History.{World, columnsOf, WatchesRoot}
+use Rattle.bank.specs.declared.bank.Step.{Step}
+use Rattle.agreement.specs.History.{columnsOf, WatchesRoot}
 use Rattle.agreement.specs.Agreement.{AfterEveryList}
 
 -- "2 times N times (N−1) packets under way"

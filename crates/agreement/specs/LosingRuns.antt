@@ -1,9 +1,8 @@
 -- What `Losing` says of two columns whose root halts before it has sent its order: each of its premises holds.
-use Prim.Native.Nat.{ℕ, _+_, _<_}
+use Prim.Native.Nat.{_+_, _<_}
 use native.Mathlib.Omega.{arith}
 use mathlib.Core.Path.{_≡_, refl, sym, subst, _∙_}
 use mathlib.Core.Logic.{_⊎_}
-use mathlib.Core.Bool.{true}
 use lib.ListN.{replicate}
 use Rattle.column.specs.Trees.{treeOf, every, climbsIn, treeRefusal}
 use Rattle.column.specs.declared.tree.Tree.{Tree}

@@ -27,8 +27,8 @@ use Rattle.bank.specs.Places.{tree-kept}
 use Rattle.bank.specs.Rest.{Running, AtRest}
 use Rattle.bank.specs.RestLaws.{rest-exact}
 use Rattle.bank.specs.Unchanged.{unchanged}
-use Rattle.bank.specs.declared.step.Step.{Step}
-use Rattle.bank.specs.declared.step.Step.the-variants.{Order, Send, Take, Ack, All, Note, Halt, Back, Write}
+use Rattle.bank.specs.declared.bank.Step.{Step}
+use Rattle.bank.specs.declared.bank.Step.the-variants.{Order, Send, Take, Ack, All, Note, Halt, Back, Write}
 use Rattle.agreement.specs.History.{World, changed, rootOf, acknowledged, awaitsAfter, told, run, step, follow}
 use Rattle.agreement.specs.Agreement.{Holds, HighestReceived, NeitherSends, NorAwaits, Agreement, AfterEveryList, Agrees}
 use Rattle.agreement.specs.Companions.{Ordered, OrdersCount, HaltedRests}

@@ -23,8 +23,8 @@ use Rattle.bank.specs.Rest.{isRefused, Running, AtRest, atRest}
 use Rattle.bank.specs.Returns.{backRefusal, returned}
 use Rattle.bank.specs.Performs.{perform}
 use Rattle.bank.specs.Strips.{among, Distinct}
-use Rattle.bank.specs.declared.step.Step.{Step}
-use Rattle.bank.specs.declared.step.Step.the-variants.{Note, Halt, Back}
+use Rattle.bank.specs.declared.bank.Step.{Step}
+use Rattle.bank.specs.declared.bank.Step.the-variants.{Note, Halt, Back}
 use Rattle.agreement.specs.History.{World, columnsOf, told, run, step}
 use Rattle.agreement.specs.Agreement.{AfterEveryList}
 use Rattle.agreement.specs.Returning.{StillRests, RestsAfter, Restored, Undone, Restores}

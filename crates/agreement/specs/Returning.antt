@@ -11,8 +11,8 @@ use Rattle.bank.specs.Steps.{accepted}
 use Rattle.bank.specs.Performs.{perform}
 use Rattle.bank.specs.Rest.{Running, AtRest}
 use Rattle.bank.specs.Strips.{among, Distinct}
-use Rattle.bank.specs.declared.step.Step.{Step}
-use Rattle.bank.specs.declared.step.Step.the-variants.{Note, Halt, Back}
+use Rattle.bank.specs.declared.bank.Step.{Step}
+use Rattle.bank.specs.declared.bank.Step.the-variants.{Note, Halt, Back}
 use Rattle.agreement.specs.History.{World, run}
 use Rattle.agreement.specs.Agreement.{AfterEveryList}
 use Rattle.agreement.specs.Dispatching.{allAccepted}

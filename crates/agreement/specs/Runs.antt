@@ -22,8 +22,8 @@ use Rattle.bank.specs.Returns.{backRefusal, returned}
 use Rattle.bank.specs.Performs.{perform}
 use Rattle.bank.specs.Rest.{atRest}
 use Rattle.bank.specs.Pages.{writeRefusal}
-use Rattle.bank.specs.declared.step.Step.{Step}
-use Rattle.bank.specs.declared.step.Step.the-variants.{Order, Send, Take, Ack, All, Note, Halt, Back, Write}
+use Rattle.bank.specs.declared.bank.Step.{Step}
+use Rattle.bank.specs.declared.bank.Step.the-variants.{Order, Send, Take, Ack, All, Note, Halt, Back, Write}
 use Rattle.agreement.specs.Orders.{given}
 use Rattle.agreement.specs.History.{World, rootOf, told, run}
 use Rattle.agreement.specs.Agreement.{begin}

@@ -8,7 +8,7 @@ use Rattle.bank.specs.Banks.{State, state}
 use Rattle.bank.specs.Steps.{Outcome, accepted, refused, after}
 use Rattle.bank.specs.Performs.{perform}
 use Rattle.bank.specs.declared.bank.Bank.{Bank}
-use Rattle.bank.specs.declared.step.Step.{Step}
+use Rattle.bank.specs.declared.bank.Step.{Step}
 
 -- a bank without its masks and what is pending, in all sixteen places
 abbrev pub plainBank : Bank → Bank

@@ -28,8 +28,8 @@ use Rattle.bank.specs.Pages.{writeRefusal}
 use Rattle.bank.specs.Performs.{perform}
 use Rattle.bank.specs.PlainStates.{plain-twice, plain-set, plain-rewriting, twice, column-plain, plain-unless, plain-settled}
 use Rattle.bank.specs.Apart.{plainState, plainOutcome, Alike, answerOf, answers, Apart, SameAnswers}
-use Rattle.bank.specs.declared.step.Step.{Step}
-use Rattle.bank.specs.declared.step.Step.the-variants.{Order, Send, Take, Ack, All, Note, Halt, Back, Write}
+use Rattle.bank.specs.declared.bank.Step.{Step}
+use Rattle.bank.specs.declared.bank.Step.the-variants.{Order, Send, Take, Ack, All, Note, Halt, Back, Write}
 
 -- ---- what every step tests first
 

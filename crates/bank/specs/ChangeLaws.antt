@@ -1,14 +1,14 @@
 -- A change of one place and of the network is the step of the whole bank. Assumes nothing.
 use Prim.Native.Nat.{ℕ, zero, suc, _+_, _-_, _≤_, _<_}
 use mathlib.Core.Path.{_≡_, refl, sym, ap, ap₂, subst, _∙_}
-use mathlib.Core.Bool.{Bool, true, false, not, cond, true≢false}
+use mathlib.Core.Bool.{Bool, true, false, not, true≢false}
 use mathlib.Core.Logic.{_⊎_, inl, inr}
 use mathlib.Core.List.{List, [], _∷_}
 use native.Mathlib.Omega.{arith}
 use lib.Dec.{eqb, ltb}
 use lib.ListN.{set, getD, length}
 use lib.Seq.{getD-set-same}
-use borrow.Author.Tests.{eq-eqb, ne-eqb, eqb-true, ltb-true, ltb-false}
+use borrow.Author.Tests.{eq-eqb, eqb-true, ltb-true, ltb-false}
 use Rattle.column.specs.Cases.{truth}
 use Rattle.column.specs.Refusals.{first, earlier}
 use Rattle.column.specs.Sets.{has, selected}
@@ -20,20 +20,19 @@ use Rattle.column.specs.StateLaws.{acceptable, note-beyond}
 use Rattle.column.specs.Steps as core
 use Rattle.column.specs.Tested.{takeTested}
 use Rattle.column.specs.TestedLaws.{take-tested}
-use Rattle.column.specs.declared.step.Outcome as core-outcome
-use Rattle.column.specs.declared.step.Answer as core-answer
-use Rattle.column.specs.declared.step.Answer.the-variants as core-is
+use Rattle.column.specs.declared.outcome.Outcome as core-outcome
+use Rattle.column.specs.declared.outcome.Answer as core-answer
+use Rattle.column.specs.declared.outcome.Answer.the-variants as core-is
 use Rattle.column.specs.declared.tree.Tree.{Tree}
 use Rattle.column.specs.declared.state.Column.{Column}
 use Rattle.column.specs.declared.packet.Packet.{Packet}
-use Rattle.bank.specs.Words.{receiverIn}
 use Rattle.bank.specs.ListLaws.{set-keeps}
-use Rattle.bank.specs.Banks.{State, state, columnAt, runs, haltedOf, packetAt, noColumn, capacity, bankRefusal, actingRefusal}
+use Rattle.bank.specs.Banks.{State, state, columnAt, runs, haltedOf, packetAt, noColumn, actingRefusal}
 use Rattle.bank.specs.StandingLaws.{Stands, acting-passes}
-use Rattle.bank.specs.Networks.{counting, withPacket, put, puts, removed, Appended, ClosedUp}
-use Rattle.bank.specs.Steps.{Outcome, accepted, refused, answered, outcome, unless, withPlace, withColumn, fitting, settled, acted, noteRefusal, noted, delivered}
+use Rattle.bank.specs.Networks.{withPacket, put, puts, removed, Appended, ClosedUp}
+use Rattle.bank.specs.Steps.{Outcome, accepted, refused, answered, outcome, unless, withColumn, fitting, settled, acted, noteRefusal, noted, delivered}
 use Rattle.bank.specs.Performs.{perform}
-use Rattle.bank.specs.StepLaws.{accepted-words, refused-words, fits, put-halted, put-running, put-full, put-count, takesOff, settled-off, acted-refused, acted-settled}
+use Rattle.bank.specs.StepLaws.{fits, put-halted, put-running, put-full, put-count, takesOff, settled-off, acted-refused, acted-settled}
 use Rattle.bank.specs.Steady.{Steady, steady-cond, steady-send, steady-take, Aimed, aimed-unless, aimed-send, aimed-ack, aimed-take}
 use Rattle.bank.specs.Changes.{Becomes, stored, changed, changeBy, Lit, isOwn, coreStep}
 use Rattle.bank.specs.Rest.{isRefused}
@@ -44,8 +43,8 @@ use Rattle.bank.specs.declared.bank.Answer.{Answer}
 use Rattle.bank.specs.declared.bank.Answer.the-variants.{Done, Refused}
 use Rattle.bank.specs.declared.bank.Result.{Result}
 use Rattle.bank.specs.declared.settling.Change.{Change}
-use Rattle.bank.specs.declared.step.Step.{Step}
-use Rattle.bank.specs.declared.step.Step.the-variants.{Order, Send, Take, Ack, All, Note, Halt, Back, Write}
+use Rattle.bank.specs.declared.bank.Step.{Step}
+use Rattle.bank.specs.declared.bank.Step.the-variants.{Order, Send, Take, Ack, All, Note, Halt, Back, Write}
 
 -- ---- what a change says of a bank
 

@@ -4,7 +4,6 @@ use Prim.Native.Nat.{ℕ, _<_}
 use mathlib.Core.Path.{_≡_}
 use mathlib.Core.Bool.{Bool, true, false}
 use mathlib.Core.List.{List, [], _∷_}
-use lib.Dec.{eqb}
 use lib.ListN.{set}
 use Rattle.column.specs.Refusals.{first, earlier}
 use Rattle.column.specs.Sets.{has}
@@ -14,19 +13,19 @@ use Rattle.column.specs.Steps as core
 use Rattle.column.specs.declared.tree.Tree.{Tree}
 use Rattle.column.specs.declared.state.Column.{Column}
 use Rattle.column.specs.declared.packet.Packet.{Packet}
-use Rattle.column.specs.declared.step.Outcome as core-outcome
+use Rattle.column.specs.declared.outcome.Outcome as core-outcome
 use Rattle.bank.specs.Banks.{State, state, columnAt, runs, packetAt, bankRefusal}
 use Rattle.bank.specs.Standing.{newestStands, stillStands}
 use Rattle.bank.specs.Networks.{put, removed}
-use Rattle.bank.specs.Steps.{Outcome, accepted, refused, outcome, withColumn, fitting, settled, delivered}
+use Rattle.bank.specs.Steps.{Outcome, accepted, refused, withColumn, fitting, settled, delivered}
 use Rattle.bank.specs.Steady.{Steady, Aimed}
 use Rattle.bank.specs.declared.bank.Bank.{Bank}
 use Rattle.bank.specs.declared.bank.Answer.{Answer}
 use Rattle.bank.specs.declared.bank.Answer.the-variants.{Done, Refused}
 use Rattle.bank.specs.declared.bank.Result.{Result}
 use Rattle.bank.specs.declared.settling.Change.{Change}
-use Rattle.bank.specs.declared.step.Step.{Step}
-use Rattle.bank.specs.declared.step.Step.the-variants.{Order, Send, Take, Ack, All, Note, Halt, Back, Write}
+use Rattle.bank.specs.declared.bank.Step.{Step}
+use Rattle.bank.specs.declared.bank.Step.the-variants.{Order, Send, Take, Ack, All, Note, Halt, Back, Write}
 
 -- ---- a change
 

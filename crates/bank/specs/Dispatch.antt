@@ -7,8 +7,8 @@ use Rattle.bank.specs.Banks.{State, runs, places, bankRefusal}
 use Rattle.bank.specs.Steps.{Outcome, accepted, refused, unless}
 use Rattle.bank.specs.Performs.{perform}
 use Rattle.bank.specs.Rest.{isRefused}
-use Rattle.bank.specs.declared.step.Step.{Step}
-use Rattle.bank.specs.declared.step.Step.the-variants.{Send, Take, Ack, All, Note}
+use Rattle.bank.specs.declared.bank.Step.{Step}
+use Rattle.bank.specs.declared.bank.Step.the-variants.{Send, Take, Ack, All, Note}
 
 -- what column i of n can be given to do
 abbrev pub offers : ℕ → ℕ → List Step

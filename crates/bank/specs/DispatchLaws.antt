@@ -25,8 +25,8 @@ use Rattle.bank.specs.RestSteps.{refused-exactly}
 use Rattle.bank.specs.Exact.{raised, overfull}
 use Rattle.bank.specs.Dispatch.{offers, offered, firstAccepted, turn}
 use Rattle.bank.specs.Quick.{isTake}
-use Rattle.bank.specs.declared.step.Step.{Step}
-use Rattle.bank.specs.declared.step.Step.the-variants.{Order, Send, Take, Ack, All, Note, Halt, Back, Write}
+use Rattle.bank.specs.declared.bank.Step.{Step}
+use Rattle.bank.specs.declared.bank.Step.the-variants.{Order, Send, Take, Ack, All, Note, Halt, Back, Write}
 
 -- ---- a turn that is refused
 

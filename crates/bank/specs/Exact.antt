@@ -14,8 +14,8 @@ use Rattle.bank.specs.Steps.{accepted, after, unless, noteRefusal, haltC
 use Rattle.bank.specs.Returns.{backConditions}
 use Rattle.bank.specs.Performs.{perform}
 use Rattle.bank.specs.declared.bank.Bank.{Bank}
-use Rattle.bank.specs.declared.step.Step.{Step}
-use Rattle.bank.specs.declared.step.Step.the-variants.{Order, Send, Take, Ack, All, Note, Halt, Back, Write}
+use Rattle.bank.specs.declared.bank.Step.{Step}
+use Rattle.bank.specs.declared.bank.Step.the-variants.{Order, Send, Take, Ack, All, Note, Halt, Back, Write}
 
 -- the core's number; "(j running) 6: condition of .. note fails", "10: take at a place not below the packet count"
 abbrev pub ownRefusal : State → Step → ℕ

@@ -30,7 +30,7 @@ use Rattle.bank.specs.Returns.{backConditions, backRefusal, returned, ba
 use Rattle.bank.specs.Pages.{writeRefusal, write}
 use Rattle.bank.specs.Performs.{perform}
 use Rattle.bank.specs.Exact.{ownRefusal, raises, overfull, refusalOf, Exact}
-use Rattle.bank.specs.declared.step.Step.the-variants.{Order, Send, Take, Ack, All, Note, Halt, Back, Write}
+use Rattle.bank.specs.declared.bank.Step.the-variants.{Order, Send, Take, Ack, All, Note, Halt, Back, Write}
 
 -- ---- what the core does: at most one packet, and where it has one its column runs on as it did
 

@@ -1,7 +1,7 @@
 -- The steps by who takes them: a halt and a return are done to columns, a write by a host; every other one is of one running column.
 use mathlib.Core.Bool.{Bool, true, false, _||_}
-use Rattle.bank.specs.declared.step.Step.{Step}
-use Rattle.bank.specs.declared.step.Step.the-variants.{Order, Send, Take, Ack, All, Note, Halt, Back, Write}
+use Rattle.bank.specs.declared.bank.Step.{Step}
+use Rattle.bank.specs.declared.bank.Step.the-variants.{Order, Send, Take, Ack, All, Note, Halt, Back, Write}
 
 abbrev pub isHalt : Step → Bool
 isHalt (Order doors) = false

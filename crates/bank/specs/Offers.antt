@@ -9,8 +9,8 @@ use Rattle.column.specs.declared.state.Column.{Column}
 use Rattle.bank.specs.Quick.{canSend, canAck, canTakeOver, stepOf, isTake, isReady}
 use Rattle.bank.specs.declared.bank.Answer.{Answer}
 use Rattle.bank.specs.declared.bank.Answer.the-variants.{Done, Refused}
-use Rattle.bank.specs.declared.step.Step.{Step}
-use Rattle.bank.specs.declared.step.Step.the-variants.{Send, Take, Ack, All, Note}
+use Rattle.bank.specs.declared.bank.Step.{Step}
+use Rattle.bank.specs.declared.bank.Step.the-variants.{Send, Take, Ack, All, Note}
 
 abbrev pub isRefusal : Answer → Bool
 isRefusal Done = false

@@ -3,8 +3,8 @@ use Rattle.bank.specs.Banks.{State}
 use Rattle.bank.specs.Steps.{Outcome, order, send, take, ack, all, note, halt}
 use Rattle.bank.specs.Returns.{back}
 use Rattle.bank.specs.Pages.{write}
-use Rattle.bank.specs.declared.step.Step.{Step}
-use Rattle.bank.specs.declared.step.Step.the-variants.{Order, Send, Take, Ack, All, Note, Halt, Back, Write}
+use Rattle.bank.specs.declared.bank.Step.{Step}
+use Rattle.bank.specs.declared.bank.Step.the-variants.{Order, Send, Take, Ack, All, Note, Halt, Back, Write}
 
 unfoldable pub perform : State → Step → Outcome State
 perform s (Order doors) = order s doors

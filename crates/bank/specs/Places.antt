@@ -2,7 +2,7 @@
 -- written: so a halted column keeps what it holds until then, but for one that comes back meanwhile, which it strikes from those noted, and its page. Assumes nothing.
 use Prim.Native.Nat.{ℕ, _≤_, _<_}
 use mathlib.Core.Path.{_≡_, refl, sym, ap, subst, _∙_}
-use mathlib.Core.Bool.{Bool, true, false, not, _||_, cond, true≢false}
+use mathlib.Core.Bool.{Bool, true, false, not, cond, true≢false}
 use mathlib.Core.Logic.{⊎-elim}
 use mathlib.Core.List.{List, [], _∷_}
 use native.Mathlib.Omega.{arith}
@@ -35,8 +35,8 @@ use Rattle.bank.specs.ExactLaws.{exact}
 use Rattle.bank.specs.StripStates.{column-at}
 use Rattle.bank.specs.StripLaws.{halts}
 use Rattle.bank.specs.Rest.{Running}
-use Rattle.bank.specs.declared.step.Step.{Step}
-use Rattle.bank.specs.declared.step.Step.the-variants.{Order, Send, Take, Ack, All, Note, Halt, Back, Write}
+use Rattle.bank.specs.declared.bank.Step.{Step}
+use Rattle.bank.specs.declared.bank.Step.the-variants.{Order, Send, Take, Ack, All, Note, Halt, Back, Write}
 
 -- whose place a step may rewrite: "order: the root; note: the first"; of a take "the packet goes to its receiver"; a halt's members; of a
 -- return that column and "all others"; of a write the column of the page

@@ -10,8 +10,8 @@ use Rattle.column.specs.declared.state.Column.{Column}
 use Rattle.bank.specs.Words.{receiverIn}
 use Rattle.bank.specs.Banks.{columnAt, haltedOf, capacity}
 use Rattle.bank.specs.declared.bank.Bank.{Bank}
-use Rattle.bank.specs.declared.step.Step.{Step}
-use Rattle.bank.specs.declared.step.Step.the-variants.{Order, Send, Take, Ack, All, Note, Halt, Back, Write}
+use Rattle.bank.specs.declared.bank.Step.{Step}
+use Rattle.bank.specs.declared.bank.Step.the-variants.{Order, Send, Take, Ack, All, Note, Halt, Back, Write}
 
 -- a packet to column j would be put where there is room, or not be put
 abbrev pub fits : Bool → ℕ → ℕ → Bool

@@ -13,7 +13,8 @@ use Rattle.column.specs.Cases.{truth}
 use Rattle.column.specs.Refusals.{first, earlier}
 use Rattle.column.specs.Sets.{within, has, minus, lowest}
 use Rattle.column.specs.Trees.{choose}
-use Rattle.column.specs.SetLaws.{has-minus, selected-has, lowest-member, within-lt}
+use Rattle.column.specs.SetLaws.{has-minus, selected-has, within-lt}
+use Rattle.column.specs.LowestLaws.{lowest-member}
 use Rattle.column.specs.TreeLaws.{tree-sixteen}
 use Rattle.column.specs.ChoiceLaws.{choose-lt}
 use Rattle.column.specs.Columns.{idle, standing, stateConditions, stateRefusal, watched, mayAcknowledge}
@@ -30,8 +31,8 @@ use Rattle.bank.specs.Performs.{perform}
 use Rattle.bank.specs.Rest.{isRefused}
 use Rattle.bank.specs.RestSteps.{refuses, refused-exactly, then-refuses}
 use Rattle.bank.specs.Exact.{ownRefusal, raises, raised, overfull}
-use Rattle.bank.specs.declared.step.Step.{Step}
-use Rattle.bank.specs.declared.step.Step.the-variants.{Send, Ack, All, Note}
+use Rattle.bank.specs.declared.bank.Step.{Step}
+use Rattle.bank.specs.declared.bank.Step.the-variants.{Send, Ack, All, Note}
 use Rattle.bank.specs.Quick.{fits, canSend, canAck, canTakeOver, isFull}
 use Rattle.bank.specs.declared.bank.Bank.{Bank}
 

@@ -33,7 +33,7 @@ use Rattle.bank.specs.declared.bank.Bank.{Bank}
 use Rattle.bank.specs.declared.bank.Answer.{Answer}
 use Rattle.bank.specs.declared.bank.Answer.the-variants.{Done, Refused}
 use Rattle.bank.specs.declared.dispatch.Dispatched.{Dispatched}
-use Rattle.bank.specs.declared.step.Step.{Step}
+use Rattle.bank.specs.declared.bank.Step.{Step}
 
 -- ---- a turn
 

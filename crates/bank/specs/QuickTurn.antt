@@ -12,7 +12,8 @@ use lib.Pow.{pow-mono}
 use borrow.Author.Tests.{eqb-true, eqb-false, not-false}
 use Rattle.column.specs.Cases.{equal-cases, and-left}
 use Rattle.column.specs.Sets.{has, join, lowest, minus}
-use Rattle.column.specs.SetLaws.{selected-lt, join-lt, has-none, lowest-member, lowest-none, within-lt, member-lt, has-minus}
+use Rattle.column.specs.SetLaws.{selected-lt, join-lt, has-none, within-lt, member-lt, has-minus}
+use Rattle.column.specs.LowestLaws.{lowest-member, lowest-none}
 use Rattle.column.specs.TreeLaws.{tree-sixteen}
 use Rattle.column.specs.Columns.{stateConditions, stateRefusal}
 use Rattle.column.specs.RefusalLaws.{passed}
@@ -26,8 +27,8 @@ use Rattle.bank.specs.Rest.{isRefused}
 use Rattle.bank.specs.Dispatch.{offers, offered, firstAccepted, turn}
 use Rattle.bank.specs.Quick.{canSend, canAck, canTakeOver, stepOf, stepFrom, isFull, quickTurn}
 use Rattle.bank.specs.declared.bank.Bank.{Bank}
-use Rattle.bank.specs.declared.step.Step.{Step}
-use Rattle.bank.specs.declared.step.Step.the-variants.{Send, Take, Ack, All, Note}
+use Rattle.bank.specs.declared.bank.Step.{Step}
+use Rattle.bank.specs.declared.bank.Step.the-variants.{Send, Take, Ack, All, Note}
 use Rattle.bank.specs.QuickLaws.{send-exact, ack-exact, all-exact, note-exact}
 
 -- ---- the first accepted of a list

@@ -10,7 +10,8 @@ use lib.Dec.{eqb}
 use borrow.Author.Tests.{eqb-true, eqb-false}
 use Rattle.column.specs.Cases.{equal-cases}
 use Rattle.column.specs.Sets.{has, lowest}
-use Rattle.column.specs.SetLaws.{has-none, member-lt, lowest-lt, lowest-member, lowest-none, selected-lt, selected-has}
+use Rattle.column.specs.SetLaws.{has-none, member-lt, selected-lt, selected-has}
+use Rattle.column.specs.LowestLaws.{lowest-lt, lowest-member, lowest-none}
 use Rattle.column.specs.Trees.{treeRefusal}
 use Rattle.column.specs.TreeLaws.{check-exact, tree-sixteen}
 use Rattle.column.specs.declared.tree.Tree.{Tree}
@@ -18,8 +19,8 @@ use Rattle.bank.specs.Banks.{columnAt, haltedOf}
 use Rattle.bank.specs.Quick.{stepOf, isTake, stepFrom, isFull, isReady, readyOf, quickTurn}
 use Rattle.bank.specs.Offers.{step-other}
 use Rattle.bank.specs.declared.bank.Bank.{Bank}
-use Rattle.bank.specs.declared.step.Step.{Step}
-use Rattle.bank.specs.declared.step.Step.the-variants.{Take}
+use Rattle.bank.specs.declared.bank.Step.{Step}
+use Rattle.bank.specs.declared.bank.Step.the-variants.{Take}
 
 module _ (b : Bank) where
   abbrev n : ℕ

@@ -28,7 +28,7 @@ use Rattle.bank.specs.Quick.{isTake, readyOf}
 use Rattle.bank.specs.QuickTurn.{quick-turn}
 use Rattle.bank.specs.ReadyTurn.{ready-none}
 use Rattle.bank.specs.declared.bank.Bank.{Bank}
-use Rattle.bank.specs.declared.step.Step.the-variants.{Send, Ack, All, Note}
+use Rattle.bank.specs.declared.bank.Step.the-variants.{Send, Ack, All, Note}
 
 -- nobody can do anything
 abbrev pub columnsRest : Bank → Bool

@@ -20,8 +20,8 @@ use Rattle.bank.specs.Performs.{perform}
 use Rattle.bank.specs.Exact.{ownRefusal, raised, overfull, refusalOf}
 use Rattle.bank.specs.ExactLaws.{exact}
 use Rattle.bank.specs.Rest.{isRefused, Refused}
-use Rattle.bank.specs.declared.step.Step.{Step}
-use Rattle.bank.specs.declared.step.Step.the-variants.{Send, Ack, All, Note}
+use Rattle.bank.specs.declared.bank.Step.{Step}
+use Rattle.bank.specs.declared.bank.Step.the-variants.{Send, Ack, All, Note}
 
 abbrev pub refuses : ℕ → Bool
 refuses n = not (eqb n 0)

@@ -11,15 +11,13 @@ use lib.ListN.{getD}
 use lib.Seq.{getD-set-other}
 use borrow.Author.Tests.{eq-eqb, ne-eqb, eqb-true, eqb-false, ltb-true, ltb-false, not-false}
 use Rattle.column.specs.Cases.{truth, equal-cases, and-left, and-right, or-none, same-truth}
-use Rattle.column.specs.Sets.{has}
 use Rattle.column.specs.Packets.{receiver}
 use Rattle.column.specs.Columns.{stateRefusal}
-use Rattle.column.specs.Trees.{treeRefusal, choose}
+use Rattle.column.specs.Trees.{treeRefusal}
 use Rattle.column.specs.Steps as core
 use Rattle.column.specs.declared.tree.Tree.{Tree}
 use Rattle.column.specs.declared.state.Column.{Column}
 use Rattle.column.specs.declared.packet.Packet.{Packet}
-use Rattle.column.specs.declared.packet.Packet.the-variants.{Message, Acknowledgement}
 use Rattle.bank.specs.Words.{packetOf}
 use Rattle.bank.specs.Steady.{Steady, steady-cond, steady-send, steady-take}
 use Rattle.bank.specs.Lists.{closedUp}
@@ -35,8 +33,8 @@ use Rattle.bank.specs.Rest.{isRefused}
 use Rattle.bank.specs.RestSteps.{refused-exactly}
 use Rattle.bank.specs.Kinds.{isHalt, ofHalted, byNoColumn}
 use Rattle.bank.specs.Places.{acts, one-acts, tree-kept, others-kept, acting-is}
-use Rattle.bank.specs.declared.step.Step.{Step}
-use Rattle.bank.specs.declared.step.Step.the-variants.{Order, Send, Take, Ack, All, Note, Halt, Back, Write}
+use Rattle.bank.specs.declared.bank.Step.{Step}
+use Rattle.bank.specs.declared.bank.Step.the-variants.{Order, Send, Take, Ack, All, Note, Halt, Back, Write}
 
 -- ---- what a step carries over: who runs, and the packets but for the newest
 

@@ -10,7 +10,8 @@ use lib.Pow.{pow-mono}
 use lib.Dec.{eqb, ltb}
 use borrow.Author.Tests.{eqb-true, eqb-false, not-false}
 use Rattle.column.specs.Sets.{has, lowest, within}
-use Rattle.column.specs.SetLaws.{lowest-member, within-lt}
+use Rattle.column.specs.SetLaws.{within-lt}
+use Rattle.column.specs.LowestLaws.{lowest-member}
 use Rattle.column.specs.Trees.{treeRefusal, choose}
 use Rattle.column.specs.ChoiceLaws.{choose-lt}
 use Rattle.column.specs.Refusals.{first}

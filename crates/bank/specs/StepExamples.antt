@@ -21,7 +21,7 @@ use Rattle.bank.specs.NetworkLaws.{packetsOf, put-meant}
 use Rattle.bank.specs.Steps.{accepted, refused, after, withColumn, fitting, acted}
 use Rattle.bank.specs.Performs.{perform}
 use Rattle.bank.specs.Pages.{writeRefusal}
-use Rattle.bank.specs.declared.step.Step.the-variants.{Send, Write}
+use Rattle.bank.specs.declared.bank.Step.the-variants.{Send, Write}
 
 abbrev message : Packet
 message = Message 0 1 1 9

@@ -18,8 +18,8 @@ use Rattle.column.specs.Columns.{stopped}
 use Rattle.column.specs.StateLaws.{acceptable}
 use Rattle.column.specs.Steps as core
 use Rattle.column.specs.Steps.{haltRefusal, haltEffect}
-use Rattle.column.specs.declared.step.Answer as core-answer
-use Rattle.column.specs.declared.step.Answer.the-variants as core-is
+use Rattle.column.specs.declared.outcome.Answer as core-answer
+use Rattle.column.specs.declared.outcome.Answer.the-variants as core-is
 use Rattle.column.specs.declared.tree.Tree.{Tree}
 use Rattle.column.specs.declared.state.Column.{Column}
 use Rattle.column.specs.declared.packet.Packet.{Packet}

@@ -14,7 +14,7 @@ use Rattle.column.specs.StateLaws.{acceptable}
 use Rattle.column.specs.Steps as core
 use Rattle.column.specs.declared.tree.Tree.{Tree}
 use Rattle.column.specs.declared.state.Column.{Column}
-use Rattle.column.specs.declared.step.Outcome as core-outcome
+use Rattle.column.specs.declared.outcome.Outcome as core-outcome
 use Rattle.bank.specs.Banks.{State, state, columnAt, packetAt, bankRefusal}
 use Rattle.bank.specs.StandingLaws.{stands}
 use Rattle.bank.specs.WordLaws.{receiver-of}
@@ -27,8 +27,8 @@ use Rattle.bank.specs.Kinds.{byNoColumn}
 use Rattle.bank.specs.Places.{acts}
 use Rattle.bank.specs.Quick.{isTake, canSend, canAck, canTakeOver, stepOf, stepFrom, quickTurn, actingIn}
 use Rattle.bank.specs.declared.bank.Bank.{Bank}
-use Rattle.bank.specs.declared.step.Step.{Step}
-use Rattle.bank.specs.declared.step.Step.the-variants.{Order, Send, Take, Ack, All, Note, Halt, Back, Write}
+use Rattle.bank.specs.declared.bank.Step.{Step}
+use Rattle.bank.specs.declared.bank.Step.the-variants.{Order, Send, Take, Ack, All, Note, Halt, Back, Write}
 
 -- ---- who acts
 

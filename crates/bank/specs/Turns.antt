@@ -11,7 +11,7 @@ use Rattle.bank.specs.Changes.{changed, Handed}
 use Rattle.bank.specs.Quick.{quickTurn, actingIn}
 use Rattle.bank.specs.declared.bank.Bank.{Bank}
 use Rattle.bank.specs.declared.settling.Change.{Change}
-use Rattle.bank.specs.declared.step.Step.{Step}
+use Rattle.bank.specs.declared.bank.Step.{Step}
 
 -- of every bank that stands and of which these are the parts: the turn's step
 abbrev pub TakesTurn : Change → Tree → ℕ → Step → ℕ → Column → ℕ → List ℕ → List ℕ → List ℕ → List ℕ → Type 0

@@ -11,7 +11,7 @@ use Rattle.bank.specs.Steps.{accepted, refused, after}
 use Rattle.bank.specs.Performs.{perform}
 use Rattle.bank.specs.Exact.{refusalOf}
 use Rattle.bank.specs.ExactLaws.{exact}
-use Rattle.bank.specs.declared.step.Step.{Step}
+use Rattle.bank.specs.declared.bank.Step.{Step}
 
 module _ (s : State) (x : Step) where
   pub unchanged : (n : ℕ) (s' : State) → perform s x ≡ refused n s' → s' ≡ s

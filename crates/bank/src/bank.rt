@@ -1,12 +1,10 @@
 // What a bank holds, and the fresh bank. Its network's packets are lent to each call: packet k is word k of two arrays of 512.
-use crate::settling::done;
-use crate::settling::refused;
 use column::state::Column;
-use column::tested;
+use column::state::fresh_under;
+use column::topology::tree_refusal;
 use column::tree::Tree;
-use column::tree::tree_refusal;
 ghost use mathlib.Core.Path.{_≡_};
-ghost use Rattle.bank.specs.Steps.{answered, fresh};
+ghost use Rattle.bank.specs.Steps.{answered, accepted, refused, fresh};
 
 // Most packets that the network holds.
 pub const CAPACITY: usize = 512;
@@ -28,6 +26,39 @@ pub enum Answer {
 pub struct Result {
     pub bank: Bank,
     pub answer: Answer,
+}
+
+pub enum Step {
+    Order(u64),
+    Send(usize),
+    Take(usize),
+    Ack(usize),
+    All(usize),
+    Note(usize, usize),
+    Halt(u32),
+    Back(usize),
+    // The column of a page, the offset, and the byte to write there.
+    Write(usize, usize, u8),
+}
+
+// The call is accepted with this bank.
+pub(crate) fn done(b: Bank) -> Result
+    ensures { λ r. ⌜ answered (r .answer) (r .bank) ≡ accepted b ⌝ }
+{
+    Result {
+        bank: b,
+        answer: Answer::Done,
+    }
+}
+
+// The call is refused by n, with the bank as it was.
+pub(crate) fn refused(b: Bank, n: u8) -> Result
+    ensures { λ r. ⌜ answered (r .answer) (r .bank) ≡ refused n b ⌝ }
+{
+    Result {
+        bank: b,
+        answer: Answer::Refused(n),
+    }
 }
 
 pub const NO_COLUMN: Column = Column {
@@ -61,7 +92,7 @@ pub fn fresh(t: Tree) -> Result
     let root = t.root as u8;
     let mut i: usize = 0;
     while i < n {
-        b.columns[i] = tested::fresh(root, i);
+        b.columns[i] = fresh_under(root, i);
         i += 1;
     }
     done(b)

@@ -10,4 +10,5 @@ pub mod standing;
 pub mod step;
 mod strip;
 mod survey;
+mod turn;
 mod words;

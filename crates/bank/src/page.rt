@@ -1,9 +1,9 @@
 // The register pages of the columns: a byte read, a byte written, and whether the line is up. A halted column has its page too.
 use crate::bank::Bank;
 use crate::bank::Result;
+use crate::bank::done;
+use crate::bank::refused;
 use crate::settling::column_at;
-use crate::settling::done;
-use crate::settling::refused;
 use crate::standing::acting_refusal;
 use crate::survey::survey;
 use column::page::Byte;

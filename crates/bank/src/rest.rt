@@ -1,8 +1,8 @@
 // Whether a bank is at rest: no packet is under way, and no running column can send, acknowledge, take over or note.
 use crate::bank::Bank;
-use crate::dispatch::ready_columns;
 use crate::survey::halted;
 use crate::survey::survey;
+use crate::turn::ready_columns;
 ghost use mathlib.Core.Path.{_≡_};
 ghost use Prim.Native.Nat.{_≤_};
 ghost use Rattle.bank.specs.Banks.{state, runningOf};

@@ -1,9 +1,9 @@
 // A halted column comes back to a bank at rest: the core says what becomes of each column, and the bank stores it.
 use crate::bank::Bank;
 use crate::bank::Result;
+use crate::bank::done;
+use crate::bank::refused;
 use crate::rest::columns_rest;
-use crate::settling::done;
-use crate::settling::refused;
 use crate::survey::halted;
 use crate::survey::survey;
 use column::members::has;

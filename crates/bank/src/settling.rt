@@ -4,40 +4,20 @@ use crate::bank::Answer;
 use crate::bank::Bank;
 use crate::bank::CAPACITY;
 use crate::bank::NO_COLUMN;
-use crate::bank::Result;
 use crate::network::append;
 use crate::network::remove;
 use column::members::has;
+use column::outcome::Outcome;
 use column::packet::Packet;
 use column::packet::receiver;
 use column::state::Column;
-use column::step::Outcome;
 ghost use mathlib.Core.Path.{_≡_};
 ghost use Prim.Native.Nat.{_≤_, _<_};
 ghost use Rattle.bank.specs.Banks.{columnAt};
 ghost use Rattle.bank.specs.Offers.{isRefusal};
 ghost use Rattle.bank.specs.StepLaws.{takesOff};
-ghost use Rattle.bank.specs.Steps.{answered, accepted, refused};
 ghost use Rattle.bank.specs.Changes.{Becomes, Delivers, Settles, SettlesTaken};
 ghost use Rattle.bank.specs.declared.bank.Answer.the-variants.{Done, Refused};
-
-pub fn done(b: Bank) -> Result
-    ensures { λ r. ⌜ answered (r .answer) (r .bank) ≡ accepted b ⌝ }
-{
-    Result {
-        bank: b,
-        answer: Answer::Done,
-    }
-}
-
-pub fn refused(b: Bank, n: u8) -> Result
-    ensures { λ r. ⌜ answered (r .answer) (r .bank) ≡ refused n b ⌝ }
-{
-    Result {
-        bank: b,
-        answer: Answer::Refused(n),
-    }
-}
 
 // Column i, or one that does not run where there is no such place.
 pub fn column_at(b: Bank, i: usize) -> Column
@@ -67,6 +47,7 @@ fn changed(c: Column, count: usize) -> Change
     }
 }
 
+// The step is refused by n, with its column and the count as they were.
 pub fn unchanged(c: Column, count: usize, n: u8) -> Change
     ensures { λ r. ⌜ Becomes r c count (Refused n) ⌝ }
 {
@@ -112,8 +93,8 @@ pub fn settle(
 {
     let a = o.answer;
     match a {
-        column::step::Answer::Done => changed(o.column, count),
-        column::step::Answer::Put(p) | column::step::Answer::Left(p) => deliver(
+        column::outcome::Answer::Done => changed(o.column, count),
+        column::outcome::Answer::Put(p) | column::outcome::Answer::Left(p) => deliver(
             running,
             o.column,
             p,
@@ -121,19 +102,19 @@ pub fn settle(
             heads,
             doors,
         ),
-        column::step::Answer::Refused(n) => unchanged(o.column, count, n),
+        column::outcome::Answer::Refused(n) => unchanged(o.column, count, n),
     }
 }
 
 // Whether the step takes its packet off: it does not where it is refused, or leaves the packet in its place.
-fn takes_off(a: column::step::Answer) -> bool
+fn takes_off(a: column::outcome::Answer) -> bool
     ensures { λ r. ⌜ r ≡ takesOff a ⌝ }
 {
     match a {
-        column::step::Answer::Done => true,
-        column::step::Answer::Put(_) => true,
-        column::step::Answer::Left(_) => false,
-        column::step::Answer::Refused(_) => false,
+        column::outcome::Answer::Done => true,
+        column::outcome::Answer::Put(_) => true,
+        column::outcome::Answer::Left(_) => false,
+        column::outcome::Answer::Refused(_) => false,
     }
 }
 
@@ -157,6 +138,7 @@ pub fn settle_taken(
     settle(running, o, count - 1, heads, doors)
 }
 
+// Whether the answer is a refusal.
 pub fn is_refusal(a: Answer) -> bool
     ensures { λ r. ⌜ r ≡ isRefusal a ⌝ }
 {

@@ -1,13 +1,14 @@
 // The steps of a bank: refused and unchanged, or the core's step on one place with its packet.
 use crate::bank::Bank;
 use crate::bank::Result;
+use crate::bank::Step;
+use crate::bank::done;
+use crate::bank::refused;
 use crate::network::vanish;
 use crate::page::write_byte;
 use crate::returning::bring_back;
 use crate::settling::Change;
-use crate::settling::done;
 use crate::settling::is_refusal;
-use crate::settling::refused;
 use crate::settling::settle;
 use crate::settling::settle_taken;
 use crate::strip::halt_refusal;
@@ -16,12 +17,12 @@ use crate::survey::survey;
 use crate::words::packet;
 use crate::words::receiver_in;
 use column::members::has;
+use column::outcome::Answer;
+use column::outcome::Outcome;
 use column::precedence::earlier;
 use column::precedence::refuse_if;
 use column::refusal::note_refusal;
 use column::state::Column;
-use column::step::Answer;
-use column::step::Outcome;
 use column::tested;
 use column::tree::Tree;
 ghost use mathlib.Core.Path.{_≡_};
@@ -35,20 +36,7 @@ ghost use Rattle.bank.specs.Performs.{perform};
 ghost use Rattle.bank.specs.Places.{acts};
 ghost use Rattle.bank.specs.Returns.{back};
 ghost use Rattle.bank.specs.Steps.{outcome, order, send, take, ack, all, note, halt};
-ghost use Rattle.bank.specs.declared.step.Step.the-variants.{Note};
-
-pub enum Step {
-    Order(u64),
-    Send(usize),
-    Take(usize),
-    Ack(usize),
-    All(usize),
-    Note(usize, usize),
-    Halt(u32),
-    Back(usize),
-    // The column of a page, the offset, and the byte to write there.
-    Write(usize, usize, u8),
-}
+ghost use Rattle.bank.specs.declared.bank.Step.the-variants.{Note};
 
 // The core believes that the column to note is halted; the bank tests it.
 fn noted(t: Tree, running: u16, i: usize, c: Column, j: usize) -> Outcome

@@ -19,6 +19,7 @@ fn placed(from: u8, to: u8, number: Number) -> u64
     ((from as u64) * ENDS + (to as u64)) * NUMBERS + (number as u64)
 }
 
+// The first word of a packet.
 pub fn head(p: Packet) -> u64
     ensures { λ r. ⌜ r ≡ headOf p ⌝ }
 {
@@ -33,6 +34,7 @@ pub fn head(p: Packet) -> u64
     }
 }
 
+// The second word of a packet: 0 of an acknowledgement.
 pub fn doors_word(p: Packet) -> u64
     ensures { λ r. ⌜ r ≡ doorsOf p ⌝ }
 {
@@ -42,18 +44,21 @@ pub fn doors_word(p: Packet) -> u64
     }
 }
 
+// To whom the packet of this head goes.
 pub fn receiver_in(head: u64) -> usize
     ensures { λ r. ⌜ r ≡ receiverIn head ⌝ }
 {
     (head / NUMBERS % ENDS) as usize
 }
 
+// Who sent the packet of this head.
 pub fn sender_in(head: u64) -> usize
     ensures { λ r. ⌜ r ≡ senderIn head ⌝ }
 {
     (head / (NUMBERS * ENDS) % ENDS) as usize
 }
 
+// The packet of two words; the doors of an acknowledgement are not looked at.
 pub fn packet(head: u64, doors: u64) -> Packet
     ensures { λ r. ⌜ r ≡ packetOf head doors ⌝ }
 {

@@ -16,7 +16,8 @@ use borrow.Author.Tests.{eqb-true, eqb-false, ltb-true, ltb-false}
 use Rattle.column.specs.Cases.{truth, equal-cases}
 use Rattle.column.specs.Sets.{has, lowestIn}
 use Rattle.column.specs.Digits.{true-has, false-has}
-use Rattle.column.specs.SetLaws.{has-none, member-lt, lowest-none, lowest-member}
+use Rattle.column.specs.SetLaws.{has-none, member-lt}
+use Rattle.column.specs.LowestLaws.{lowest-none, lowest-member}
 use Rattle.closing.specs.Text.{comma, decimal}
 use Rattle.closing.specs.DecimalLaws.{decimal-length}
 use Rattle.closing.specs.Closing.{doorsUpTo, divided}

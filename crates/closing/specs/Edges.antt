@@ -22,9 +22,9 @@ use Rattle.bank.specs.Steps.{Outcome, accepted, after, withColumn, fitting, act
 use Rattle.bank.specs.Performs.{perform}
 use Rattle.bank.specs.Rest.{AtRest}
 use Rattle.bank.specs.RestLaws.{fresh-rests}
-use Rattle.bank.specs.declared.step.Step.the-variants.{Order, Take}
+use Rattle.bank.specs.declared.bank.Step.the-variants.{Order, Take}
 use Rattle.closing.specs.Text.{bytes, allDigits, valueFrom, leadingZero, numeral, startsWith, afterKey}
-use Rattle.closing.specs.Tables.{withFirst, cut, longer, pieces, withNumber, numerals, numeralIn, numbersIn, listedLine, sequenceIn, sequenceLine, watchLine, withWatch, furtherIn, joined, thirdLine, secondLine, firstLine, tableRefusal, placedAt, noTree, judged, readTable}
+use Rattle.closing.specs.Tables.{withFirst, cut, longer, pieces, withNumber, numerals, numeralIn, numbersIn, listedLine, sequenceIn, sequenceLine, watchLine, withWatch, furtherIn, joined, thirdLine, secondLine, firstLine, tableIn, tableRefusal, placedAt, noTree, judged, readTable}
 
 -- ---- banks of the cases
 
@@ -108,7 +108,7 @@ Says lower-number =
     (s .bank .count ≡ 1) × (packetAt s 0 ≡ Acknowledgement 1 0 3)
 
 pub every-case : (c : Case) → Says c
-unfolding allDigits valueFrom leadingZero numeral startsWith afterKey withFirst cut longer pieces withNumber numerals numeralIn numbersIn listedLine sequenceIn sequenceLine watchLine withWatch furtherIn joined thirdLine secondLine firstLine tableRefusal judged every climbsIn treeRefusal selected trailingZeros stateRefusal packetOf closedUp places freshPlace bankRefusal put puts perform fitting acted delivered core.orderRefusal core.packetRefusal core.takeRefusal core.orderEffect core.receiveEffect core.messageEffect packets.lowValue packets.readIn
+unfolding allDigits valueFrom leadingZero numeral startsWith afterKey withFirst cut longer pieces withNumber numerals numeralIn numbersIn listedLine sequenceIn sequenceLine watchLine withWatch furtherIn joined thirdLine secondLine firstLine tableIn tableRefusal judged every climbsIn treeRefusal selected trailingZeros stateRefusal packetOf closedUp places freshPlace bankRefusal put puts perform fitting acted delivered core.orderRefusal core.packetRefusal core.takeRefusal core.orderEffect core.receiveEffect core.messageEffect packets.lowValue packets.readIn
 every-case table-of-one = refl
 every-case cycle = refl
 every-case fresh-bank = fresh-rests

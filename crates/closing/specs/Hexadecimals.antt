@@ -14,7 +14,7 @@ use Rattle.column.specs.Cases.{or-cases, and-left, and-right, none-and}
 use Rattle.column.specs.Packets.{lowValue}
 use Rattle.closing.specs.Text.{Reading, read, unread, isDigit}
 use Rattle.closing.specs.Lines.{isHexadecimal, hexadecimal, allHexadecimal, hexadecimalBytes, perform, asking, doorsIn}
-use Rattle.bank.specs.declared.step.Step.the-variants.{Order}
+use Rattle.bank.specs.declared.bank.Step.the-variants.{Order}
 use Rattle.closing.specs.declared.hexadecimal.Doors.{Doors}
 use Rattle.closing.specs.declared.hexadecimal.Doors.the-variants.{Are, Unread}
 

@@ -8,6 +8,7 @@ pub mod ClosingLaws
 pub mod Tables
 pub mod Readings
 pub mod Cutting
+pub mod LineEnds
 pub mod NumberLists
 pub mod TableLaws
 pub mod TableExamples

@@ -3,7 +3,7 @@ use Prim.Native.String.{String}
 use mathlib.Core.Path.{_≡_, refl}
 use mathlib.Core.List.{List, [], _∷_, map}
 use Rattle.column.specs.Packets.{lowValue}
-use Rattle.bank.specs.declared.step.Step.the-variants.{Order, Send, Take, Ack, All, Note, Halt, Back}
+use Rattle.bank.specs.declared.bank.Step.the-variants.{Order, Send, Take, Ack, All, Note, Halt, Back}
 use Rattle.closing.specs.Text.{bytes, Reading, read, unread, allDigits, valueFrom, leadingZero, numeral, startsWith, afterKey}
 use Rattle.closing.specs.Tables.{longer, pieces, withNumber, numerals, numeralIn}
 use Rattle.closing.specs.Lines.{Command, perform, list, dispatch, allHexadecimal, hexadecimalBytes, doorsIn, asking, noteOf, noteOfPieces, noteIn, withMembers, haltAfter, haltIn, orElse, commandOf}

@@ -15,7 +15,7 @@ use Rattle.column.specs.Cases.{truth, none-and}
 use Rattle.column.specs.Sets.{has, insert}
 use Rattle.column.specs.SetLaws.{has-none, has-insert}
 use Rattle.bank.specs.Strips.{among}
-use Rattle.bank.specs.declared.step.Step.the-variants.{Send, Take, Ack, All, Halt, Back}
+use Rattle.bank.specs.declared.bank.Step.the-variants.{Send, Take, Ack, All, Halt, Back}
 use Rattle.closing.specs.Text.{orderKey, sendKey, takeKey, ackKey, allKey, noteKey, haltKey, backKey, listKey, runKey, comma, Reading, read, unread, isDigit, allDigits, valueFrom, leadingZero, numeral, startsWith, afterKey}
 use Rattle.closing.specs.Tables.{pieces, withNumber, numerals, numeralIn, keyed}
 use Rattle.closing.specs.Lines.{Command, perform, list, dispatch, asking, doorsIn, noteOf, noteOfPieces, noteIn, memberOf, withMembers, haltAfter, haltIn, orElse, commandOf}

@@ -6,8 +6,8 @@ use lib.Dec.{eqb, leb, ltb}
 use lib.ListN.{length}
 use Rattle.column.specs.Sets.{insert}
 use Rattle.column.specs.Packets.{lowValue}
-use Rattle.bank.specs.declared.step.Step.{Step}
-use Rattle.bank.specs.declared.step.Step.the-variants.{Order, Send, Take, Ack, All, Note, Halt, Back}
+use Rattle.bank.specs.declared.bank.Step.{Step}
+use Rattle.bank.specs.declared.bank.Step.the-variants.{Order, Send, Take, Ack, All, Note, Halt, Back}
 use Rattle.closing.specs.Text.{orderKey, sendKey, takeKey, ackKey, allKey, noteKey, haltKey, backKey, listKey, runKey, Reading, read, unread, isDigit, numeral, afterKey}
 use Rattle.closing.specs.Tables.{pieces, numerals, keyed}
 use Rattle.closing.specs.declared.line.Line as line

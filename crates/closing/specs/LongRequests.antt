@@ -10,9 +10,9 @@ use lib.ListN.{length, drop, length-drop}
 use borrow.Author.Tests.{leb-true, eqb-true}
 use Rattle.column.specs.Cases.{truth, and-left, and-right}
 use Rattle.closing.specs.Text.{columnsKey, delayKey, gapKey, newline, Reading, read, unread, allDigits, leadingZero, isNumeral, numeral, startsWith, afterKey}
-use Rattle.closing.specs.Tables.{Cut, ended, unended, withFirst, cut, numeralIn, keyed}
+use Rattle.closing.specs.Tables.{Cut, ended, unended, withFirst, cut, numeralIn, keyed, thirdLine, secondLine, firstLine}
 use Rattle.closing.specs.Scripts.{refusedText}
-use Rattle.closing.specs.Requests.{asked, firstAsked, secondAsked, thirdAsked, requestOf, requestText}
+use Rattle.closing.specs.Requests.{asked, requestIn, requestOf, requestText}
 use Rattle.closing.specs.AnswerLaws.{answer-unread}
 
 -- whether something is read, as a test
@@ -81,9 +81,9 @@ asked-parts (read a) (read b) unread e = absurd (true≢false (sym e))
 asked-parts (read a) unread z e = absurd (true≢false (sym e))
 asked-parts unread y z e = absurd (true≢false (sym e))
 
-third-short : (one two : List ℕ) (n : ℕ) (c : Cut) → Sized n c → isRead (thirdAsked one two c) ≡ true
+third-short : (one two : List ℕ) (n : ℕ) (c : Cut) → Sized n c → isRead (requestIn (thirdLine one two c)) ≡ true
     → length one + 1 + (length two + 1) + n ≤ 29
-unfolding Sized thirdAsked isRead
+unfolding Sized thirdLine requestIn isRead
 third-short one two n unended s e = absurd (true≢false (sym e))
 third-short one two n (ended three rest) s e = go (truth (eqb (length rest) 0))
   where
@@ -94,13 +94,13 @@ third-short one two n (ended three rest) s e = go (truth (eqb (length rest) 0))
         omega
         (arith, s, eqb-true (length rest) 0 y, keyed-short columnsKey 2 one (h .0), keyed-short delayKey 3 two (h .1), keyed-short gapKey 3 three (h .2))
 
-second-short : (one : List ℕ) (n : ℕ) (c : Cut) → Sized n c → isRead (secondAsked one c) ≡ true → length one + 1 + n ≤ 29
-unfolding Sized secondAsked isRead
+second-short : (one : List ℕ) (n : ℕ) (c : Cut) → Sized n c → isRead (requestIn (secondLine one c)) ≡ true → length one + 1 + n ≤ 29
+unfolding Sized secondLine requestIn isRead
 second-short one n unended s e = absurd (true≢false (sym e))
 second-short one n (ended two rest) s e = omega (arith, s, third-short one two (length rest) (cut rest) (cut-sized rest) e)
 
-first-short : (n : ℕ) (c : Cut) → Sized n c → isRead (firstAsked c) ≡ true → n ≤ 29
-unfolding Sized firstAsked isRead
+first-short : (n : ℕ) (c : Cut) → Sized n c → isRead (requestIn (firstLine c)) ≡ true → n ≤ 29
+unfolding Sized firstLine requestIn isRead
 first-short n unended s e = absurd (true≢false (sym e))
 first-short n (ended one rest) s e = omega (arith, s, second-short one (length rest) (cut rest) (cut-sized rest) e)
 

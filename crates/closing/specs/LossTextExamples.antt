@@ -16,7 +16,7 @@ use Rattle.bank.specs.Performs.{perform}
 use Rattle.bank.specs.Dispatch.{offered, firstAccepted, turn, dispatch}
 use Rattle.losses.specs.Losses.{lossesRefusal, ordered, begun, ended, counted, lossesOf}
 use Rattle.closing.specs.Text.{bytes, decimalIn, allDigits, valueFrom, leadingZero, numeral, startsWith, afterKey}
-use Rattle.closing.specs.Tables.{cut, withFirst, numeralIn, longer, pieces, withNumber, numerals, numbersIn, listedLine, sequenceIn, sequenceLine, watchLine, withWatch, furtherIn, joined, thirdLine, secondLine, firstLine, tableRefusal, judged}
+use Rattle.closing.specs.Tables.{cut, withFirst, numeralIn, longer, pieces, withNumber, numerals, numbersIn, listedLine, sequenceIn, sequenceLine, watchLine, withWatch, furtherIn, joined, thirdLine, secondLine, firstLine, tableIn, tableRefusal, judged}
 use Rattle.closing.specs.LossTexts.{stepsIn, countsText, countedText, askedText, tableText, lossesText}
 
 -- an input, and the text that answers it
@@ -52,7 +52,7 @@ rows =
 
 pub input-answers : map (λ r. lossesText (bytes (r .input))) rows ≡ map (λ r. bytes (r .answer)) rows
 unfolding cut withFirst numeralIn numeral allDigits valueFrom leadingZero startsWith afterKey decimalIn longer pieces withNumber numerals numbersIn
-    listedLine sequenceIn sequenceLine watchLine withWatch furtherIn joined thirdLine secondLine firstLine tableRefusal judged stepsIn countsText
+    listedLine sequenceIn sequenceLine watchLine withWatch furtherIn joined thirdLine secondLine firstLine tableIn tableRefusal judged stepsIn countsText
     countedText askedText tableText lossesText lossesOf lossesRefusal ordered begun ended counted perform every closedUp keeping padded places
     freshPlace bankRefusal packetOf put puts vanished fitting acted delivered rewriting halted haltRefusal climbsIn treeRefusal stateRefusal selected
     trailingZeros offered firstAccepted turn dispatch core.orderRefusal core.sendRefusal core.packetRefusal core.takeRefusal core.ackRefusal

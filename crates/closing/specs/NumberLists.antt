@@ -11,8 +11,8 @@ use borrow.Author.Tests.{ltb-true, ltb-false}
 use Rattle.closing.specs.Text.{comma, Reading, read, unread, numeral}
 use Rattle.closing.specs.Tables.{withNumber, numerals, sixteen}
 use Rattle.closing.specs.Cutting.{Found, piecesFrom, piece-from, pieces-end}
-use Rattle.closing.specs.declared.table.NumberList.{NumberList}
-use Rattle.closing.specs.declared.table.ListLine.{ListLine}
+use Rattle.closing.specs.declared.number_list.NumberList.{NumberList}
+use Rattle.closing.specs.declared.number_list.ListLine.{ListLine}
 
 abbrev pub lineMeant : ListLine → Reading NumberList
 lineMeant u = cond (u .good) (read (u .list)) unread

@@ -5,8 +5,8 @@ use mathlib.Core.List.{List, [], _∷_, map}
 use Rattle.fastest.specs.Strategy.{soonest, withColumn, grown, fastestRefusal}
 use Rattle.closing.specs.Text.{bytes, decimalIn, allDigits, valueFrom, leadingZero, numeral, startsWith, afterKey}
 use Rattle.closing.specs.Closing.{divided, moreDivided}
-use Rattle.closing.specs.Tables.{cut, withFirst, numeralIn}
-use Rattle.closing.specs.Requests.{asked, firstAsked, secondAsked, thirdAsked, tableText, answerText, requestText}
+use Rattle.closing.specs.Tables.{cut, withFirst, numeralIn, thirdLine, secondLine, firstLine}
+use Rattle.closing.specs.Requests.{asked, requestIn, tableText, answerText, requestText}
 
 -- a request, and the text that answers it
 pub record Row : Type 0 where
@@ -41,6 +41,6 @@ rows =
     ∷ []
 
 pub request-answers : map (λ r. requestText (bytes (r .request))) rows ≡ map (λ r. bytes (r .answer)) rows
-unfolding cut withFirst numeralIn numeral allDigits valueFrom leadingZero startsWith afterKey decimalIn divided moreDivided asked firstAsked
-    secondAsked thirdAsked answerText tableText soonest withColumn grown fastestRefusal
+unfolding cut withFirst numeralIn numeral allDigits valueFrom leadingZero startsWith afterKey decimalIn divided moreDivided asked firstLine
+    secondLine thirdLine requestIn answerText tableText soonest withColumn grown fastestRefusal
 request-answers = refl

@@ -8,7 +8,7 @@ use Rattle.column.specs.declared.tree.Tree.{Tree}
 use Rattle.fastest.specs.Strategy.{fastestRefusal, fastestTree}
 use Rattle.closing.specs.Text.{columnsKey, rootKey, upKey, delayKey, gapKey, newline, field, Reading, read, unread}
 use Rattle.closing.specs.Closing.{divided}
-use Rattle.closing.specs.Tables.{Cut, ended, unended, cut, keyed}
+use Rattle.closing.specs.Tables.{keyed, ThreeLines, threeLines}
 use Rattle.closing.specs.Scripts.{refusedText}
 
 -- ---- what is asked
@@ -25,21 +25,13 @@ asked (read columns) unread gap = unread
 asked unread delay gap = unread
 
 -- "three lines, `columns=`, `delay=` and `gap=`, the last two with one to three digits"; nothing follows them
-unfoldable pub thirdAsked : List ℕ → List ℕ → Cut → Reading Request
-thirdAsked one two (ended three rest) =
-    cond (eqb (length rest) 0) (asked (keyed columnsKey 2 one) (keyed delayKey 3 two) (keyed gapKey 3 three)) unread
-thirdAsked one two unended = unread
-
-unfoldable pub secondAsked : List ℕ → Cut → Reading Request
-secondAsked one (ended two rest) = thirdAsked one two (cut rest)
-secondAsked one unended = unread
-
-unfoldable pub firstAsked : Cut → Reading Request
-firstAsked (ended one rest) = secondAsked one (cut rest)
-firstAsked unended = unread
+unfoldable pub requestIn : Reading ThreeLines → Reading Request
+requestIn (read l) =
+    cond (eqb (length (l .rest)) 0) (asked (keyed columnsKey 2 (l .one)) (keyed delayKey 3 (l .two)) (keyed gapKey 3 (l .three))) unread
+requestIn unread = unread
 
 abbrev pub requestOf : List ℕ → Reading Request
-requestOf input = firstAsked (cut input)
+requestOf input = requestIn (threeLines input)
 
 -- ---- what is answered
 

@@ -27,6 +27,7 @@ use Rattle.closing.specs.Tables.{
   thirdLine,
   secondLine,
   firstLine,
+  tableIn,
   tableRefusal,
   Placed,
   placedAt,
@@ -113,6 +114,6 @@ rows =
     ∷ []
 
 pub table-answers : map (λ r. readTable (bytes (r .text))) rows ≡ map (λ r. r .answer) rows
-unfolding withFirst cut longer pieces withNumber numerals numeralIn numbersIn listedLine sequenceIn sequenceLine watchLine withWatch furtherIn joined thirdLine secondLine firstLine
+unfolding withFirst cut longer pieces withNumber numerals numeralIn numbersIn listedLine sequenceIn sequenceLine watchLine withWatch furtherIn joined thirdLine secondLine firstLine tableIn
     tableRefusal judged allDigits valueFrom leadingZero numeral startsWith afterKey every climbsIn treeRefusal
 table-answers = refl

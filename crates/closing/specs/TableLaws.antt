@@ -1,6 +1,6 @@
 -- What the reader of a table makes of its lines. Assumes nothing.
 use Prim.Native.Nat.{ℕ, _+_, _-_, _≤_, _<_}
-use mathlib.Core.Path.{_≡_, refl, sym, ap, _∙_}
+use mathlib.Core.Path.{_≡_, refl, ap, _∙_}
 use mathlib.Core.Bool.{Bool, true, false, _&&_, cond}
 use mathlib.Core.List.{List}
 use native.Mathlib.Omega.{arith}
@@ -37,7 +37,7 @@ use Rattle.closing.specs.Tables.{
 }
 use Rattle.closing.specs.Cutting.{Found, line-ended, line-unended, line-length}
 use Rattle.closing.specs.NumberLists.{listOf, held}
-use Rattle.closing.specs.declared.table.NumberList.{NumberList}
+use Rattle.closing.specs.declared.number_list.NumberList.{NumberList}
 use Rattle.closing.specs.declared.table.SequenceRead.{SequenceRead}
 use Rattle.closing.specs.declared.table.WatchRead.{WatchRead}
 use Rattle.closing.specs.declared.table.FurtherRead.{FurtherRead}

@@ -17,7 +17,7 @@ use Rattle.bank.specs.Steps.{accepted}
 use Rattle.closing.specs.Text.{columnsKey, rootKey, upKey, firstKey, watchKey, newline, comma, decimalIn, decimal, Reading, read, unread, allDigits, valueFrom, leadingZero, numeral, startsWith, afterKey}
 use Rattle.closing.specs.Closing.{moreDivided, divided}
 use Rattle.closing.specs.DividedLaws.{Columns, columns-taken}
-use Rattle.closing.specs.Tables.{ended, withFirst, cut, longer, pieces, withNumber, numerals, numeralIn, keyed, numbersIn, numbers, unlisted, sequenceLine, watchLine, withWatch, furtherIn, Table, joined, thirdLine, secondLine, firstLine, tableOf, sixteen, treeIn, countedRefusal, tableRefusal, placedAt, judged, readTable}
+use Rattle.closing.specs.Tables.{ended, withFirst, cut, longer, pieces, withNumber, numerals, numeralIn, keyed, numbersIn, numbers, unlisted, sequenceLine, watchLine, withWatch, furtherIn, Table, joined, thirdLine, secondLine, firstLine, tableIn, tableOf, sixteen, treeIn, countedRefusal, tableRefusal, placedAt, judged, readTable}
 use Rattle.closing.specs.Requests.{tableText}
 
 -- ---- texts without a byte
@@ -179,7 +179,7 @@ module _ (t : Tree) where
     up-small = columns-taken (t .up) (t .columns) (λ c l. omega (arith, is .parent-below c l, is .sixteen))
 
     table-read : (rest : List ℕ) → startsWith firstKey rest ≡ false → startsWith watchKey rest ≡ false → tableOf (tableText t ++ rest) ≡ read table
-    unfolding firstLine secondLine thirdLine joined sequenceLine furtherIn watchLine withWatch
+    unfolding firstLine secondLine thirdLine tableIn joined sequenceLine furtherIn watchLine withWatch
     table-read rest other unwatched =
         rw (
           text-lines rest,

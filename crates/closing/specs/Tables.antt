@@ -133,23 +133,37 @@ joined (read columns) (read root) unread s size = unread
 joined (read columns) unread up s size = unread
 joined unread root up s size = unread
 
+-- three lines, and what stands after them
+pub record ThreeLines : Type 0 where
+  pub one : List ℕ
+  pub two : List ℕ
+  pub three : List ℕ
+  pub rest : List ℕ
+
 -- "three lines, each ended by byte 10, in this order"
-unfoldable pub thirdLine : List ℕ → List ℕ → Cut → Reading Table
-thirdLine one two (ended three rest) =
-    joined (keyed columnsKey 2 one) (keyed rootKey 2 two) (numbers upKey three) (furtherLines rest)
-    (length one + 1 + (length two + 1) + (length three + 1))
+unfoldable pub thirdLine : List ℕ → List ℕ → Cut → Reading ThreeLines
+thirdLine one two (ended three rest) = read (record { one = one; two = two; three = three; rest = rest })
 thirdLine one two unended = unread
 
-unfoldable pub secondLine : List ℕ → Cut → Reading Table
+unfoldable pub secondLine : List ℕ → Cut → Reading ThreeLines
 secondLine one (ended two rest) = thirdLine one two (cut rest)
 secondLine one unended = unread
 
-unfoldable pub firstLine : Cut → Reading Table
+unfoldable pub firstLine : Cut → Reading ThreeLines
 firstLine (ended one rest) = secondLine one (cut rest)
 firstLine unended = unread
 
+abbrev pub threeLines : List ℕ → Reading ThreeLines
+threeLines s = firstLine (cut s)
+
+unfoldable pub tableIn : Reading ThreeLines → Reading Table
+tableIn (read l) =
+    joined (keyed columnsKey 2 (l .one)) (keyed rootKey 2 (l .two)) (numbers upKey (l .three)) (furtherLines (l .rest))
+    (length (l .one) + 1 + (length (l .two) + 1) + (length (l .three) + 1))
+tableIn unread = unread
+
 abbrev pub tableOf : List ℕ → Reading Table
-tableOf s = firstLine (cut s)
+tableOf s = tableIn (threeLines s)
 
 -- ---- the tree, or the refusal: "Tables are checked in the order 1, 2, 3"
 

@@ -5,7 +5,7 @@ use crate::reading::Number;
 use crate::reading::keyed;
 use crate::reading::numeral;
 use crate::reading::starts_with;
-use bank::step::Step;
+use bank::bank::Step;
 use bytes::scan::find;
 ghost use Prim.Native.Nat.{_≤_};
 ghost use mathlib.Core.Path.{_≡_};

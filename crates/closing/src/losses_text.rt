@@ -14,7 +14,7 @@ ghost use Prim.Native.Nat.{_≤_};
 ghost use mathlib.Core.Path.{_≡_};
 ghost use lib.ListN.{length, drop};
 ghost use Rattle.closing.specs.Readings.{numberMeant};
-ghost use Rattle.closing.specs.LossTexts.{stepCount, countsText, askedText, tableText, lossesText, longestCounts};
+ghost use Rattle.closing.specs.LossTexts.{stepCount, countsText, askedText, lossesText, longestCounts};
 ghost use Rattle.closing.specs.Writing.{Writes};
 
 // Room for three lines of the longest number that is counted, 256.

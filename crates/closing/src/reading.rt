@@ -64,6 +64,7 @@ pub fn starts_with(text: &[u8], key: &[u8]) -> bool
     true
 }
 
+// The numeral of `width` digits at most behind the key that a line begins with.
 pub(crate) fn keyed(line: &[u8], key: &[u8], width: usize) -> Number
     requires { ⌜ width ≤ 10 ⌝ }
     ensures { λ r. ⌜ numberMeant r ≡ keyed (now (key .entry)) width (now (line .entry)) ⌝ }

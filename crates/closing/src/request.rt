@@ -4,7 +4,8 @@ use crate::reading::keyed;
 use crate::text::put_all;
 use crate::text::put_field;
 use crate::text::put_next;
-use bytes::scan::find;
+use crate::three_lines::LineEnds;
+use crate::three_lines::find_three_lines;
 use column::tree::Tree;
 use fastest::strategy::fastest;
 ghost use Prim.Native.Nat.{_+_, _≤_, _<_};
@@ -61,22 +62,15 @@ fn read_asked(one: &[u8], two: &[u8], three: &[u8]) -> Request
 fn read_request(input: &[u8]) -> Request
     ensures { λ r. ⌜ requestMeant r ≡ requestOf (now (input .entry)) ⌝ }
 {
-    let one = find(input, 0, input.len(), b'\n');
-    if one == input.len() {
-        return UNREAD;
+    match find_three_lines(input) {
+        LineEnds::Fewer => UNREAD,
+        LineEnds::At(one, two, three) => {
+            if three + 1 != input.len() {
+                return UNREAD;
+            }
+            read_asked(&input[0..one], &input[one + 1..two], &input[two + 1..three])
+        }
     }
-    let two = find(input, one + 1, input.len(), b'\n');
-    if two == input.len() {
-        return UNREAD;
-    }
-    let three = find(input, two + 1, input.len(), b'\n');
-    if three == input.len() {
-        return UNREAD;
-    }
-    if three + 1 != input.len() {
-        return UNREAD;
-    }
-    read_asked(&input[0..one], &input[one + 1..two], &input[two + 1..three])
 }
 
 // The first n parents.

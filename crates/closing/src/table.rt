@@ -1,36 +1,27 @@
 // A bank's table as text: three lines that give a tree, and where there are more of its own, the tree's sequence and whom columns watch.
+use crate::number_list::NO_LIST;
+use crate::number_list::NumberList;
+use crate::number_list::numbers_of;
 use crate::reading::Number;
 use crate::reading::keyed;
-use crate::reading::numeral;
 use crate::reading::starts_with;
+use crate::three_lines::LineEnds;
+use crate::three_lines::find_three_lines;
 use bank::bank::Answer;
 use bytes::scan::find;
 use column::precedence::earlier;
 use column::precedence::refuse_if;
+use column::topology::tree_refusal;
 use column::tree::ASCENDING;
 use column::tree::Tree;
-use column::tree::tree_refusal;
-ghost use Prim.Native.Nat.{_^_, _<_, _≤_};
+ghost use Prim.Native.Nat.{_≤_};
 ghost use mathlib.Core.Bool.{false};
 ghost use lib.ListN.{length, drop};
 ghost use mathlib.Core.Path.{_≡_};
 ghost use Rattle.bank.specs.Steps.{answered, refused};
 ghost use Rattle.closing.specs.Text.{read, startsWith};
-ghost use Rattle.closing.specs.Tables.{numbers, pieces, numerals, sequenceLine, watchLine, furtherLines, countedRefusal, placedAt, noTree, readTable};
-ghost use Rattle.closing.specs.NumberLists.{withOne, lineMeant, held};
+ghost use Rattle.closing.specs.Tables.{sequenceLine, watchLine, furtherLines, countedRefusal, placedAt, noTree, readTable};
 ghost use Rattle.closing.specs.TableLaws.{sequenceMeant, heldFrom, watchMeant, watchFrom, furtherMeant, furtherFrom, unlistedRead, watchedRead, treeJudged, heldJudged, linesJudged};
-
-// The numbers of a line: how many, and the first sixteen.
-struct NumberList {
-    count: usize,
-    numbers: [usize; 16],
-}
-
-// The list counts where the line is of its form.
-struct ListLine {
-    good: bool,
-    list: NumberList,
-}
 
 // The line of the sequence, where the table has it: whether it is of its form, whether it is there, its numbers, and the place after it.
 struct SequenceRead {
@@ -61,63 +52,11 @@ const WATCHES_ROOT: usize = 11;
 
 const WATCHES_SENDER: usize = 13;
 
-// What stands in the place of a list that is not read.
-const NO_LIST: NumberList = NumberList {
-    count: 0,
-    numbers: ASCENDING,
-};
-
 // A tree and the place after its table, where it is not refused.
 pub struct Table {
     pub answer: Answer,
     pub tree: Tree,
     pub end: usize,
-}
-
-fn with_number(l: NumberList, number: usize) -> NumberList
-    requires { ⌜ l .count < 2 ^ 63 ⌝ }
-    ensures { λ r. ⌜ r ≡ withOne l number ⌝ }
-{
-    let mut d = l;
-    let n = d.count;
-    d.count = n + 1;
-    if n < 16 {
-        d.numbers[n] = number;
-        return d;
-    }
-    d
-}
-
-// The numerals of a text divided by commas; past the sixteenth they are counted alone.
-fn numbers_in(text: &[u8]) -> ListLine
-    ensures { λ r. ⌜ lineMeant r ≡ held (numerals (pieces (now (text .entry)))) ⌝ }
-{
-    let mut list = NumberList {
-        count: 0,
-        numbers: [0; 16],
-    };
-    let mut from: usize = 0;
-    while from <= text.len() {
-        let to = find(text, from, text.len(), b',');
-        match numeral(&text[from..to], 2) {
-            Number::Is(number) => list = with_number(list, number),
-            Number::Unread => return ListLine { good: false, list },
-        }
-        from = to + 1;
-    }
-    ListLine { good: true, list }
-}
-
-fn numbers_of(line: &[u8], key: &[u8]) -> ListLine
-    ensures { λ r. ⌜ lineMeant r ≡ held (numbers (now (key .entry)) (now (line .entry))) ⌝ }
-{
-    if !starts_with(line, key) {
-        return ListLine {
-            good: false,
-            list: NO_LIST,
-        };
-    }
-    numbers_in(&line[key.len()..])
 }
 
 // Whether the input has a key from a place on.
@@ -291,23 +230,16 @@ fn read_lines(one: &[u8], two: &[u8], three: &[u8], input: &[u8], at: usize) -> 
 pub fn read_table(input: &[u8]) -> Table
     ensures { λ r. ⌜ answered (r .answer) (placedAt (r .tree) (r .end)) ≡ readTable (now (input .entry)) ⌝ }
 {
-    let one = find(input, 0, input.len(), b'\n');
-    if one == input.len() {
-        return refused(1);
+    match find_three_lines(input) {
+        LineEnds::Fewer => refused(1),
+        LineEnds::At(one, two, three) => {
+            read_lines(
+                &input[0..one],
+                &input[one + 1..two],
+                &input[two + 1..three],
+                input,
+                three + 1,
+            )
+        }
     }
-    let two = find(input, one + 1, input.len(), b'\n');
-    if two == input.len() {
-        return refused(1);
-    }
-    let three = find(input, two + 1, input.len(), b'\n');
-    if three == input.len() {
-        return refused(1);
-    }
-    read_lines(
-        &input[0..one],
-        &input[one + 1..two],
-        &input[two + 1..three],
-        input,
-        three + 1,
-    )
 }

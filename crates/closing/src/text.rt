@@ -8,6 +8,7 @@ ghost use Rattle.closing.specs.DividedLaws.{nextText};
 ghost use Rattle.closing.specs.Writing.{Writes};
 use io::decimal;
 
+// The bytes as they are.
 pub fn put_all(out: &mut [u8], at: usize, bytes: &[u8]) -> usize
     requires { ⌜ at + length (now bytes) ≤ length (now out) ⌝ }
     ensures { λ r. ⌜ Writes r (now (out .exit)) (now (out .entry)) at (now (bytes .entry)) ⌝ }
@@ -65,6 +66,7 @@ pub fn put_next(out: &mut [u8], start: usize, at: usize, n: u64) -> usize
     put_number(out, number, n)
 }
 
+// A line: its key and a number.
 pub fn put_field(out: &mut [u8], at: usize, key: &[u8], n: u64) -> usize
     requires { ⌜ at + length (field (now key) n) ≤ length (now out) ⌝ }
     ensures { λ r. ⌜ Writes r (now (out .exit)) (now (out .entry)) at (field (now (key .entry)) n) ⌝ }

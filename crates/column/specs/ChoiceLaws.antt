@@ -12,7 +12,8 @@ use lib.ListN.{getD}
 use lib.Pow.{pow-mono}
 use Rattle.column.specs.Cases.{compare-cases, equal-cases}
 use Rattle.column.specs.Sets.{has, lowestIn, lowest}
-use Rattle.column.specs.SetLaws.{has-none, lowest-lt, lowest-member, lowest-none}
+use Rattle.column.specs.SetLaws.{has-none}
+use Rattle.column.specs.LowestLaws.{lowest-lt, lowest-member, lowest-none}
 use Rattle.column.specs.Trees.{ascending, listedAt, IsTree, earliestFrom, places, choose, treeRefusal}
 use Rattle.column.specs.TreeLaws.{check-exact}
 use Rattle.column.specs.SequenceLaws.{ascending-at}

@@ -12,7 +12,8 @@ use lib.Pow.{pow-pos, pow-mono}
 use borrow.Author.Tests.{eq-eqb, ne-eqb, eqb-true}
 use Rattle.column.specs.Cases.{equal-cases, or-cases, and-left, same-truth}
 use Rattle.column.specs.Sets.{has, single, join, without, lowest}
-use Rattle.column.specs.SetLaws.{has-none, has-join, has-single, has-without, has-without-other, single-lt, join-lt, without-lt, member-lt, member-pos, same-members, lowest-member, ones-without}
+use Rattle.column.specs.SetLaws.{has-none, has-join, has-single, has-without, has-without-other, single-lt, join-lt, without-lt, member-lt, member-pos, same-members, ones-without}
+use Rattle.column.specs.LowestLaws.{lowest-member}
 use Rattle.column.specs.Trees.{parent, climb, IsTree, children, subtreeIn, subtreesIn}
 use Rattle.column.specs.TreeLaws.{climb-zero, climb-suc, climb-lt}
 use Rattle.column.specs.Depths.{depth, depth-child, depth-le, climb-nearer}

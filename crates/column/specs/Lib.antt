@@ -2,6 +2,7 @@ pub mod Cases
 pub mod Sets
 pub mod Digits
 pub mod SetLaws
+pub mod LowestLaws
 pub mod Refusals
 pub mod RefusalLaws
 pub mod Trees

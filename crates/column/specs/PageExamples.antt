@@ -5,9 +5,9 @@ use mathlib.Core.Bool.{Bool, true, false}
 use mathlib.Core.List.{List, [], _∷_, map}
 use lib.Count.{onesIn, ones}
 use lib.ListN.{replicate}
-use Rattle.column.specs.Refusals.{given, refused}
+use Rattle.column.specs.Refusals.{given}
 use Rattle.column.specs.Trees.{treeOf, every, climbsIn, treeRefusal}
-use Rattle.column.specs.Columns.{fresh, stateRefusal, withRegisters}
+use Rattle.column.specs.Columns.{fresh, stateRefusal}
 use Rattle.column.specs.Steps.{accepted}
 use Rattle.column.specs.Pages.{page, readRefusal, readByte, writeRefusal, written, write, lineUp}
 use Rattle.column.specs.declared.tree.Tree.{Tree}

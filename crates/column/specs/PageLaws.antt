@@ -2,20 +2,19 @@
 use Prim.Native.Nat.{ℕ, _+_, _^_, _≤_, _<_}
 use mathlib.Core.Path.{_≡_, refl, sym, ap, ap₂, _∙_}
 use mathlib.Core.Bool.{Bool, true, false, not, _&&_, _||_, cond, or-false, true≢false}
-use mathlib.Core.List.{[], _∷_}
 use native.Mathlib.Omega.{arith}
 use lib.Bits.{bitAnd, and-le-l}
 use lib.Dec.{eqb, ltb}
-use borrow.Author.Tests.{eq-eqb, ne-eqb, eqb-true, eqb-false, not-true, not-false}
+use borrow.Author.Tests.{eq-eqb, ne-eqb, eqb-true, eqb-false, not-true}
 use Rattle.column.specs.Cases.{and-left, and-right, none-and}
-use Rattle.column.specs.Refusals.{first, earlier}
 use Rattle.column.specs.RefusalLaws.{passed, earlier-none}
 use Rattle.column.specs.Sets.{has, insert, minus, lowestIn}
-use Rattle.column.specs.SetLaws.{has-and, has-insert, has-minus, lowest-member, member-pos}
+use Rattle.column.specs.SetLaws.{has-and, has-insert, has-minus, member-pos}
+use Rattle.column.specs.LowestLaws.{lowest-member}
 use Rattle.column.specs.Columns.{standing, recordReceived, haltNoted, tookOver, pendingWith, withSets, withRegisters, plain}
 use Rattle.column.specs.StateLaws.{standing-sound}
 use Rattle.column.specs.Trees.{choose}
-use Rattle.column.specs.Steps.{Result, accepted, refused, unless, orderConditions, orderRefusal, orderEffect, order, sendRefusal, sendEffect, send, packetRefusal, takeConditions, takeRefusal, acknowledgementEffect, receiveEffect, messageEffect, takeEffect, take}
+use Rattle.column.specs.Steps.{Result, accepted, refused, unless, orderRefusal, orderEffect, order, sendRefusal, sendEffect, send, takeRefusal, acknowledgementEffect, receiveEffect, messageEffect, takeEffect, take}
 use Rattle.column.specs.Steps.{ackRefusal, ackEffect, ack, allConditions, allRefusal, allEffect, all, noteConditions, noteRefusal, noteEffect, note, haltRefusal, haltEffect, halt}
 use Rattle.column.specs.Pages.{maskOffset, clearOffset, written, lineUp}
 use Rattle.column.specs.declared.tree.Tree.{Tree}

@@ -1,9 +1,8 @@
 -- No step of a column goes by its mask or by what is pending: with others it is refused by the same number, puts the same packets, and leaves
 -- the same column but for these two. Assumes nothing.
 use Prim.Native.Nat.{ℕ}
-use mathlib.Core.Path.{_≡_, refl, sym, ap, _∙_}
+use mathlib.Core.Path.{_≡_, refl}
 use mathlib.Core.Bool.{Bool, true, false, cond}
-use mathlib.Core.List.{List, [], _∷_}
 use lib.Dec.{eqb, ltb}
 use Rattle.column.specs.Sets.{has}
 use Rattle.column.specs.Trees.{choose}

@@ -1,4 +1,4 @@
--- Laws of sets of columns, over any width: who is a member after each operation, which member is the lowest, how many there are.
+-- Laws of sets of columns, over any width: who is a member after each operation, and how many there are.
 -- Assumes nothing.
 use Prim.Native.Nat.{ℕ, zero, suc, _+_, _/_, _%_, _^_, _≤_, _<_, max}
 use mathlib.Core.Path.{_≡_, refl, sym, ap, ap₂, _∙_}
@@ -8,11 +8,11 @@ use native.Mathlib.Nat.{pow-suc, div-lt-iff-lt-mul, div-eq-of-lt, le-refl, lt-of
 use native.Mathlib.Omega.{arith}
 use lib.Dec.{eqb}
 use lib.Bits.{bitAnd, bitOr, and-le-l, and-le-r, bitXor, differ, or-lt, xor-lt, or-zero-l, or-zero-r, xor-zero-r, or-add-and, or-shr}
-use lib.Count.{trailingZeros, under, ones, ones-step}
+use lib.Count.{ones, ones-step}
 use lib.Pow.{pow-pos, pow-lt, pow-mono}
 use borrow.Author.Tests.{eq-eqb, ne-eqb, eqb-true}
 use Rattle.column.specs.Cases.{compare-cases, equal-cases}
-use Rattle.column.specs.Sets.{digit, has, single, join, insert, without, minus, lowestIn, within, selected}
+use Rattle.column.specs.Sets.{digit, has, single, join, insert, without, minus, within, selected}
 use Rattle.column.specs.Digits.{digit-lt, digit-cases, digit-zero, digit-suc, digit-none, digit-above, digit-single, digit-other, digit-and, digit-or, digit-xor, or-half, xor-half, same-digits, has-true, has-false, true-has, false-has}
 
 -- ---- who is a member
@@ -141,6 +141,10 @@ member-lt n m i h e = go (compare-cases i n)
     go (inr (inl p)) = absurd (omega (arith, true-has m i e, digit-above n m i h (omega arith)))
     go (inr (inr p)) = absurd (omega (arith, true-has m i e, digit-above n m i h (omega arith)))
 
+pub member-pos : (m i : ℕ) → has m i ≡ true → 0 < m
+member-pos zero i e = absurd (omega (arith, true-has 0 i e, digit-none i))
+member-pos (suc m) i e = omega arith
+
 -- the same members, the same set
 pub same-members : (k a b : ℕ) → a < 2 ^ k → b < 2 ^ k → ((i : ℕ) → i < k → has a i ≡ has b i) → a ≡ b
 same-members k a b ha hb e = same-digits k a b ha hb (λ i l. go i l (digit-cases b i))
@@ -213,59 +217,6 @@ and-insert k a m i h = go (has a i) refl
         same-members k _ _ (lt (insert m i)) (insert-lt k (bitAnd a m) i (lt m) (member-lt k a i h p))
         (λ j l. shared true p j ∙ sym (has-insert (bitAnd a m) i j))
     go false p = same-members k _ _ (lt (insert m i)) (lt m) (λ j l. shared false p j ∙ or-false (has (bitAnd a m) j))
-
--- ---- the lowest member: it is one, and none is lower
-
-lowest-digits : (k m j : ℕ) → j < lowestIn k m → digit m j ≡ 0
-unfolding trailingZeros
-lowest-digits zero m j h = absurd (omega arith)
-lowest-digits (suc k) m j h = go (λ j l. lowest-digits k (m / 2) j l) (m % 2) refl j h
-  where
-    go : ((j : ℕ) → j < trailingZeros k (m / 2) → digit (m / 2) j ≡ 0)
-        → (d : ℕ) → m % 2 ≡ d → (j : ℕ) → j < under d (trailingZeros k (m / 2)) → digit m j ≡ 0
-    go ih zero e zero h = digit-zero m ∙ e
-    go ih zero e (suc j) h = digit-suc m j ∙ ih j (omega arith)
-    go ih (suc d) e j h = absurd (omega arith)
-
-pub lowest-none : (k m j : ℕ) → j < lowestIn k m → has m j ≡ false
-lowest-none k m j h = has-false m j (lowest-digits k m j h)
-
-lowest-digit : (k m : ℕ) → lowestIn k m < k → digit m (lowestIn k m) ≡ 1
-unfolding trailingZeros
-lowest-digit zero m h = absurd (omega arith)
-lowest-digit (suc k) m h = go (λ l. lowest-digit k (m / 2) l) (m % 2) refl h
-  where
-    go : (trailingZeros k (m / 2) < k → digit (m / 2) (trailingZeros k (m / 2)) ≡ 1)
-        → (d : ℕ) → m % 2 ≡ d → under d (trailingZeros k (m / 2)) < suc k → digit m (under d (trailingZeros k (m / 2))) ≡ 1
-    go ih zero e h = digit-suc m (trailingZeros k (m / 2)) ∙ ih (omega arith)
-    go ih (suc d) e h = digit-zero m ∙ omega arith
-
-pub lowest-lt : (k m : ℕ) → m < 2 ^ k → 0 < m → lowestIn k m < k
-unfolding trailingZeros
-lowest-lt zero m h p = absurd (omega arith)
-lowest-lt (suc k) m h p = go (λ a b. lowest-lt k (m / 2) a b) (m % 2) refl
-  where
-    go : (m / 2 < 2 ^ k → 0 < m / 2 → trailingZeros k (m / 2) < k)
-        → (d : ℕ) → m % 2 ≡ d → under d (trailingZeros k (m / 2)) < suc k
-    go ih zero e =
-        let l : trailingZeros k (m / 2) < k = ih (omega (arith, pow-suc 2 k)) (omega arith) in
-        omega arith
-    go ih (suc d) e = omega arith
-
-pub lowest-member : (k m : ℕ) → m < 2 ^ k → 0 < m → has m (lowestIn k m) ≡ true
-lowest-member k m h p = has-true m (lowestIn k m) (lowest-digit k m (lowest-lt k m h p))
-
-pub lowest-le : (k m j : ℕ) → has m j ≡ true → lowestIn k m ≤ j
-lowest-le k m j e = go (compare-cases (lowestIn k m) j)
-  where
-    go : (lowestIn k m < j) ⊎ ((lowestIn k m ≡ j) ⊎ (j < lowestIn k m)) → lowestIn k m ≤ j
-    go (inl p) = omega arith
-    go (inr (inl p)) = omega arith
-    go (inr (inr p)) = absurd (omega (arith, true-has m j e, false-has m j (lowest-none k m j p)))
-
-pub member-pos : (m i : ℕ) → has m i ≡ true → 0 < m
-member-pos zero i e = absurd (omega (arith, true-has 0 i e, digit-none i))
-member-pos (suc m) i e = omega arith
 
 -- ---- how many members: striking one out leaves one less
 

@@ -1,7 +1,7 @@
 -- The steps of a lone column, after document 01, "Steps" and "Refused, and by which number".
 -- A step is its refusal, the first condition that holds, and its effect where there is none.
 use Prim.Native.Nat.{ℕ, _+_}
-use mathlib.Core.Bool.{Bool, true, false, not, _&&_, _||_, cond}
+use mathlib.Core.Bool.{Bool, true, false, not, _&&_, cond}
 use mathlib.Core.List.{List, [], _∷_}
 use lib.Dec.{eqb, leb, ltb}
 use Rattle.column.specs.Refusals.{first, earlier}
@@ -13,9 +13,9 @@ use Rattle.column.specs.declared.tree.Tree.{Tree}
 use Rattle.column.specs.declared.state.Column.{Column}
 use Rattle.column.specs.declared.packet.Packet.{Packet}
 use Rattle.column.specs.declared.packet.Packet.the-variants.{Message, Acknowledgement}
-use Rattle.column.specs.declared.step.Answer.{Answer}
-use Rattle.column.specs.declared.step.Answer.the-variants.{Done, Put, Left, Refused}
-use Rattle.column.specs.declared.step.Outcome.{Outcome}
+use Rattle.column.specs.declared.outcome.Answer.{Answer}
+use Rattle.column.specs.declared.outcome.Answer.the-variants.{Done, Put, Left, Refused}
+use Rattle.column.specs.declared.outcome.Outcome.{Outcome}
 
 -- ---- what a step gives
 

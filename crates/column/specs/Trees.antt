@@ -8,8 +8,8 @@ use lib.ListN.{getD}
 use Rattle.column.specs.Refusals.{first, earlier, Given, given, refused, givenUnless}
 use Rattle.column.specs.Sets.{has, single, join, insert, without, lowest, within, whole, selected}
 use Rattle.column.specs.declared.tree.Tree.{Tree}
-use Rattle.column.specs.declared.tree.Members.{Members}
-use Rattle.column.specs.declared.tree.Members.the-variants.{Set, Refused}
+use Rattle.column.specs.declared.topology.Members.{Members}
+use Rattle.column.specs.declared.topology.Members.the-variants.{Set, Refused}
 
 -- k numbers from n on
 abbrev pub risingFrom : ℕ → ℕ → List ℕ

@@ -2,6 +2,9 @@
 use crate::choice::choose;
 use crate::members::has;
 use crate::members::lowest;
+use crate::outcome::Answer;
+use crate::outcome::Outcome;
+use crate::outcome::done;
 use crate::packet::Number;
 use crate::packet::Packet;
 use crate::packet::sender;
@@ -12,8 +15,6 @@ use crate::sets::insert;
 use crate::sets::single;
 use crate::sets::without;
 use crate::state::Column;
-use crate::step::Answer;
-use crate::step::Outcome;
 use crate::traversal::children_of;
 use crate::tree::Tree;
 ghost use mathlib.Core.Bool.{false};
@@ -24,25 +25,7 @@ ghost use Rattle.column.specs.Packets.{sender};
 ghost use Rattle.column.specs.declared.packet.Packet.the-variants.{Acknowledgement};
 ghost use Rattle.column.specs.Trees.{choose};
 ghost use Rattle.column.specs.Columns.{highest};
-ghost use Rattle.column.specs.Steps.{meant, accepted, refused, orderEffect, sendEffect, acknowledgementEffect, acknowledgeLowest, messageEffect, takeEffect, ackEffect, allEffect, noteEffect, haltEffect};
-
-pub fn done(c: Column) -> Outcome
-    ensures { λ r. ⌜ meant r ≡ accepted c [] false ⌝ }
-{
-    Outcome {
-        column: c,
-        answer: Answer::Done,
-    }
-}
-
-pub fn refused(c: Column, n: u8) -> Outcome
-    ensures { λ r. ⌜ meant r ≡ refused n c ⌝ }
-{
-    Outcome {
-        column: c,
-        answer: Answer::Refused(n),
-    }
-}
+ghost use Rattle.column.specs.Steps.{meant, accepted, orderEffect, sendEffect, acknowledgementEffect, acknowledgeLowest, messageEffect, takeEffect, ackEffect, allEffect, noteEffect, haltEffect};
 
 fn putting(c: Column, p: Packet) -> Outcome
     ensures { λ r. ⌜ meant r ≡ accepted c (p ∷ []) false ⌝ }
@@ -62,6 +45,7 @@ fn acknowledgement(i: usize, k: usize, number: Number) -> Packet
     Packet::Acknowledgement { from, to, number }
 }
 
+// The root holds the order under the next number, and is to send it to its children.
 pub fn order_effect(t: Tree, i: usize, mut c: Column, doors: u64) -> Outcome
     requires { ⌜ (t .columns ≤ 16) × (c .number < highest) ⌝ }
     ensures { λ r. ⌜ meant r ≡ orderEffect t i c doors ⌝ }
@@ -73,6 +57,8 @@ pub fn order_effect(t: Tree, i: usize, mut c: Column, doors: u64) -> Outcome
     done(c)
 }
 
+// The earliest that the column is to send to is served: passed over where it is the column itself, its children to be sent to where it is
+// noted, else sent a message and awaited.
 pub fn send_effect(t: Tree, i: usize, mut c: Column) -> Outcome
     requires { ⌜ (t .columns ≤ 16) × ((i < 16) × (choose t (c .send) < 16)) ⌝ }
     ensures { λ r. ⌜ meant r ≡ sendEffect t i c ⌝ }
@@ -158,6 +144,7 @@ fn message_effect(
     done(c)
 }
 
+// What a packet makes of the column that it is for.
 pub fn take_effect(t: Tree, i: usize, c: Column, p: Packet) -> Outcome
     requires { ⌜ (t .columns ≤ 16) × ((i < 16) × (sender p < 16)) ⌝ }
     ensures { λ r. ⌜ meant r ≡ takeEffect t i c p ⌝ }
@@ -169,6 +156,7 @@ pub fn take_effect(t: Tree, i: usize, c: Column, p: Packet) -> Outcome
     }
 }
 
+// The lowest owed is sent its acknowledgement, and owed no longer.
 pub fn ack_effect(i: usize, c: Column) -> Outcome
     requires { ⌜ (i < 16) × (0 < c .owed) ⌝ }
     ensures { λ r. ⌜ meant r ≡ ackEffect i c ⌝ }
@@ -176,6 +164,7 @@ pub fn ack_effect(i: usize, c: Column) -> Outcome
     acknowledge_lowest(i, c, false)
 }
 
+// The column takes over: it is to send to the root, and its goal is the whole bank.
 pub fn all_effect(t: Tree, mut c: Column) -> Outcome
     requires { ⌜ t .root < 16 ⌝ }
     ensures { λ r. ⌜ meant r ≡ allEffect t c ⌝ }
@@ -186,6 +175,7 @@ pub fn all_effect(t: Tree, mut c: Column) -> Outcome
     done(c)
 }
 
+// Column j is noted; where it was awaited, its children are to be sent to in its place.
 pub fn note_effect(t: Tree, mut c: Column, j: usize) -> Outcome
     requires { ⌜ (t .columns ≤ 16) × (j < 16) ⌝ }
     ensures { λ r. ⌜ meant r ≡ noteEffect t c j ⌝ }
@@ -199,6 +189,7 @@ pub fn note_effect(t: Tree, mut c: Column, j: usize) -> Outcome
     done(c)
 }
 
+// The column stops, and keeps all that it holds.
 pub fn halt_effect(mut c: Column) -> Outcome
     ensures { λ r. ⌜ meant r ≡ haltEffect c ⌝ }
 {

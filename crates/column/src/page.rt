@@ -1,11 +1,11 @@
 // The register page of a column, eight bytes that a host board reads by offset: the column's number; whether it runs and its goal; how many
 // columns it is to send to, awaits and owes; the interrupt mask; what is pending; 0. The mask may be written, and what is pending cleared.
-use crate::effect::done;
-use crate::effect::refused;
+use crate::outcome::Outcome;
+use crate::outcome::done;
+use crate::outcome::refused;
 use crate::precedence::refuse_if;
 use crate::state::Column;
 use crate::state::standing;
-use crate::step::Outcome;
 use crate::tree::Tree;
 ghost use mathlib.Core.Bool.{cond};
 ghost use mathlib.Core.Path.{_≡_};

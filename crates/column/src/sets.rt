@@ -3,6 +3,7 @@ ghost use mathlib.Core.Path.{_≡_};
 ghost use Prim.Native.Nat.{_<_, _≤_};
 ghost use Rattle.column.specs.Sets.{single, insert, without, whole};
 
+// Column i alone.
 pub fn single(i: usize) -> u16
     requires { ⌜ i < 16 ⌝ }
     ensures { λ r. ⌜ r ≡ single i ⌝ }
@@ -10,6 +11,7 @@ pub fn single(i: usize) -> u16
     1u16 << i
 }
 
+// The set with column i.
 pub fn insert(m: u16, i: usize) -> u16
     requires { ⌜ i < 16 ⌝ }
     ensures { λ r. ⌜ r ≡ insert m i ⌝ }

@@ -4,12 +4,11 @@ use crate::members::within;
 use crate::packet::Number;
 use crate::precedence::earlier;
 use crate::precedence::refuse_if;
-use crate::tested;
+use crate::topology::column_refusal;
+use crate::topology::tree_refusal;
 use crate::tree::Tree;
-use crate::tree::column_refusal;
-use crate::tree::tree_refusal;
 ghost use mathlib.Core.Path.{_≡_};
-ghost use Rattle.column.specs.Columns.{freshMeant, freshGiven, stateRefusal, standing};
+ghost use Rattle.column.specs.Columns.{freshUnder, freshMeant, freshGiven, stateRefusal, standing};
 
 // Widest fields first, so that a column is 32 bytes.
 pub struct Column {
@@ -34,6 +33,25 @@ pub enum FreshColumn {
     Refused(u8),
 }
 
+// Column i as it begins in a bank with that root, for a caller that has tested the tree.
+pub fn fresh_under(root: u8, i: usize) -> Column
+    ensures { λ r. ⌜ r ≡ freshUnder root i ⌝ }
+{
+    Column {
+        running: true,
+        number: 0,
+        doors: 0,
+        send: 0,
+        awaited: 0,
+        owed: 0,
+        noted: 0,
+        whole: i == root as usize,
+        sender: root,
+        mask: 0,
+        pending: 0,
+    }
+}
+
 // Column i as it begins; or 2, 3, 4.
 pub fn fresh(t: Tree, i: usize) -> FreshColumn
     ensures { λ r. ⌜ freshMeant r ≡ freshGiven t i ⌝ }
@@ -43,7 +61,7 @@ pub fn fresh(t: Tree, i: usize) -> FreshColumn
         return FreshColumn::Refused(n);
     }
     let root = t.root as u8;
-    FreshColumn::Is(tested::fresh(root, i))
+    FreshColumn::Is(fresh_under(root, i))
 }
 
 // 4 where row 4 refuses the state of column i, else 0. The tree is not tested.

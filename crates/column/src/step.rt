@@ -1,6 +1,7 @@
 // The steps of a lone column: refused and unchanged, or its effect.
 use crate::effect::halt_effect;
-use crate::effect::refused;
+use crate::outcome::Outcome;
+use crate::outcome::refused;
 use crate::packet::Packet;
 use crate::precedence::earlier;
 use crate::refusal::halt_refusal;
@@ -11,22 +12,6 @@ use crate::tested;
 use crate::tree::Tree;
 ghost use mathlib.Core.Path.{_≡_};
 ghost use Rattle.column.specs.Steps.{meant, order, send, take, ack, all, note, halt};
-
-pub enum Answer {
-    // Accepted, and no packet is to be put.
-    Done,
-    // Accepted, and this packet is to be put.
-    Put(Packet),
-    // A take that is accepted and leaves its packet in its place; this packet is to be put.
-    Left(Packet),
-    Refused(u8),
-}
-
-// The column after a step, or as it was where the step is refused.
-pub struct Outcome {
-    pub column: Column,
-    pub answer: Answer,
-}
 
 // The root with the next number, these doors, and its children to send to.
 pub fn order(t: Tree, i: usize, c: Column, doors: u64) -> Outcome

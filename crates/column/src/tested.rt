@@ -1,14 +1,14 @@
-// A fresh column and the steps for a caller that has tested the tree, the column and a packet by rows 2 to 4, as a bank has: nothing of that
-// is tested again.
+// The steps for a caller that has tested the tree, the column and a packet by rows 2 to 4, as a bank has: nothing of that is tested again.
 // Handed in what does not stand, a step still answers, and reaches outside nothing.
 use crate::choice::choose;
 use crate::effect::ack_effect;
 use crate::effect::all_effect;
 use crate::effect::note_effect;
 use crate::effect::order_effect;
-use crate::effect::refused;
 use crate::effect::send_effect;
 use crate::effect::take_effect;
+use crate::outcome::Outcome;
+use crate::outcome::refused;
 use crate::packet::Packet;
 use crate::packet::sender;
 use crate::precedence::refuse_if;
@@ -19,31 +19,10 @@ use crate::refusal::order_conditions;
 use crate::refusal::send_conditions;
 use crate::refusal::take_conditions;
 use crate::state::Column;
-use crate::step::Outcome;
 use crate::tree::Tree;
 ghost use mathlib.Core.Path.{_≡_};
-ghost use Rattle.column.specs.Columns.{freshUnder};
 ghost use Rattle.column.specs.Steps.{meant};
 ghost use Rattle.column.specs.Tested.{bounded, orderTested, sendTested, takeTested, ackTested, allTested, noteTested};
-
-// Column i as it begins in a bank with that root.
-pub fn fresh(root: u8, i: usize) -> Column
-    ensures { λ r. ⌜ r ≡ freshUnder root i ⌝ }
-{
-    Column {
-        running: true,
-        number: 0,
-        doors: 0,
-        send: 0,
-        awaited: 0,
-        owed: 0,
-        noted: 0,
-        whole: i == root as usize,
-        sender: root,
-        mask: 0,
-        pending: 0,
-    }
-}
 
 fn bounded(t: Tree, i: usize, k: usize) -> bool
     ensures { λ r. ⌜ r ≡ bounded t i k ⌝ }

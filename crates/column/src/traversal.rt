@@ -56,6 +56,7 @@ pub fn climbs_in(up: &[usize; 16], n: usize, root: usize, c: usize) -> bool
     false
 }
 
+// Whether the climb from every column ends at the root.
 pub fn climbs_end(up: &[usize; 16], n: usize, root: usize) -> bool
     requires { ⌜ (n ≤ 16) × ParentsBelow n (now up) ⌝ }
     ensures { λ r. ⌜ r ≡ every (climbsIn (treeOf n root (now (up .entry))) n) n ⌝ }
@@ -70,6 +71,7 @@ pub fn climbs_end(up: &[usize; 16], n: usize, root: usize) -> bool
     true
 }
 
+// The children of a column, of a tree that may be any.
 pub fn children_of(t: Tree, c: usize) -> u16
     requires { ⌜ t .columns ≤ 16 ⌝ }
     ensures { λ r. ⌜ r ≡ children t c ⌝ }

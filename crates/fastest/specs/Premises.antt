@@ -5,7 +5,7 @@ use mathlib.Core.Logic.{_⊎_, inl, inr}
 use native.Mathlib.Omega.{arith}
 use lib.ListN.{replicate}
 use Rattle.column.specs.Cases.{compare-cases, equal-cases}
-use Rattle.column.specs.Trees.{every, climbsIn, treeOf, parent, IsTree, treeRefusal}
+use Rattle.column.specs.Trees.{every, climbsIn, treeOf, IsTree, treeRefusal}
 use Rattle.column.specs.TreeLaws.{check-exact}
 use Rattle.column.specs.declared.tree.Tree.{Tree}
 use Rattle.fastest.specs.Schedules.{arrival, Keeps, CompleteBy}

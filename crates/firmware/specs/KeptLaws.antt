@@ -11,7 +11,8 @@ use borrow.Author.Tests.{eq-eqb, eqb-true, eqb-false, leb-false}
 use Rattle.column.specs.RefusalLaws.{passed, earlier-none}
 use Rattle.column.specs.Refusals.{given, first, earlier}
 use Rattle.column.specs.Sets.{has, without, minus, lowest}
-use Rattle.column.specs.SetLaws.{single-lt, join-lt, insert-lt, without-lt, lowest-lt, selected-lt}
+use Rattle.column.specs.SetLaws.{single-lt, join-lt, insert-lt, without-lt, selected-lt}
+use Rattle.column.specs.LowestLaws.{lowest-lt}
 use Rattle.column.specs.Trees.{isChild, children, choose}
 use Rattle.column.specs.TreeLaws.{tree-root}
 use Rattle.column.specs.Columns.{highest, standing, withSets, withRegisters}

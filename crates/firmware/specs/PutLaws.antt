@@ -12,7 +12,7 @@ use borrow.Author.Tests.{eqb-true, eqb-false, ne-eqb, lt-ltb, not-false}
 use Rattle.column.specs.RefusalLaws.{passed, earlier-none}
 use Rattle.column.specs.Refusals.{first, earlier}
 use Rattle.column.specs.Sets.{has, lowest}
-use Rattle.column.specs.SetLaws.{lowest-member}
+use Rattle.column.specs.LowestLaws.{lowest-member}
 use Rattle.column.specs.Trees.{choose}
 use Rattle.column.specs.ChoiceLaws.{choose-lt}
 use Rattle.column.specs.Columns.{standing}

@@ -14,7 +14,7 @@ use column::page::line_up;
 use column::page::read;
 use column::state::FreshColumn;
 use column::state::fresh;
-use column::tree::tree_refusal;
+use column::topology::tree_refusal;
 ghost use mathlib.Core.Path.{_≡_};
 ghost use Rattle.firmware.specs.Calls.{treeCall, filled, freshCall, listCall, byteCall, lineCall};
 

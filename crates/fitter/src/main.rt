@@ -1,7 +1,7 @@
 // Compares the journals in the two files that its arguments name.
 use journals::comparison::Compared;
-use journals::comparison::JOURNAL;
 use journals::comparison::compare;
+use journals::line::JOURNAL;
 use libc::STDOUT_FILENO;
 ghost use Rattle.io.specs.Counts.{Counts};
 

@@ -9,7 +9,7 @@ use crate::print::print_step;
 use crate::same::rewritten;
 use crate::same::same;
 use crate::state::State;
-use bank::step::Step;
+use bank::bank::Step;
 use bank::step::perform;
 
 // The step that halts the columns of a set.

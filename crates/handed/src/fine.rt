@@ -18,7 +18,7 @@ use crate::state::busy;
 use crate::state::member;
 use crate::state::root;
 use crate::state::with_column;
-use bank::step::Step;
+use bank::bank::Step;
 
 // Every place past the three columns and every word past the first packet's holds what row 4 would meet in a used one.
 pub fn with_junk(s: State) -> State {

@@ -15,7 +15,7 @@ use crate::state::quiet;
 use crate::state::root;
 use crate::state::with_column;
 use crate::state::with_words;
-use bank::step::Step;
+use bank::bank::Step;
 use column::state::Column;
 
 // Column i is c, beside idle ones.

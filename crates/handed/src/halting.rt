@@ -23,7 +23,7 @@ use crate::state::root;
 use crate::state::with_column;
 use crate::state::with_count;
 use crate::state::with_words;
-use bank::step::Step;
+use bank::bank::Step;
 
 // All three run; six packets, told apart by their numbers, and words that mean nothing behind them.
 fn six_packets() -> State {

@@ -18,7 +18,7 @@ use crate::state::root;
 use crate::state::with_column;
 use crate::state::with_count;
 use crate::state::with_words;
-use bank::step::Step;
+use bank::bank::Step;
 use column::state::Column;
 
 // Column i is c but for a fourth column in one of its sets.

@@ -17,7 +17,7 @@ use crate::state::quiet;
 use crate::state::root;
 use crate::state::with_column;
 use crate::state::with_tree;
-use bank::step::Step;
+use bank::bank::Step;
 use column::tree::ASCENDING;
 use column::tree::Tree;
 

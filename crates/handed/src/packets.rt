@@ -8,7 +8,7 @@ use crate::state::busy;
 use crate::state::filled;
 use crate::state::message;
 use crate::state::with_words;
-use bank::step::Step;
+use bank::bank::Step;
 
 const MOST: usize = 18446744073709551615;
 

@@ -2,7 +2,7 @@
 use crate::state::NUMBERS;
 use crate::state::State;
 use bank::bank::Answer;
-use bank::step::Step;
+use bank::bank::Step;
 use column::state::Column;
 use libc::STDOUT_FILENO;
 

@@ -22,7 +22,7 @@ use crate::state::root;
 use crate::state::with_column;
 use crate::state::with_count;
 use crate::state::with_tree;
-use bank::step::Step;
+use bank::bank::Step;
 
 // At rest, with column 2 halted and noted.
 fn resting() -> State {

@@ -35,6 +35,7 @@ pub const TREE: Tree = Tree {
     watch: false,
 };
 
+// A running column, not the root, with these sets.
 pub fn member(send: u16, awaited: u16, owed: u16, noted: u16) -> Column {
     Column {
         running: true,
@@ -51,18 +52,21 @@ pub fn member(send: u16, awaited: u16, owed: u16, noted: u16) -> Column {
     }
 }
 
+// The same as the root holds them: its goal is the whole bank.
 pub fn root(send: u16, awaited: u16, owed: u16, noted: u16) -> Column {
     let mut c = member(send, awaited, owed, noted);
     c.whole = true;
     c
 }
 
+// The column, halted.
 pub fn halted(c: Column) -> Column {
     let mut d = c;
     d.running = false;
     d
 }
 
+// The column with another number of its record.
 pub fn numbered(c: Column, number: Number) -> Column {
     let mut d = c;
     d.number = number;
@@ -77,10 +81,12 @@ fn placed(kind: u64, from: u64, to: u64, number: u64) -> u64 {
     ((kind % 2 * 256 + from % 256) * 256 + to % 256) * NUMBERS + number % NUMBERS
 }
 
+// The head of a message.
 pub fn message(from: u64, to: u64, number: u64) -> u64 {
     placed(0, from, to, number)
 }
 
+// The head of an acknowledgement.
 pub fn acknowledgement(from: u64, to: u64, number: u64) -> u64 {
     placed(1, from, to, number)
 }
@@ -102,6 +108,7 @@ pub fn quiet() -> State {
     }
 }
 
+// The state with this column in place i, if there is such a place.
 pub fn with_column(s: State, i: usize, c: Column) -> State {
     let mut r = s;
     let mut b = s.bank;
@@ -112,6 +119,7 @@ pub fn with_column(s: State, i: usize, c: Column) -> State {
     r
 }
 
+// The state with another count of packets.
 pub fn with_count(s: State, count: usize) -> State {
     let mut r = s;
     let mut b = s.bank;
@@ -120,6 +128,7 @@ pub fn with_count(s: State, count: usize) -> State {
     r
 }
 
+// The state with another tree.
 pub fn with_tree(s: State, t: Tree) -> State {
     let mut r = s;
     let mut b = s.bank;
@@ -128,6 +137,7 @@ pub fn with_tree(s: State, t: Tree) -> State {
     r
 }
 
+// The state with a packet of these words at a place, if there is such a place.
 pub fn with_words(s: State, place: usize, head: u64, doors: u64) -> State {
     let mut r = s;
     if place < 512 {

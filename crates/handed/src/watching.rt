@@ -19,7 +19,7 @@ use crate::state::with_column;
 use crate::state::with_count;
 use crate::state::with_tree;
 use crate::state::with_words;
-use bank::step::Step;
+use bank::bank::Step;
 use column::packet::HIGHEST;
 use column::state::Column;
 

@@ -7,10 +7,10 @@ use mathlib.Core.List.{List}
 use native.Mathlib.Omega.{arith}
 use native.Mathlib.Numerals.{add-one}
 use lib.Dec.{eqb}
-use lib.ListN.{length, getD, set}
+use lib.ListN.{length, getD, set, length-set}
 use lib.Seq.{getD-set-same, getD-set-other}
 use borrow.Author.Tests.{eq-eqb, ne-eqb, eqb-true, eqb-false}
-use Rattle.journals.specs.Chains.{among, lastWith, Indexed, distinct}
+use Rattle.journals.specs.Chains.{buckets, among, lastWith, Indexed, distinct}
 
 truth : (b : Bool) → (b ≡ true) ⊎ (b ≡ false)
 truth true = inl refl
@@ -23,21 +23,21 @@ module _ (keys : List ℕ) where
   pub last-le : (b n : ℕ) → lastWith keys b n ≤ n
   unfolding lastWith
   last-le b zero = omega arith
-  last-le b (suc n) = go (eqb (getD keys n 0 % 4093) b) (last-le b n)
+  last-le b (suc n) = go (eqb (getD keys n 0 % buckets) b) (last-le b n)
     where
       go : (x : Bool) → lastWith keys b n ≤ n → cond x (suc n) (lastWith keys b n) ≤ suc n
       go true h = omega arith
       go false h = omega arith
 
   -- the last place is in the bucket
-  pub last-in : (b n i : ℕ) → lastWith keys b n ≡ suc i → getD keys i 0 % 4093 ≡ b
+  pub last-in : (b n i : ℕ) → lastWith keys b n ≡ suc i → getD keys i 0 % buckets ≡ b
   unfolding lastWith
   last-in b zero i e = absurd (omega (arith, e))
-  last-in b (suc n) i e = go (eqb (getD keys n 0 % 4093) b) refl e (last-in b n i)
+  last-in b (suc n) i e = go (eqb (getD keys n 0 % buckets) b) refl e (last-in b n i)
     where
-      go : (x : Bool) → eqb (getD keys n 0 % 4093) b ≡ x → cond x (suc n) (lastWith keys b n) ≡ suc i
-          → (lastWith keys b n ≡ suc i → getD keys i 0 % 4093 ≡ b) → getD keys i 0 % 4093 ≡ b
-      go true h e f = let z : n ≡ i = omega (arith, e) in ap (λ (k : ℕ). getD keys k 0 % 4093) (sym z) ∙ eqb-true (getD keys n 0 % 4093) b h
+      go : (x : Bool) → eqb (getD keys n 0 % buckets) b ≡ x → cond x (suc n) (lastWith keys b n) ≡ suc i
+          → (lastWith keys b n ≡ suc i → getD keys i 0 % buckets ≡ b) → getD keys i 0 % buckets ≡ b
+      go true h e f = let z : n ≡ i = omega (arith, e) in ap (λ (k : ℕ). getD keys k 0 % buckets) (sym z) ∙ eqb-true (getD keys n 0 % buckets) b h
       go false h e f = f e
 
   module _ (key : ℕ) where
@@ -51,38 +51,46 @@ module _ (keys : List ℕ) where
     among-here i e = ap (λ (b : Bool). b || among keys i key) (eq-eqb (getD keys i 0) key e)
 
     -- after the last place of its bucket the word does not stand
-    pub among-last : (n : ℕ) → among keys n key ≡ among keys (lastWith keys (key % 4093) n) key
+    pub among-last : (n : ℕ) → among keys n key ≡ among keys (lastWith keys (key % buckets) n) key
     unfolding lastWith
     among-last zero = refl
-    among-last (suc n) = go (eqb (getD keys n 0 % 4093) (key % 4093)) refl (among-last n)
+    among-last (suc n) = go (eqb (getD keys n 0 % buckets) (key % buckets)) refl (among-last n)
       where
-        go : (x : Bool) → eqb (getD keys n 0 % 4093) (key % 4093) ≡ x
-            → among keys n key ≡ among keys (lastWith keys (key % 4093) n) key
-            → among keys (suc n) key ≡ among keys (cond x (suc n) (lastWith keys (key % 4093) n)) key
+        go : (x : Bool) → eqb (getD keys n 0 % buckets) (key % buckets) ≡ x
+            → among keys n key ≡ among keys (lastWith keys (key % buckets) n) key
+            → among keys (suc n) key ≡ among keys (cond x (suc n) (lastWith keys (key % buckets) n)) key
         go true h r = refl
-        go false h r = among-other n (λ e. eqb-false (getD keys n 0 % 4093) (key % 4093) h (ap (λ (k : ℕ). k % 4093) e)) ∙ r
+        go false h r = among-other n (λ e. eqb-false (getD keys n 0 % buckets) (key % buckets) h (ap (λ (k : ℕ). k % buckets) e)) ∙ r
 
   -- ---- one more word
 
-  pub indexed-more : (n : ℕ) (heads next : List ℕ) → n < length next → length heads ≡ 4093 → Indexed keys n heads next
-      → Indexed keys (n + 1) (set heads (getD keys n 0 % 4093) (n + 1)) (set next n (getD heads (getD keys n 0 % 4093) 0))
-  unfolding lastWith
-  indexed-more n heads next h l d = rw (add-one n) (record {
-    heads-are = λ b lt. ⊎-elim
-        (λ e. ap (λ (x : ℕ). getD (set heads bucket (suc n)) x 0) e ∙ getD-set-same heads bucket (suc n) 0 (omega (arith, l))
+  module _ (n : ℕ) (index : List ℕ) (h : buckets + n < length index) (d : Indexed keys n index) where
+    abbrev bucket : ℕ
+    bucket = getD keys n 0 % buckets
+
+    -- the link of the word, then its head
+    abbrev linked : List ℕ
+    linked = set index (buckets + n) (getD index bucket 0)
+
+    head-is : (b : ℕ) → b < buckets → getD (set linked bucket (suc n)) b 0 ≡ lastWith keys b (suc n)
+    unfolding lastWith
+    head-is b lt = ⊎-elim
+        (λ (e : b ≡ bucket). ap (λ (x : ℕ). getD (set linked bucket (suc n)) x 0) e ∙ getD-set-same linked bucket (suc n) 0 (simp length-set (omega (arith, h)))
         ∙ ap (λ (x : Bool). cond x (suc n) (lastWith keys b n)) (sym (eq-eqb bucket b (sym e))))
-        (λ e. getD-set-other heads bucket b (suc n) 0 e ∙ d .heads-are b lt
+        (λ e. getD-set-other linked bucket b (suc n) 0 e
+        ∙ getD-set-other index (buckets + n) b (getD index bucket 0) 0 (λ z. omega (arith, z, lt)) ∙ d .heads-are b lt
         ∙ ap (λ (x : Bool). cond x (suc n) (lastWith keys b n)) (sym (ne-eqb bucket b (λ z. e (sym z)))))
-        (same-or-not b bucket);
-    next-are = λ i lt. ⊎-elim
-        (λ e. ap (λ (x : ℕ). getD (set next n (getD heads bucket 0)) x 0) e ∙ getD-set-same next n (getD heads bucket 0) 0 h
-        ∙ d .heads-are bucket (omega arith) ∙ ap (λ (x : ℕ). lastWith keys (getD keys x 0 % 4093) x) (sym e))
-        (λ e. getD-set-other next n i (getD heads bucket 0) 0 e ∙ d .next-are i (omega (arith, lt, e)))
-        (same-or-not i n);
-  })
-    where
-      bucket : ℕ
-      bucket = getD keys n 0 % 4093
+        (same-or-not b bucket)
+
+    link-is : (i : ℕ) → i < suc n → getD (set linked bucket (suc n)) (buckets + i) 0 ≡ lastWith keys (getD keys i 0 % buckets) i
+    link-is i lt = getD-set-other linked bucket (buckets + i) (suc n) 0 (λ z. omega (arith, z)) ∙ ⊎-elim
+        (λ e. ap (λ (x : ℕ). getD linked (buckets + x) 0) e ∙ getD-set-same index (buckets + n) (getD index bucket 0) 0 h
+        ∙ d .heads-are bucket (omega arith) ∙ ap (λ (x : ℕ). lastWith keys (getD keys x 0 % buckets) x) (sym e))
+        (λ e. getD-set-other index (buckets + n) (buckets + i) (getD index bucket 0) 0 (λ z. omega (arith, z, e)) ∙ d .next-are i (omega (arith, lt, e)))
+        (same-or-not i n)
+
+    pub indexed-more : Indexed keys (n + 1) (set linked bucket (n + 1))
+    indexed-more = rw (add-one n) (record { heads-are = head-is; next-are = link-is })
 
   -- ---- one more word that stands there once
 

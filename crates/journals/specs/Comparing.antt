@@ -1,19 +1,19 @@
 -- Two journals that were read, compared test by test in the order of the refusals. Assumes nothing.
-use Prim.Native.Nat.{ℕ, zero, suc, _+_, _≤_, _<_}
+use Prim.Native.Nat.{ℕ, _+_, _≤_, _<_}
 use mathlib.Core.Path.{_≡_, refl, sym, ap, ap₂, _∙_}
 use mathlib.Core.Logic.{_≢_}
 use mathlib.Core.Bool.{Bool, true, false, _&&_, cond}
 use mathlib.Core.List.{List, _++_}
 use native.Mathlib.Omega.{arith}
 use lib.Dec.{eqb, leb}
-use lib.ListN.{length, getD, replicate, length-append}
+use lib.ListN.{length, replicate, length-replicate, getD-replicate, length-append}
 use borrow.Author.Tests.{eq-eqb, ne-eqb, le-leb, lt-leb, leb-true}
 use Rattle.column.specs.Refusals.{first, Given, given, refused}
 use Rattle.closing.specs.Text.{written}
 use Rattle.closing.specs.Writing.{Writes}
 use Rattle.closing.specs.Closing.{Listed, placed}
-use Rattle.journals.specs.Chains.{Indexed, Placed, lastWith, distinct}
-use Rattle.journals.specs.Journals.{Journal, journalOf, onceEach, allHeard, missingText, declined, pairConditions, pairCompared, bothCompared, compared}
+use Rattle.journals.specs.Chains.{buckets, Indexed, Placed, lastWith}
+use Rattle.journals.specs.Journals.{Journal, linesLimit, journalOf, onceEach, allHeard, missingText, declined, pairConditions, pairCompared, bothCompared, compared}
 use Rattle.journals.specs.JournalReads.{Holds}
 use Rattle.journals.specs.declared.comparison.Compared.{Compared}
 use Rattle.journals.specs.declared.comparison.Compared.the-variants as answer
@@ -23,21 +23,22 @@ abbrev pub comparedMeant : Compared → List ℕ → Listed
 comparedMeant (answer.Length n) out = record { answer = given n; buffer = out }
 comparedMeant (answer.Refused n) out = record { answer = refused n; buffer = out }
 
--- the words of a journal that was read have their index, and none stands twice
-pub record Ready (text : List ℕ) (owner from : ℕ) (keys heads next : List ℕ) : Type 0 where
-  pub holds : Holds text owner from keys
-  pub once : distinct keys (length keys) ≡ true
-  pub placed-in : Placed keys heads next
+-- the words of a journal's lines have their index
+pub record Ready (text : List ℕ) (owner : ℕ) (keys index : List ℕ) : Type 0 where
+  pub holds : Holds text owner keys
+  pub placed-in : Placed keys index
 
-zeros : (n b : ℕ) → _≡_ {A = ℕ} (getD (replicate n 0) b 0) 0
-zeros zero b = refl
-zeros (suc n) zero = refl
-zeros (suc n) (suc b) = zeros n b
+-- the places of an index
+abbrev pub indexSize : ℕ
+indexSize = buckets + linesLimit
 
 -- before the first word
-pub index-none : (keys next : List ℕ) → Indexed keys 0 (replicate 4093 0) next
+pub index-none : (keys : List ℕ) → Indexed keys 0 (replicate indexSize 0)
 unfolding lastWith
-index-none keys next = record { heads-are = λ b lt. zeros 4093 b; next-are = λ i lt. absurd (omega (arith, lt)) }
+index-none keys = record { heads-are = λ b lt. getD-replicate indexSize b 0 0 (omega (arith, lt)); next-are = λ i lt. absurd (omega (arith, lt)) }
+
+pub index-room : {n : ℕ} → n ≤ linesLimit → buckets + n ≤ length {A = ℕ} (replicate indexSize 0)
+index-room h = rw (length-replicate {A = ℕ} indexSize 0) (omega (arith, h))
 
 -- ---- the first journal that is none
 

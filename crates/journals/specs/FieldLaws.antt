@@ -1,7 +1,7 @@
 -- How the fields of a journal's line are found in its text. Assumes nothing.
 use Prim.Native.Nat.{ℕ, _+_, _-_, _≤_, _<_}
 use mathlib.Core.Path.{_≡_, refl, sym, ap, _∙_}
-use mathlib.Core.Logic.{_≢_, _⊎_, ⊎-elim, inl, inr}
+use mathlib.Core.Logic.{_≢_, ⊎-elim, inl, inr}
 use mathlib.Core.Bool.{Bool, true, false, not, _&&_, _||_, cond}
 use mathlib.Core.List.{List, [], _∷_}
 use native.Mathlib.Omega.{arith}
@@ -12,12 +12,13 @@ use borrow.Author.Tests.{eq-eqb, ne-eqb, le-ltb, le-leb, ltb-true, ltb-false}
 use Rattle.bytes.specs.Bytes.{indexOf, slice}
 use Rattle.column.specs.Cases.{equal-cases}
 use Rattle.column.specs.Refusals.{Given, given, refused}
+use Rattle.bank.specs.Words.{numbers}
 use Rattle.closing.specs.Text.{comma, Reading, read, unread, numeral, startsWith}
 use Rattle.closing.specs.Tables.{pieces}
 use Rattle.closing.specs.Readings.{rest-of, after-rest, after-other}
 use Rattle.closing.specs.Cutting.{pieces-next, piecesFrom, pieces-all, pieces-end, piece-from}
 use Rattle.closing.specs.LineLaws.{comma-numeral}
-use Rattle.journals.specs.Journals.{sentKey, gotKey, line, goodLine, lineJudged, linePieces, lineIn, lineOf}
+use Rattle.journals.specs.Journals.{sentKey, gotKey, line, messageKind, acknowledgementKind, goodLine, lineJudged, linePieces, lineIn, lineOf}
 use Rattle.journals.specs.JournalLaws.{is-good}
 use Rattle.journals.specs.declared.line.Way.{Way}
 use Rattle.journals.specs.declared.line.Way.the-variants.{Sent, Got}
@@ -29,6 +30,9 @@ module _ (owner : ℕ) (way : Way) (kind other number : ℕ) where
   abbrev verdict : Given Line
   verdict = lineJudged owner way (read kind) (read other) (read number)
 
+  abbrev kinds : Bool
+  kinds = eqb kind messageKind || eqb kind acknowledgementKind
+
   refuses : goodLine owner kind other number ≡ false → verdict ≡ refused 19
   unfolding lineJudged
   refuses e = rw e
@@ -37,25 +41,28 @@ module _ (owner : ℕ) (way : Way) (kind other number : ℕ) where
   any-false true = refl
   any-false false = refl
 
-  pub kind-zero : kind ≡ 0 → verdict ≡ refused 19
-  kind-zero e = refuses (rw e)
+  no-kind : kind ≢ messageKind → kind ≢ acknowledgementKind → verdict ≡ refused 19
+  no-kind m a = refuses (rw (ne-eqb kind messageKind m, ne-eqb kind acknowledgementKind a))
 
-  pub kind-above : 2 < kind → verdict ≡ refused 19
-  kind-above h = refuses (rw (ne-eqb kind 1 (λ e. omega arith), ne-eqb kind 2 (λ e. omega arith)))
+  pub kind-below : kind < messageKind → verdict ≡ refused 19
+  kind-below h = no-kind (λ e. omega arith) (λ e. omega arith)
+
+  pub kind-above : acknowledgementKind < kind → verdict ≡ refused 19
+  kind-above h = no-kind (λ e. omega arith) (λ e. omega arith)
 
   pub other-above : 16 ≤ other → verdict ≡ refused 19
-  other-above h = refuses (rw (le-ltb other 16 h) (any-false (eqb kind 1 || eqb kind 2)))
+  other-above h = refuses (rw (le-ltb other 16 h) (any-false kinds))
 
   pub other-owner : other ≡ owner → verdict ≡ refused 19
-  other-owner e = refuses (rw (eq-eqb other owner e) (go (eqb kind 1 || eqb kind 2) (ltb other 16)))
+  other-owner e = refuses (rw (eq-eqb other owner e) (go kinds (ltb other 16)))
     where
       go : (a b : Bool) → (a && (b && false)) ≡ false
       go true true = refl
       go true false = refl
       go false b = refl
 
-  pub number-above : 4294967296 ≤ number → verdict ≡ refused 19
-  number-above h = refuses (rw (le-ltb number 4294967296 h) (go (eqb kind 1 || eqb kind 2) (ltb other 16) (not (eqb other owner))))
+  pub number-above : numbers ≤ number → verdict ≡ refused 19
+  number-above h = refuses (rw (le-ltb number numbers h) (go kinds (ltb other 16) (not (eqb other owner))))
     where
       go : (a b c : Bool) → (a && (b && (c && false))) ≡ false
       go true true true = refl
@@ -63,10 +70,10 @@ module _ (owner : ℕ) (way : Way) (kind other number : ℕ) where
       go true false c = refl
       go false b c = refl
 
-  pub line-good : kind ≢ 0 → kind ≤ 2 → other < 16 → other ≢ owner → number < 4294967296 → verdict ≡ given (line way kind other number)
+  pub line-good : messageKind ≤ kind → kind ≤ acknowledgementKind → other < 16 → other ≢ owner → number < numbers → verdict ≡ given (line way kind other number)
   unfolding lineJudged
   line-good n k o a h = rw (is-good owner way kind other number record {
-    kinds = ⊎-elim (λ e. inl e) (λ e. inr (omega (arith, n, k, e))) (equal-cases kind 1);
+    kinds = ⊎-elim (λ e. inl e) (λ e. inr (omega (arith, n, k, e))) (equal-cases kind messageKind);
     other-below = o;
     other-apart = a;
     number-below = h;

@@ -1,5 +1,5 @@
 -- A journal's lines as words, one for each line, and how they are read one after the other. Assumes nothing.
-use Prim.Native.Nat.{ℕ, zero, suc, _+_, _-_, _*_, _%_, _≤_, _<_}
+use Prim.Native.Nat.{ℕ, zero, suc, _+_, _-_, _≤_, _<_}
 use mathlib.Core.Path.{_≡_, refl, sym, ap, ap₂, subst, _∙_}
 use mathlib.Core.Logic.{_≢_}
 use mathlib.Core.Bool.{Bool, true, false, cond}
@@ -15,7 +15,8 @@ use Rattle.closing.specs.Tables.{Cut, ended, unended, withFirst, cut, longer, p
 use Rattle.bytes.specs.Bytes.{indexOf, slice}
 use Rattle.closing.specs.Readings.{numeral-none}
 use Rattle.closing.specs.Cutting.{line-ended, line-unended, line-length}
-use Rattle.journals.specs.Journals.{sentKey, gotKey, line, lineJudged, linePieces, lineIn, lineOf, Entry, withEntry, cutEntries, entriesIn}
+use Rattle.journals.specs.Journals.{sentKey, gotKey, line, lineJudged, linePieces, lineIn, lineOf, Entry, withEntry, cutEntries, entriesIn, shortestLine}
+use Rattle.journals.specs.LineWords.{keyOf}
 use Rattle.journals.specs.declared.line.Way.{Way}
 use Rattle.journals.specs.declared.line.Way.the-variants.{Sent, Got}
 use Rattle.journals.specs.declared.line.Line.{Line}
@@ -24,14 +25,7 @@ use Rattle.journals.specs.declared.journal.NextKey.the-variants as next-
 use Rattle.journals.specs.declared.journal.Count.{Count}
 use Rattle.journals.specs.declared.journal.Count.the-variants as count-is
 
--- ---- the word of a line
-
-abbrev pub wayNumber : Way → ℕ
-wayNumber Sent = 0
-wayNumber Got = 1
-
-abbrev pub keyOf : Line → ℕ
-keyOf x = ((wayNumber (x .way) * 256 + x .kind) * 256 + x .other) * 4294967296 + x .number
+-- ---- the words of lines
 
 unfoldable pub keysOf : List Entry → List ℕ
 keysOf [] = []
@@ -76,10 +70,6 @@ withKeys front (refused n) = refused n
 
 more : (n : ℕ) → suc (n + 1) ≡ suc n + 1
 more n = omega arith
-
-pub way-mod : (w : Way) → wayNumber w % 2 ≡ wayNumber w
-way-mod Sent = refl
-way-mod Got = refl
 
 pub cut-rest : (l text rest : List ℕ) → cut l ≡ ended text rest → (length l ≡ length text + 1 + length rest) × (rest ≡ drop (length text + 1) l)
 unfolding cut withFirst
@@ -233,7 +223,7 @@ module _ (owner : ℕ) (s : List ℕ) (at : ℕ) (h : at < length s) where
 
   pub record Stepped (key place : ℕ) : Type 0 where
     pub inside : place ≤ length s
-    pub ten : at + 10 ≤ place
+    pub long : at + shortestLine ≤ place
     pub rest-keys : keysFrom owner s at ≡ withKeys (key ∷ []) (keysFrom owner s place)
 
   pub keys-step : (key place : ℕ) → nextCut at owner (cut (drop at s)) ≡ given (record { key = key; place = place }) → Stepped key place
@@ -248,12 +238,12 @@ module _ (owner : ℕ) (s : List ℕ) (at : ℕ) (h : at < length s) where
           let k : keyOf x ≡ key = ap (λ (n : Next). n .key) both in
           let p : at + length text + 1 ≡ place = ap (λ (n : Next). n .place) both in
           let z = cut-rest (drop at s) text rest q in
-          let long = line-long owner text x f in
+          let nine = line-long owner text x f in
           let there : at + (length text + 1) ≡ place = omega (arith, p) in
           let later : rest ≡ drop place s = z .1 ∙ drop-drop (length text + 1) at s ∙ ap (λ (i : ℕ). drop i s) there in
           record {
             inside = omega (arith, p, z .0, length-drop at s);
-            ten = omega (arith, p, long);
+            long = omega (arith, p, nine);
             rest-keys =
                 keys-cut ∙ ap (λ (c : Cut). keysIn (cutEntries (entriesIn (length s) owner) owner c)) q
                 ∙ ap (λ (r : Given Line). keysIn (withEntry text r (entriesIn (length s) owner rest))) f
@@ -272,8 +262,6 @@ keys-end owner s at h = ap (λ (l : List ℕ). keysIn (entriesIn (length s) owne
     go : (n : ℕ) → keysIn (entriesIn n owner []) ≡ given []
     go zero = refl
     go (suc n) = refl
-
--- ---- words before words
 
 pub with-none : (r : Given (List ℕ)) → withKeys [] r ≡ r
 unfolding withKeys

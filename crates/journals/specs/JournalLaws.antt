@@ -11,11 +11,12 @@ use lib.ListN.{length, getD, length-append}
 use borrow.Author.Tests.{ne-eqb, lt-ltb, le-ltb, le-leb, ltb-true, ltb-false, leb-true}
 use Rattle.column.specs.Cases.{truth, and-left, and-right}
 use Rattle.column.specs.Refusals.{given}
+use Rattle.bank.specs.Words.{numbers}
 use Rattle.closing.specs.Text.{columnKey, newline, comma, decimalIn, decimal, read, isDigit, allDigits, valueFrom, leadingZero, numeral, startsWith, afterKey}
 use Rattle.closing.specs.Tables.{ended, withFirst, cut, longer, pieces, numeralIn, keyed}
 use Rattle.closing.specs.Readings.{digits, numeral-digits, leading-one, leading-other}
 use Rattle.closing.specs.DecimalLaws.{decimal-length, decimal-some}
-use Rattle.journals.specs.Journals.{sentKey, gotKey, line, goodLine, lineJudged, linePieces, lineIn, lineOf, Entry, entry, withEntry, cutEntries, entriesIn, withOwner, owned, headed, journalOf, journalLimit, wayKey, lineText, linesText, journalText}
+use Rattle.journals.specs.Journals.{sentKey, gotKey, line, messageKind, acknowledgementKind, goodLine, lineJudged, linePieces, lineIn, lineOf, Entry, entry, withEntry, cutEntries, entriesIn, withOwner, owned, headed, journalOf, journalLimit, wayKey, lineText, linesText, journalText}
 use Rattle.journals.specs.declared.line.Way.{Way}
 use Rattle.journals.specs.declared.line.Way.the-variants.{Sent, Got}
 use Rattle.journals.specs.declared.line.Line.{Line}
@@ -172,19 +173,19 @@ three-plain kind other number =
 
 -- the parts of a good line
 pub record Good (owner : ℕ) (x : Line) : Type 0 where
-  pub kinds : (x .kind ≡ 1) ⊎ (x .kind ≡ 2)
+  pub kinds : (x .kind ≡ messageKind) ⊎ (x .kind ≡ acknowledgementKind)
   pub other-below : x .other < 16
   pub other-apart : x .other ≢ owner
-  pub number-below : x .number < 4294967296
+  pub number-below : x .number < numbers
 
 module _ (owner : ℕ) (way : Way) (kind other number : ℕ) (g : Good owner (line way kind other number)) where
   kind-small : kind < 10 ^ 1
   kind-small = ⊎-elim (λ e. omega (arith, e)) (λ e. omega (arith, e)) (g .kinds)
 
   pub is-good : goodLine owner kind other number ≡ true
-  is-good = rw (lt-ltb other 16 (g .other-below), ne-eqb other owner (g .other-apart), lt-ltb number 4294967296 (g .number-below), kind-good)
+  is-good = rw (lt-ltb other 16 (g .other-below), ne-eqb other owner (g .other-apart), lt-ltb number numbers (g .number-below), kind-good)
     where
-      kind-good : (eqb kind 1 || eqb kind 2) ≡ true
+      kind-good : (eqb kind messageKind || eqb kind acknowledgementKind) ≡ true
       kind-good = ⊎-elim (λ e. rw e) (λ e. rw e) (g .kinds)
 
   judged-good : linePieces owner way (pieces (threeDigits kind other number)) ≡ given (line way kind other number)

@@ -1,10 +1,11 @@
 -- Journals of columns as text, and two of them compared: Point 11 of document 02.
-use Prim.Native.Nat.{ℕ, zero, suc}
+use Prim.Native.Nat.{ℕ, zero, suc, _+_, _/_}
 use mathlib.Core.Bool.{Bool, true, false, not, _&&_, _||_, cond}
 use mathlib.Core.List.{List, [], _∷_, _++_}
 use lib.Dec.{eqb, ltb}
 use lib.ListN.{length}
 use Rattle.column.specs.Refusals.{first, Given, given, refused}
+use Rattle.bank.specs.Words.{numbers}
 use Rattle.closing.specs.Text.{bytes, columnKey, newline, comma, decimal, Reading, read, unread, numeral, startsWith, afterKey}
 use Rattle.closing.specs.Tables.{Cut, ended, unended, cut, pieces, keyed}
 use Rattle.closing.specs.Closing.{Listed, placed}
@@ -30,9 +31,17 @@ abbrev pub lineMeant : LineAnswer → Given Line
 lineMeant (answer.Is x) = given x
 lineMeant (answer.Refused n) = refused n
 
--- "Kind is 1 for messages and 2 for acknowledgements", "at most 4,294,967,295", "the other column and the owner are 0 to 15 and differ"
+-- "Kind is 1 for messages and 2 for acknowledgements"
+abbrev pub messageKind : ℕ
+messageKind = 1
+
+abbrev pub acknowledgementKind : ℕ
+acknowledgementKind = 2
+
+-- "at most 4,294,967,295", "the other column and the owner are 0 to 15 and differ"
 abbrev pub goodLine : ℕ → ℕ → ℕ → ℕ → Bool
-goodLine owner kind other number = (eqb kind 1 || eqb kind 2) && (ltb other 16 && (not (eqb other owner) && ltb number 4294967296))
+goodLine owner kind other number =
+    (eqb kind messageKind || eqb kind acknowledgementKind) && (ltb other 16 && (not (eqb other owner) && ltb number numbers))
 
 unfoldable pub lineJudged : ℕ → Way → Reading ℕ → Reading ℕ → Reading ℕ → Given Line
 lineJudged owner way (read kind) (read other) (read number) = cond (goodLine owner kind other number) (given (line way kind other number)) (refused 19)
@@ -101,6 +110,14 @@ headed most unended = refused 19
 -- "A journal is at most 32,768 bytes."
 abbrev pub journalLimit : ℕ
 journalLimit = 32768
+
+-- the bytes of the shortest line, `got=1,0,0`, with its byte 10
+abbrev pub shortestLine : ℕ
+shortestLine = 10
+
+-- as many lines as a journal can have
+abbrev pub linesLimit : ℕ
+linesLimit = journalLimit / shortestLine + 1
 
 unfoldable pub journalOf : List ℕ → Given Journal
 journalOf s = cond (ltb journalLimit (length s)) (refused 19) (headed (length s) (cut s))

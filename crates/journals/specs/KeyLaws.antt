@@ -1,7 +1,7 @@
--- The words of lines tell them apart: what is said of words is said of lines. Assumes nothing.
-use Prim.Native.Nat.{ℕ, zero, suc, _+_, _*_, _<_}
+-- What is said of a list of words is said of its lines. Assumes nothing.
+use Prim.Native.Nat.{ℕ, zero, suc, _<_}
 use mathlib.Core.Path.{_≡_, refl, sym, ap, ap₂, subst, _∙_}
-use mathlib.Core.Logic.{_⊎_, ⊎-elim}
+use mathlib.Core.Logic.{⊎-elim}
 use mathlib.Core.Bool.{Bool, true, false, not, _&&_, _||_, cond}
 use mathlib.Core.List.{List, [], _∷_}
 use native.Mathlib.Omega.{arith}
@@ -10,69 +10,16 @@ use lib.ListN.{length, getD}
 use borrow.Author.Tests.{eq-eqb, eqb-true, ltb-true}
 use Rattle.column.specs.Cases.{or-cases, and-left, and-right, same-truth}
 use Rattle.column.specs.Refusals.{Given, given, refused}
+use Rattle.bank.specs.Words.{numbers}
 use Rattle.closing.specs.Text.{Reading, read, unread, numeral, startsWith, afterKey}
 use Rattle.closing.specs.Tables.{Cut, ended, unended, cut, pieces}
 use Rattle.journals.specs.Chains.{among, distinct}
-use Rattle.journals.specs.Journals.{sentKey, gotKey, line, goodLine, lineJudged, linePieces, lineIn, lineOf, Entry, withEntry, cutEntries, entriesIn, sameLine, hasLine, onceEach}
-use Rattle.journals.specs.ComparisonLaws.{line-same, same-line}
-use Rattle.journals.specs.JournalKeys.{wayNumber, keyOf, keysOf}
+use Rattle.journals.specs.Journals.{sentKey, gotKey, line, messageKind, acknowledgementKind, goodLine, lineJudged, linePieces, lineIn, lineOf, Entry, withEntry, cutEntries, entriesIn, hasLine, onceEach}
+use Rattle.journals.specs.LineWords.{byteValues, keyOf, Fits, key-line}
+use Rattle.journals.specs.JournalKeys.{keysOf}
 use Rattle.journals.specs.declared.line.Way.{Way}
 use Rattle.journals.specs.declared.line.Way.the-variants.{Sent, Got}
 use Rattle.journals.specs.declared.line.Line.{Line}
-
--- ---- words tell lines apart
-
-pub record Fits (x : Line) : Type 0 where
-  pub kind : x .kind < 256
-  pub other : x .other < 256
-  pub number : x .number < 4294967296
-
-ways : (v w : Way) → wayNumber v ≡ wayNumber w → v ≡ w
-ways Sent Sent e = refl
-ways Sent Got e = absurd (omega (arith, e))
-ways Got Sent e = absurd (omega (arith, e))
-ways Got Got e = refl
-
-abbrev word : ℕ → ℕ → ℕ → ℕ → ℕ
-word w k o n = ((w * 256 + k) * 256 + o) * 4294967296 + n
-
-module _ (w k o n v l p m : ℕ) (hk : k < 256) (ho : o < 256) (hn : n < 4294967296) (hl : l < 256) (hp : p < 256) (hm : m < 4294967296)
-    (e : word w k o n ≡ word v l p m) where
-  number-is : n ≡ m
-  number-is = omega (arith, e)
-
-  pair-is : (w * 256 + k) * 256 + o ≡ (v * 256 + l) * 256 + p
-  pair-is = omega (arith, e)
-
-  other-is : o ≡ p
-  other-is = omega (arith, pair-is)
-
-  ends-are : w * 256 + k ≡ v * 256 + l
-  ends-are = omega (arith, pair-is)
-
-  kind-is : k ≡ l
-  kind-is = omega (arith, ends-are)
-
-  way-is : w ≡ v
-  way-is = omega (arith, ends-are)
-
-key-same : (x y : Line) → Fits x → Fits y → keyOf x ≡ keyOf y → x ≡ y
-key-same x y f g e =
-    let a = way-is (wayNumber (x .way)) (x .kind) (x .other) (x .number) (wayNumber (y .way)) (y .kind) (y .other) (y .number)
-    (f .kind) (f .other) (f .number) (g .kind) (g .other) (g .number) e in
-    let b = kind-is (wayNumber (x .way)) (x .kind) (x .other) (x .number) (wayNumber (y .way)) (y .kind) (y .other) (y .number)
-    (f .kind) (f .other) (f .number) (g .kind) (g .other) (g .number) e in
-    let c = other-is (wayNumber (x .way)) (x .kind) (x .other) (x .number) (wayNumber (y .way)) (y .kind) (y .other) (y .number)
-    (f .kind) (f .other) (f .number) (g .kind) (g .other) (g .number) e in
-    let d = number-is (wayNumber (x .way)) (x .kind) (x .other) (x .number) (wayNumber (y .way)) (y .kind) (y .other) (y .number)
-    (f .kind) (f .other) (f .number) (g .kind) (g .other) (g .number) e in
-    let w = ways (x .way) (y .way) a in
-    λ i. line (w i) (b i) (c i) (d i)
-
-pub key-line : (x y : Line) → Fits x → Fits y → eqb (keyOf x) (keyOf y) ≡ sameLine x y
-key-line x y f g = same-truth (eqb (keyOf x) (keyOf y)) (sameLine x y)
-    (λ e. ap (sameLine x) (sym (key-same x y f g (eqb-true (keyOf x) (keyOf y) e))) ∙ same-line x)
-    (λ e. eq-eqb (keyOf x) (keyOf y) (ap keyOf (line-same x y e)))
 
 -- ---- the first of a list of words
 
@@ -112,18 +59,18 @@ unfoldable pub AllFit : List Entry → Type 0
 AllFit [] = Unit {0}
 AllFit (e ∷ l) = Fits (e .line) × AllFit l
 
-pub among-has : (l : List Entry) (x : Line) → AllFit l → Fits x → among (keysOf l) (length l) (keyOf x) ≡ hasLine l x
+pub among-has : (l : List Entry) (x : Line) → AllFit l → Fits x → among (keysOf l) (length (keysOf l)) (keyOf x) ≡ hasLine l x
 unfolding among keysOf hasLine AllFit
 among-has [] x a f = refl
 among-has (e ∷ l) x a f =
-    among-first (keyOf (e .line)) (keysOf l) (length l) (keyOf x)
+    among-first (keyOf (e .line)) (keysOf l) (length (keysOf l)) (keyOf x)
     ∙ ap₂ (λ (b c : Bool). b || c) (key-line (e .line) x (a .0) f) (among-has l x (a .1) f)
 
-pub distinct-once : (l : List Entry) → AllFit l → distinct (keysOf l) (length l) ≡ onceEach l
+pub distinct-once : (l : List Entry) → AllFit l → distinct (keysOf l) (length (keysOf l)) ≡ onceEach l
 unfolding distinct keysOf onceEach AllFit
 distinct-once [] a = refl
 distinct-once (e ∷ l) a =
-    distinct-first (keyOf (e .line)) (keysOf l) (length l)
+    distinct-first (keyOf (e .line)) (keysOf l) (length (keysOf l))
     ∙ ap₂ (λ (b c : Bool). not b && c) (among-has l (e .line) (a .1) (a .0)) (distinct-once l (a .1))
 
 -- ---- a line that was read fits
@@ -138,13 +85,14 @@ judged-fits owner way (read k) (read o) (read n) x e = go (goodLine owner k o n)
     go : (b : Bool) → goodLine owner k o n ≡ b → cond b (given (line way k o n)) (refused 19) ≡ given x → Fits x
     go true g e =
         let z : line way k o n ≡ x = cc in
-        let h = and-right (eqb k 1 || eqb k 2) _ g in
-        let small : k < 256 = ⊎-elim (λ q. omega (arith, eqb-true k 1 q)) (λ q. omega (arith, eqb-true k 2 q))
-        (or-cases (eqb k 1) (eqb k 2) (and-left (eqb k 1 || eqb k 2) _ g)) in
+        let kinds = eqb k messageKind || eqb k acknowledgementKind in
+        let h = and-right kinds _ g in
+        let small : k < byteValues = ⊎-elim (λ q. omega (arith, eqb-true k messageKind q)) (λ q. omega (arith, eqb-true k acknowledgementKind q))
+        (or-cases (eqb k messageKind) (eqb k acknowledgementKind) (and-left kinds _ g)) in
         subst Fits z record {
           kind = small;
           other = omega (arith, ltb-true o 16 (and-left (ltb o 16) _ h));
-          number = ltb-true n 4294967296 (and-right (not (eqb o owner)) _ (and-right (ltb o 16) _ h));
+          number = ltb-true n numbers (and-right (not (eqb o owner)) _ (and-right (ltb o 16) _ h));
         }
     go false g e = absurd (clash e)
 judged-fits owner way (read k) (read o) unread x e = absurd (clash e)

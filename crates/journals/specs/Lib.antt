@@ -2,6 +2,7 @@ pub mod Journals
 pub mod JournalLaws
 pub mod FieldLaws
 pub mod ComparisonLaws
+pub mod LineWords
 pub mod JournalKeys
 pub mod JournalReads
 pub mod Chains

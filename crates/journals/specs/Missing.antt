@@ -15,30 +15,30 @@ use Rattle.closing.specs.Tables.{Cut, ended, unended, withFirst, cut}
 use Rattle.closing.specs.Cutting.{line-length}
 use Rattle.journals.specs.Chains.{among}
 use Rattle.journals.specs.Journals.{line, lineOf, Entry, withEntry, cutEntries, entriesIn, about, hasLine, missing}
-use Rattle.journals.specs.JournalKeys.{keyOf, keysOf, Next, nextOf, nextCut, cut-rest, entries-enough}
+use Rattle.journals.specs.LineWords.{wayNumber, byteValues, keyOf, aboutKey, turned, about-key, turned-key}
+use Rattle.journals.specs.JournalKeys.{keysOf, Next, nextOf, nextCut, cut-rest, entries-enough}
 use Rattle.journals.specs.KeyLaws.{AllFit, among-has}
-use Rattle.journals.specs.Hearing.{aboutKey, turned, about-key, turned-key}
 use Rattle.journals.specs.declared.line.Way.the-variants.{Sent, Got}
 use Rattle.journals.specs.declared.line.Line.{Line}
 
 -- ---- by words
 
-abbrev pub missedKey : ℕ → ℕ → List ℕ → ℕ → ℕ → Bool
-missedKey a b theirs m key = aboutKey b 0 key && not (among theirs m (turned 1 a key))
+abbrev pub missedKey : ℕ → ℕ → List ℕ → ℕ → Bool
+missedKey a b theirs key = aboutKey b (wayNumber Sent) key && not (among theirs (length theirs) (turned (wayNumber Got) a key))
 
-unfoldable pub missingBy : ℕ → ℕ → List ℕ → ℕ → List Entry → List ℕ
-missingBy a b theirs m [] = []
-missingBy a b theirs m (e ∷ l) = cond (missedKey a b theirs m (keyOf (e .line))) (e .text) [] ++ missingBy a b theirs m l
+unfoldable pub missingBy : ℕ → ℕ → List ℕ → List Entry → List ℕ
+missingBy a b theirs [] = []
+missingBy a b theirs (e ∷ l) = cond (missedKey a b theirs (keyOf (e .line))) (e .text) [] ++ missingBy a b theirs l
 
-pub missing-words : (a b : ℕ) (mine theirs : List Entry) → a < 256 → AllFit mine → AllFit theirs
-    → missingBy a b (keysOf theirs) (length theirs) mine ≡ missing a b mine theirs
+pub missing-words : (a b : ℕ) (mine theirs : List Entry) → a < byteValues → AllFit mine → AllFit theirs
+    → missingBy a b (keysOf theirs) mine ≡ missing a b mine theirs
 unfolding missingBy missing AllFit
 missing-words a b [] theirs h f g = refl
 missing-words a b (e ∷ l) theirs h f g =
     let x = e .line in
     ap₂ (λ (p : Bool) (r : List ℕ). cond p (e .text) [] ++ r)
     (ap₂ (λ (p q : Bool). p && not q) (about-key x (f .0) b Sent)
-    (ap (among (keysOf theirs) (length theirs)) (turned-key x (f .0) Got a)
+    (ap (among (keysOf theirs) (length (keysOf theirs))) (turned-key x (f .0) Got a)
     ∙ among-has theirs (line Got (x .kind) a (x .number)) g (record { kind = f .0 .kind; other = h; number = f .0 .number })))
     (missing-words a b l theirs h (f .1) g)
     ∙ choice (about b Sent x && not (hasLine theirs (line Got (x .kind) a (x .number)))) (e .text) (missing a b l theirs)
@@ -87,9 +87,9 @@ cut-text (b ∷ l) text rest e = go (eqb b newline) refl e (cut l) refl (λ t r 
 clash : {A : Type 0} {n : ℕ} {x : A} → refused n ≡ given x → ⊥
 clash e = let z : _≡_ {A = ℕ} 0 1 = cc in omega arith
 
-module _ (a b : ℕ) (theirs : List ℕ) (m : ℕ) where
+module _ (a b : ℕ) (theirs : List ℕ) where
   abbrev pub textFrom : List ℕ → ℕ → List ℕ
-  textFrom s at = missingBy a b theirs m (entriesGiven (entriesFrom a s at))
+  textFrom s at = missingBy a b theirs (entriesGiven (entriesFrom a s at))
 
   module _ (s : List ℕ) (at : ℕ) (h : at < length s) (ok : isGiven (entriesFrom a s at) ≡ true) where
     from-cut : entriesFrom a s at ≡ cutEntries (entriesIn (length s) a) a (cut (drop at s))
@@ -106,7 +106,7 @@ module _ (a b : ℕ) (theirs : List ℕ) (m : ℕ) where
       pub inside : place ≤ length s
       pub onward : at < place
       pub still : isGiven (entriesFrom a s place) ≡ true
-      pub first-then : textFrom s at ≡ cond (missedKey a b theirs m key) (take (place - at) (drop at s)) [] ++ textFrom s place
+      pub first-then : textFrom s at ≡ cond (missedKey a b theirs key) (take (place - at) (drop at s)) [] ++ textFrom s place
 
     pub went : (key place : ℕ) → nextCut at a (cut (drop at s)) ≡ given (record { key = key; place = place }) → Went key place
     unfolding nextCut nextOf cutEntries withEntry isGiven entriesGiven missingBy
@@ -117,8 +117,8 @@ module _ (a b : ℕ) (theirs : List ℕ) (m : ℕ) where
         there text rest x (refused n) f = sym (ap isGiven f) ∙ ok
 
         shown : (text : List ℕ) (x : Line) (t : Given (List Entry)) → isGiven t ≡ true
-            → missingBy a b theirs m (entriesGiven (withEntry text (given x) t))
-            ≡ cond (missedKey a b theirs m (keyOf x)) (text ++ (newline ∷ [])) [] ++ missingBy a b theirs m (entriesGiven t)
+            → missingBy a b theirs (entriesGiven (withEntry text (given x) t))
+            ≡ cond (missedKey a b theirs (keyOf x)) (text ++ (newline ∷ [])) [] ++ missingBy a b theirs (entriesGiven t)
         shown text x (given l) f = refl
         shown text x (refused n) f = absurd (true≢false (sym f))
 
@@ -142,21 +142,21 @@ module _ (a b : ℕ) (theirs : List ℕ) (m : ℕ) where
               inside = omega (arith, p, z .0, length-drop at s);
               onward = omega (arith, p);
               still = ap (λ (l : List ℕ). isGiven (entriesIn (length s) a l)) (sym later) ∙ yes;
-              first-then = ap (λ (r : Given (List Entry)). missingBy a b theirs m (entriesGiven r)) here
+              first-then = ap (λ (r : Given (List Entry)). missingBy a b theirs (entriesGiven r)) here
                   ∙ shown text x (entriesIn (length s) a rest) yes
-                  ∙ ap₂ (λ (i : ℕ) (t : List ℕ). cond (missedKey a b theirs m i) t [] ++ missingBy a b theirs m (entriesGiven (entriesIn (length s) a rest))) k same
-                  ∙ ap (λ (l : List ℕ). cond (missedKey a b theirs m key) (take (place - at) (drop at s)) [] ++ missingBy a b theirs m (entriesGiven (entriesIn (length s) a l))) later;
+                  ∙ ap₂ (λ (i : ℕ) (t : List ℕ). cond (missedKey a b theirs i) t [] ++ missingBy a b theirs (entriesGiven (entriesIn (length s) a rest))) k same
+                  ∙ ap (λ (l : List ℕ). cond (missedKey a b theirs key) (take (place - at) (drop at s)) [] ++ missingBy a b theirs (entriesGiven (entriesIn (length s) a l))) later;
             }
 
         go : (c : Cut) → cut (drop at s) ≡ c → nextCut at a c ≡ given (record { key = key; place = place }) → Went key place
         go (ended text rest) q e = good text rest q (lineOf a text) refl e
         go unended q e = absurd (clash e)
 
-    pub length-step : (key place : ℕ) → Went key place → (t : Bool) → t ≡ missedKey a b theirs m key → (r : ℕ) → r ≡ cond t (place - at) 0
+    pub length-step : (key place : ℕ) → Went key place → (t : Bool) → t ≡ missedKey a b theirs key → (r : ℕ) → r ≡ cond t (place - at) 0
         → length (textFrom s at) ≡ r + length (textFrom s place)
     length-step key place w t q r k =
-        ap length (w .first-then) ∙ length-append (cond (missedKey a b theirs m key) (take (place - at) (drop at s)) []) (textFrom s place)
-        ∙ ap (λ (n : ℕ). n + length (textFrom s place)) (go (missedKey a b theirs m key) ∙ ap (λ (x : Bool). cond x (place - at) 0) (sym q) ∙ sym k)
+        ap length (w .first-then) ∙ length-append (cond (missedKey a b theirs key) (take (place - at) (drop at s)) []) (textFrom s place)
+        ∙ ap (λ (n : ℕ). n + length (textFrom s place)) (go (missedKey a b theirs key) ∙ ap (λ (x : Bool). cond x (place - at) 0) (sym q) ∙ sym k)
       where
         go : (t : Bool) → length (cond t (take (place - at) (drop at s)) []) ≡ cond t (place - at) 0
         go true = line-length s at place (w .inside)
@@ -177,9 +177,9 @@ module _ (a b : ℕ) (theirs : List ℕ) (m : ℕ) where
 
   pub text-end : (s : List ℕ) (at : ℕ) → length s ≤ at → textFrom s at ≡ []
   unfolding entriesGiven missingBy entriesIn
-  text-end s at h = ap (λ (l : List ℕ). missingBy a b theirs m (entriesGiven (entriesIn (length s) a l))) (drop-of-length-le s h) ∙ go (length s)
+  text-end s at h = ap (λ (l : List ℕ). missingBy a b theirs (entriesGiven (entriesIn (length s) a l))) (drop-of-length-le s h) ∙ go (length s)
     where
-      go : (n : ℕ) → missingBy a b theirs m (entriesGiven (entriesIn n a [])) ≡ []
+      go : (n : ℕ) → missingBy a b theirs (entriesGiven (entriesIn n a [])) ≡ []
       go zero = refl
       go (suc n) = refl
 
@@ -196,37 +196,37 @@ copied old w =
     let z : 0 + length w ≡ length w = omega arith in
     rw (take-all (length w) w (omega arith), z)
 
--- of the text from `from` on, what stands before `at` is written
-pub record Put (a b : ℕ) (theirs : List ℕ) (m : ℕ) (s : List ℕ) (from at start end : ℕ) (out old : List ℕ) : Type 0 where
+-- of a text, what stands before `at` is written
+pub record Put (a b : ℕ) (theirs : List ℕ) (s : List ℕ) (at start end : ℕ) (out old : List ℕ) : Type 0 where
   pub front : List ℕ
   pub wrote : Writes end out old start front
-  pub parts : textFrom a b theirs m s from ≡ front ++ textFrom a b theirs m s at
+  pub parts : textFrom a b theirs s 0 ≡ front ++ textFrom a b theirs s at
   pub kept : length out ≡ length old
-  pub room : start + length (textFrom a b theirs m s from) ≤ length old
+  pub room : start + length (textFrom a b theirs s 0) ≤ length old
 
-pub put-start : (a b : ℕ) (theirs : List ℕ) (m : ℕ) (s : List ℕ) (from start : ℕ) (old : List ℕ)
-    → start + length (textFrom a b theirs m s from) ≤ length old → Put a b theirs m s from from start start old old
-put-start a b theirs m s from start old h =
+pub put-start : (a b : ℕ) (theirs : List ℕ) (s : List ℕ) (start : ℕ) (old : List ℕ)
+    → start + length (textFrom a b theirs s 0) ≤ length old → Put a b theirs s 0 start start old old
+put-start a b theirs s start old h =
     record { front = []; wrote = writes-none old start; parts = refl; kept = refl; room = h }
 
-module _ (a b : ℕ) (theirs : List ℕ) (m : ℕ) (s : List ℕ) (from at : ℕ) {start end : ℕ} {out old : List ℕ}
-    (h : at < length s) (ok : isGiven (entriesFrom a s at) ≡ true) (p : Put a b theirs m s from at start end out old) (key place : ℕ)
-    (w : Went a b theirs m s at h ok key place) (t : Bool) (q : t ≡ missedKey a b theirs m key) where
+module _ (a b : ℕ) (theirs : List ℕ) (s : List ℕ) (at : ℕ) {start end : ℕ} {out old : List ℕ}
+    (h : at < length s) (ok : isGiven (entriesFrom a s at) ≡ true) (p : Put a b theirs s at start end out old) (key place : ℕ)
+    (w : Went a b theirs s at h ok key place) (t : Bool) (q : t ≡ missedKey a b theirs key) where
   abbrev piece : List ℕ
   piece = cond t (take (place - at) (drop at s)) []
 
-  all-of-it : textFrom a b theirs m s from ≡ (p .front ++ piece) ++ textFrom a b theirs m s place
+  all-of-it : textFrom a b theirs s 0 ≡ (p .front ++ piece) ++ textFrom a b theirs s place
   all-of-it =
-      p .parts ∙ ap (λ (l : List ℕ). p .front ++ l) (w .first-then ∙ ap (λ (x : Bool). cond x (take (place - at) (drop at s)) [] ++ textFrom a b theirs m s place) (sym q))
-      ∙ sym (append-assoc (p .front) piece (textFrom a b theirs m s place))
+      p .parts ∙ ap (λ (l : List ℕ). p .front ++ l) (w .first-then ∙ ap (λ (x : Bool). cond x (take (place - at) (drop at s)) [] ++ textFrom a b theirs s place) (sym q))
+      ∙ sym (append-assoc (p .front) piece (textFrom a b theirs s place))
 
   fits : start + length (p .front ++ piece) ≤ length old
-  fits = omega (arith, p .room, ap length all-of-it, length-append (p .front ++ piece) (textFrom a b theirs m s place))
+  fits = omega (arith, p .room, ap length all-of-it, length-append (p .front ++ piece) (textFrom a b theirs s place))
 
   pub put-room : end + length piece ≤ length out
   put-room = omega (arith, fits, p .kept, p .wrote .place, length-append (p .front) piece)
 
-  pub put-more : {r : ℕ} {new : List ℕ} → Writes r new out end piece → length new ≡ length out → Put a b theirs m s from place start r new old
+  pub put-more : {r : ℕ} {new : List ℕ} → Writes r new out end piece → length new ≡ length out → Put a b theirs s place start r new old
   put-more x k = record {
     front = p .front ++ piece;
     wrote = writes-more (p .front) piece fits (p .wrote) x;
@@ -235,7 +235,7 @@ module _ (a b : ℕ) (theirs : List ℕ) (m : ℕ) (s : List ℕ) (from at : ℕ
     room = p .room;
   }
 
-pub put-end : (a b : ℕ) (theirs : List ℕ) (m : ℕ) (s : List ℕ) (from at : ℕ) {start end : ℕ} {out old : List ℕ} → length s ≤ at
-    → Put a b theirs m s from at start end out old → Writes end out old start (textFrom a b theirs m s from)
-put-end a b theirs m s from at {start} {end} {out} {old} h p =
-    subst (Writes end out old start) (sym (p .parts ∙ ap (λ (l : List ℕ). p .front ++ l) (text-end a b theirs m s at h) ∙ append-nil (p .front))) (p .wrote)
+pub put-end : (a b : ℕ) (theirs : List ℕ) (s : List ℕ) (at : ℕ) {start end : ℕ} {out old : List ℕ} → length s ≤ at
+    → Put a b theirs s at start end out old → Writes end out old start (textFrom a b theirs s 0)
+put-end a b theirs s at {start} {end} {out} {old} h p =
+    subst (Writes end out old start) (sym (p .parts ∙ ap (λ (l : List ℕ). p .front ++ l) (text-end a b theirs s at h) ∙ append-nil (p .front))) (p .wrote)

@@ -1,5 +1,5 @@
 // Two columns' journals compared.
-use crate::index::BUCKETS;
+use crate::index::INDEX;
 use crate::index::both_heard;
 use crate::index::chain;
 use crate::journal::Heading;
@@ -9,15 +9,11 @@ use crate::missing::missing_length;
 use crate::missing::put_missing;
 ghost use Prim.Native.Nat.{_≤_};
 ghost use mathlib.Core.Path.{_≡_};
-ghost use mathlib.Core.Logic.{_≢_};
 ghost use lib.ListN.{length};
 ghost use Rattle.closing.specs.Closing.{placed};
-ghost use Rattle.journals.specs.Journals.{missingText, pairCompared, compared};
-ghost use Rattle.journals.specs.JournalReads.{journalFrom, Holds};
+ghost use Rattle.journals.specs.Journals.{linesLimit, missingText, pairCompared, compared};
+ghost use Rattle.journals.specs.JournalReads.{journalIn, Holds};
 ghost use Rattle.journals.specs.Comparing.{comparedMeant, Ready};
-
-// The bytes that a journal has at most.
-pub const JOURNAL: usize = 32768;
 
 pub enum Compared {
     Length(usize),
@@ -27,151 +23,59 @@ pub enum Compared {
 // All is counted before the first byte is written.
 fn write_missing(
     one: &[u8],
-    from: usize,
     a: usize,
     mine: &[u64],
-    heads: &[u64],
-    next: &[u64],
+    index: &[u64],
     two: &[u8],
-    start: usize,
     b: usize,
     theirs: &[u64],
-    their_heads: &[u64],
-    their_next: &[u64],
+    their_index: &[u64],
     out: &mut [u8],
 ) -> Compared
-    requires { ⌜ Ready (now one) a from (now mine) (now heads) (now next) × Ready (now two) b start (now theirs) (now «their_heads») (now «their_next») ⌝ }
-    ensures { λ r. ⌜ comparedMeant r (now (out .exit)) ≡ placed (now (out .entry)) 0 (missingText (journalFrom a (now (one .entry)) from) (journalFrom b (now (two .entry)) start)) ⌝ }
+    requires { ⌜ Ready (now one) a (now mine) (now index) × Ready (now two) b (now theirs) (now «their_index») ⌝ }
+    ensures { λ r. ⌜ comparedMeant r (now (out .exit)) ≡ placed (now (out .entry)) 0 (missingText (journalIn a (now (one .entry))) (journalIn b (now (two .entry)))) ⌝ }
 {
-    let n = mine.len();
-    let m = theirs.len();
-    let first = missing_length(one, from, a, b, theirs, m, their_heads, their_next);
+    let first = missing_length(one, a, b, theirs, their_index);
     if out.len() < first {
         return Compared::Refused(11);
     }
-    let second = missing_length(two, start, b, a, mine, n, heads, next);
+    let second = missing_length(two, b, a, mine, index);
     if out.len() - first < second {
         return Compared::Refused(11);
     }
-    let end = put_missing(one, from, a, b, theirs, m, their_heads, their_next, out, 0);
-    let last = put_missing(two, start, b, a, mine, n, heads, next, out, end);
+    let end = put_missing(one, a, b, theirs, their_index, out, 0);
+    let last = put_missing(two, b, a, mine, index, out, end);
     Compared::Length(last)
 }
 
-// Journals in which no line stands twice.
-fn compare_ready(
-    one: &[u8],
-    from: usize,
-    a: usize,
-    mine: &[u64],
-    heads: &[u64],
-    next: &[u64],
-    two: &[u8],
-    start: usize,
-    b: usize,
-    theirs: &[u64],
-    their_heads: &[u64],
-    their_next: &[u64],
-    out: &mut [u8],
-) -> Compared
-    requires { ⌜ (a ≢ b) × Ready (now one) a from (now mine) (now heads) (now next) × Ready (now two) b start (now theirs) (now «their_heads») (now «their_next») ⌝ }
-    ensures { λ r. ⌜ comparedMeant r (now (out .exit)) ≡ pairCompared (journalFrom a (now (one .entry)) from) (journalFrom b (now (two .entry)) start) (now (out .entry)) ⌝ }
-{
-    if !both_heard(a, b, mine, heads, next, theirs, their_heads, their_next) {
-        return Compared::Refused(21);
-    }
-    write_missing(
-        one,
-        from,
-        a,
-        mine,
-        heads,
-        next,
-        two,
-        start,
-        b,
-        theirs,
-        their_heads,
-        their_next,
-        out,
-    )
-}
-
-// Journals that were read, the first with its index.
-fn compare_indexed(
-    one: &[u8],
-    from: usize,
-    a: usize,
-    mine: &[u64],
-    heads: &[u64],
-    next: &[u64],
-    two: &[u8],
-    start: usize,
-    b: usize,
-    theirs: &[u64],
-    out: &mut [u8],
-) -> Compared
-    requires { ⌜ (a ≢ b) × Ready (now one) a from (now mine) (now heads) (now next) × Holds (now two) b start (now theirs) × (length (now theirs) ≤ 3277) ⌝ }
-    ensures { λ r. ⌜ comparedMeant r (now (out .exit)) ≡ pairCompared (journalFrom a (now (one .entry)) from) (journalFrom b (now (two .entry)) start) (now (out .entry)) ⌝ }
-{
-    let mut their_heads = [0u64; BUCKETS];
-    let mut their_next = [0u64; LINES];
-    if !chain(theirs, theirs.len(), &mut their_heads, &mut their_next) {
-        return Compared::Refused(20);
-    }
-    compare_ready(
-        one,
-        from,
-        a,
-        mine,
-        heads,
-        next,
-        two,
-        start,
-        b,
-        theirs,
-        &their_heads,
-        &their_next,
-        out,
-    )
-}
-
-// Journals that were read, with the words of their lines.
+// The lines of journals that were read, with their words.
 fn compare_read(
     one: &[u8],
-    from: usize,
     a: usize,
     mine: &[u64],
     two: &[u8],
-    start: usize,
     b: usize,
     theirs: &[u64],
     out: &mut [u8],
 ) -> Compared
-    requires { ⌜ Holds (now one) a from (now mine) × (length (now mine) ≤ 3277) × Holds (now two) b start (now theirs) × (length (now theirs) ≤ 3277) ⌝ }
-    ensures { λ r. ⌜ comparedMeant r (now (out .exit)) ≡ pairCompared (journalFrom a (now (one .entry)) from) (journalFrom b (now (two .entry)) start) (now (out .entry)) ⌝ }
+    requires { ⌜ Holds (now one) a (now mine) × (length (now mine) ≤ linesLimit) × Holds (now two) b (now theirs) × (length (now theirs) ≤ linesLimit) ⌝ }
+    ensures { λ r. ⌜ comparedMeant r (now (out .exit)) ≡ pairCompared (journalIn a (now (one .entry))) (journalIn b (now (two .entry))) (now (out .entry)) ⌝ }
 {
     if a == b {
         return Compared::Refused(19);
     }
-    let mut heads = [0u64; BUCKETS];
-    let mut next = [0u64; LINES];
-    if !chain(mine, mine.len(), &mut heads, &mut next) {
+    let mut index = [0u64; INDEX];
+    if !chain(mine, &mut index) {
         return Compared::Refused(20);
     }
-    compare_indexed(
-        one,
-        from,
-        a,
-        mine,
-        &heads,
-        &next,
-        two,
-        start,
-        b,
-        theirs,
-        out,
-    )
+    let mut their_index = [0u64; INDEX];
+    if !chain(theirs, &mut their_index) {
+        return Compared::Refused(20);
+    }
+    if !both_heard(a, mine, &index, b, theirs, &their_index) {
+        return Compared::Refused(21);
+    }
+    write_missing(one, a, mine, &index, two, b, theirs, &their_index, out)
 }
 
 // The lines of what one of two columns sent to the other and the other never got, from the buffer's start; answers their length.
@@ -186,12 +90,10 @@ pub fn compare(one: &[u8], two: &[u8], out: &mut [u8]) -> Compared
             Heading::Refused(m) => Compared::Refused(m),
             Heading::Is(b, start, m) => {
                 compare_read(
-                    one,
-                    from,
+                    &one[from..],
                     a,
                     &keys_one[..n],
-                    two,
-                    start,
+                    &two[start..],
                     b,
                     &keys_two[..m],
                     out,

@@ -1,7 +1,8 @@
 // The lines of a journal as words, one for each.
+use crate::line::JOURNAL;
 use crate::line::LineAnswer;
-use crate::line::key_of;
 use crate::line::read_line;
+use crate::word::key_of;
 use bytes::scan::find;
 use closing::reading::Number;
 use closing::reading::read_keyed;
@@ -9,12 +10,15 @@ ghost use Prim.Native.Nat.{_*_, _≤_};
 ghost use mathlib.Core.Path.{_≡_};
 ghost use lib.ListN.{length, drop};
 ghost use Rattle.closing.specs.Tables.{cut};
-ghost use Rattle.journals.specs.Journals.{entriesIn};
+ghost use Rattle.journals.specs.Journals.{entriesIn, journalLimit, shortestLine};
 ghost use Rattle.journals.specs.JournalKeys.{keysIn, nextCut, nextMeant, countMeant, countOf};
 ghost use Rattle.journals.specs.JournalReads.{IsRead};
 
-// As many lines as 32,768 bytes can hold, of ten bytes each.
-pub const LINES: usize = 3277;
+// The bytes of the shortest line, `got=1,0,0`, with its byte 10.
+const SHORTEST: usize = 10;
+
+// As many lines as a journal can have.
+pub const LINES: usize = JOURNAL / SHORTEST + 1;
 
 // The word of the next line, and the place after it.
 pub enum NextKey {
@@ -33,6 +37,7 @@ pub enum Heading {
     Refused(u8),
 }
 
+// The word of the line at a place, and the place after the line; or the number by which the line is refused.
 pub fn next_key(text: &[u8], at: usize, owner: usize) -> NextKey
     requires { ⌜ at ≤ length (now text) ⌝ }
     ensures { λ r. ⌜ nextMeant r ≡ nextCut at owner (cut (drop at (now (text .entry)))) ⌝ }
@@ -47,9 +52,9 @@ pub fn next_key(text: &[u8], at: usize, owner: usize) -> NextKey
     }
 }
 
-// The words of the lines from a place on, each of ten bytes at least.
+// The words of the lines from a place on.
 fn read_entries(text: &[u8], from: usize, owner: usize, keys: &mut [u64]) -> Count
-    requires { ⌜ (from ≤ length (now text)) × (length (now text) ≤ 10 * length (now keys)) ⌝ }
+    requires { ⌜ (from ≤ length (now text)) × (length (now text) ≤ shortestLine * length (now keys)) ⌝ }
     ensures { λ r. ⌜ countMeant r (now (keys .exit)) ≡ keysIn (entriesIn (length (now (text .entry))) owner (drop from (now (text .entry)))) ⌝ }
     ensures { λ r. ⌜ countOf r ≤ length (now (keys .exit)) ⌝ }
 {
@@ -70,10 +75,10 @@ fn read_entries(text: &[u8], from: usize, owner: usize, keys: &mut [u64]) -> Cou
 
 // Reads a journal, and leaves the words of its lines.
 pub fn read_journal(text: &[u8], keys: &mut [u64]) -> Heading
-    requires { ⌜ 32768 ≤ 10 * length (now keys) ⌝ }
+    requires { ⌜ journalLimit ≤ shortestLine * length (now keys) ⌝ }
     ensures { λ r. ⌜ IsRead r (now (text .entry)) (now (keys .exit)) ⌝ }
 {
-    if 32768 < text.len() {
+    if JOURNAL < text.len() {
         return Heading::Refused(19);
     }
     let end = find(text, 0, text.len(), b'\n');

@@ -4,3 +4,4 @@ mod index;
 mod journal;
 pub mod line;
 mod missing;
+mod word;

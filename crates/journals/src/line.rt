@@ -3,11 +3,21 @@ use bytes::scan::find;
 use closing::reading::Number;
 use closing::reading::read_numeral;
 use closing::reading::starts_with;
+use column::packet::HIGHEST;
 ghost use mathlib.Core.Path.{_≡_};
 ghost use Rattle.closing.specs.Text.{read};
 ghost use Rattle.closing.specs.Tables.{pieces};
 ghost use Rattle.journals.specs.Journals.{lineMeant, lineJudged, linePieces, lineOf};
-ghost use Rattle.journals.specs.JournalKeys.{wayNumber, keyOf};
+
+// The bytes that a journal has at most.
+pub const JOURNAL: usize = 32768;
+
+// The kinds of a line's packet.
+const MESSAGE: usize = 1;
+
+const ACKNOWLEDGEMENT: usize = 2;
+
+const HIGHEST_NUMBER: usize = HIGHEST as usize;
 
 pub enum Way {
     Sent,
@@ -16,7 +26,7 @@ pub enum Way {
 
 pub struct Line {
     pub way: Way,
-    // 1 for messages, 2 for acknowledgements.
+    // MESSAGE or ACKNOWLEDGEMENT.
     pub kind: u8,
     pub other: u8,
     pub number: u32,
@@ -30,10 +40,10 @@ pub enum LineAnswer {
 fn judged(way: Way, kind: usize, other: usize, number: usize, owner: usize) -> LineAnswer
     ensures { λ r. ⌜ lineMeant r ≡ lineJudged owner way (read kind) (read other) (read number) ⌝ }
 {
-    if kind == 0 {
+    if kind < MESSAGE {
         return LineAnswer::Refused(19);
     }
-    if 2 < kind {
+    if ACKNOWLEDGEMENT < kind {
         return LineAnswer::Refused(19);
     }
     if 16 <= other {
@@ -42,7 +52,7 @@ fn judged(way: Way, kind: usize, other: usize, number: usize, owner: usize) -> L
     if other == owner {
         return LineAnswer::Refused(19);
     }
-    if 4294967296 <= number {
+    if HIGHEST_NUMBER < number {
         return LineAnswer::Refused(19);
     }
     let kind_byte = kind as u8;
@@ -92,25 +102,4 @@ pub fn read_line(line: &[u8], owner: usize) -> LineAnswer
         return fields(Way::Got, &line[4..], owner);
     }
     LineAnswer::Refused(19)
-}
-
-fn way_number(way: Way) -> u64
-    ensures { λ r. ⌜ r ≡ wayNumber way ⌝ }
-{
-    match way {
-        Way::Sent => 0,
-        Way::Got => 1,
-    }
-}
-
-// No two lines have the same word.
-pub(crate) fn key_of(x: Line) -> u64
-    ensures { λ r. ⌜ r ≡ keyOf x ⌝ }
-{
-    let way = x.way;
-    let kind = x.kind as u64;
-    let other = x.other as u64;
-    let number = x.number as u64;
-    let w = way_number(way) % 2;
-    ((w * 256 + kind) * 256 + other) * 4294967296 + number
 }

@@ -9,7 +9,7 @@ ghost use mathlib.Core.Bool.{true, cond};
 ghost use mathlib.Core.List.{[]};
 ghost use lib.ListN.{length};
 ghost use Rattle.closing.specs.Writing.{Writes};
-ghost use Rattle.journals.specs.Chains.{Indexed};
+ghost use Rattle.journals.specs.Chains.{Placed};
 ghost use Rattle.journals.specs.Missing.{isGiven, entriesFrom, textFrom};
 
 fn counted(missed: bool, n: usize) -> usize
@@ -21,27 +21,18 @@ fn counted(missed: bool, n: usize) -> usize
     0
 }
 
-// How many bytes the lines from a place on take that a sent to b and b never got.
-pub fn missing_length(
-    text: &[u8],
-    from: usize,
-    a: usize,
-    b: usize,
-    theirs: &[u64],
-    m: usize,
-    heads: &[u64],
-    next: &[u64],
-) -> usize
-    requires { ⌜ (from ≤ length (now text)) × (isGiven (entriesFrom a (now text) from) ≡ true) × (a < 16) × (m ≤ length (now theirs)) × (m ≤ length (now next)) × (length (now heads) ≡ 4093) × Indexed (now theirs) m (now heads) (now next) ⌝ }
-    ensures { λ r. ⌜ r ≡ length (textFrom a b (now (theirs .entry)) m (now (text .entry)) from) ⌝ }
+// How many bytes the lines of a text take that a sent to b and b never got.
+pub fn missing_length(text: &[u8], a: usize, b: usize, theirs: &[u64], index: &[u64]) -> usize
+    requires { ⌜ (isGiven (entriesFrom a (now text) 0) ≡ true) × (a < 16) × Placed (now theirs) (now index) ⌝ }
+    ensures { λ r. ⌜ r ≡ length (textFrom a b (now (theirs .entry)) (now (text .entry)) 0) ⌝ }
 {
-    let mut at = from;
+    let mut at: usize = 0;
     let mut count: usize = 0;
     while at < text.len() {
         match next_key(text, at, a) {
             NextKey::Refused(_) => return count,
             NextKey::Is(key, place) => {
-                count += counted(missed_one(a, b, key, theirs, m, heads, next), place - at);
+                count += counted(missed_one(a, b, key, theirs, index), place - at);
                 at = place;
             }
         }
@@ -60,29 +51,26 @@ fn put_piece(out: &mut [u8], at: usize, missed: bool, part: &[u8]) -> usize
     at + size
 }
 
-// The lines from a place on that a sent to b and b never got, as they are.
+// The lines of a text that a sent to b and b never got, as they are, written from a place on; answers the place after them.
 pub fn put_missing(
     text: &[u8],
-    from: usize,
     a: usize,
     b: usize,
     theirs: &[u64],
-    m: usize,
-    heads: &[u64],
-    next: &[u64],
+    index: &[u64],
     out: &mut [u8],
     start: usize,
 ) -> usize
-    requires { ⌜ (from ≤ length (now text)) × (isGiven (entriesFrom a (now text) from) ≡ true) × (a < 16) × (m ≤ length (now theirs)) × (m ≤ length (now next)) × (length (now heads) ≡ 4093) × Indexed (now theirs) m (now heads) (now next) × (start + length (textFrom a b (now theirs) m (now text) from) ≤ length (now out)) ⌝ }
-    ensures { λ r. ⌜ Writes r (now (out .exit)) (now (out .entry)) start (textFrom a b (now (theirs .entry)) m (now (text .entry)) from) ⌝ }
+    requires { ⌜ (isGiven (entriesFrom a (now text) 0) ≡ true) × (a < 16) × Placed (now theirs) (now index) × (start + length (textFrom a b (now theirs) (now text) 0) ≤ length (now out)) ⌝ }
+    ensures { λ r. ⌜ Writes r (now (out .exit)) (now (out .entry)) start (textFrom a b (now (theirs .entry)) (now (text .entry)) 0) ⌝ }
 {
-    let mut at = from;
+    let mut at: usize = 0;
     let mut end = start;
     while at < text.len() {
         match next_key(text, at, a) {
             NextKey::Refused(_) => return end,
             NextKey::Is(key, place) => {
-                let missed = missed_one(a, b, key, theirs, m, heads, next);
+                let missed = missed_one(a, b, key, theirs, index);
                 end = put_piece(out, end, missed, &text[at..place]);
                 at = place;
             }

@@ -1,7 +1,7 @@
 -- Counts and refusals, computed: what a lone column, two columns and trees that are refused give.
 use Prim.Native.Nat.{ℕ}
 use mathlib.Core.Path.{_≡_, refl}
-use mathlib.Core.Bool.{true, false}
+use mathlib.Core.Bool.{true}
 use mathlib.Core.List.{_∷_}
 use lib.Count.{trailingZeros}
 use lib.ListN.{replicate}

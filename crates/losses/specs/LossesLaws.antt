@@ -1,6 +1,6 @@
 -- The counts of the sets: how many there can be, what calls leave, that no step changes the tree, of which trees they are, and that the order is
 -- accepted. Assumes nothing.
-use Prim.Native.Nat.{ℕ, zero, suc, _+_, _^_, _≤_, _<_}
+use Prim.Native.Nat.{ℕ, zero, suc, _^_, _≤_, _<_}
 use mathlib.Core.Path.{_≡_, refl, sym, ap, ap₂, _∙_}
 use mathlib.Core.Bool.{Bool, true, false, cond, and-false}
 use mathlib.Core.List.{List}
@@ -30,7 +30,7 @@ use Rattle.bank.specs.declared.bank.Answer.{Answer}
 use Rattle.bank.specs.declared.bank.Answer.the-variants.{Done, Refused}
 use Rattle.bank.specs.declared.bank.Result.{Result}
 use Rattle.bank.specs.declared.dispatch.Dispatched.{Dispatched}
-use Rattle.bank.specs.declared.step.Step.the-variants.{Order, Halt}
+use Rattle.bank.specs.declared.bank.Step.the-variants.{Order, Halt}
 use Rattle.losses.specs.Losses.{mostColumns, lossesConditions, lossesRefusal, ordered, begun, toRest, ended, oneIf, counted, countedOf, refusedLosses, lossesOf}
 use Rattle.losses.specs.declared.count.Losses.{Losses}
 

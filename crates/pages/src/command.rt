@@ -4,10 +4,10 @@ use crate::print::print_byte;
 use crate::print::print_line;
 use crate::print::print_number;
 use bank::bank::Bank;
+use bank::bank::Step;
 use bank::dispatch::dispatch;
 use bank::page::line_up;
 use bank::page::read;
-use bank::step::Step;
 use bank::step::perform;
 use column::page::PAGE_SIZE;
 

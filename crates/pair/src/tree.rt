@@ -4,12 +4,12 @@ use crate::print::print_line;
 use crate::print::print_number;
 use crate::print::print_set;
 use crate::print::wide;
+use column::topology::Members;
+use column::topology::children;
+use column::topology::subtree;
+use column::topology::subtrees;
 use column::tree::ASCENDING;
-use column::tree::Members;
 use column::tree::Tree;
-use column::tree::children;
-use column::tree::subtree;
-use column::tree::subtrees;
 
 // Column 2 is the root. Its children are 0 and 3; 1 is the child of 0, and 4 that of 1.
 const TREE: Tree = Tree {

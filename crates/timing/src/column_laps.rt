@@ -1,10 +1,10 @@
 // Laps of one step of a lone column. The root is handed over, so that no column is known when the program is compiled.
 use crate::laps::fold;
 use crate::laps::heap;
+use column::outcome::Outcome;
 use column::packet::Number;
 use column::packet::Packet;
 use column::state::Column;
-use column::step::Outcome;
 use column::step::ack;
 use column::step::all;
 use column::step::halt;

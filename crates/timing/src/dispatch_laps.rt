@@ -76,7 +76,7 @@ fn taken_over(b: Bank, first: bool, heads: &mut [u64; 512], doors: &mut [u64; 51
     d
 }
 
-// The fullest bank that is known, 420 packets under way: the root halts with its order under way, and every other column takes over before
+// A crowded bank, 420 packets under way: the root halts with its order under way, and every other column takes over before
 // it takes the order and once more after it.
 fn crowded(heads: &mut [u64; 512], doors: &mut [u64; 512]) -> Bank {
     let f = fresh(star());

@@ -45,11 +45,11 @@ loop-holds : tie.Need-loop-holds Inv-loop μ-loop
 unfolding places
 loop-holds c = (omega arith, refl)
 
-fresh-requires : tie.Need-fresh-requires Inv-loop μ-loop
-fresh-requires c κs = search needs
+fresh-under-requires : tie.Need-fresh-under-requires Inv-loop μ-loop
+fresh-under-requires c κs = search needs
 
 -- the next place is one of the sixteen
-below : (c : tie.After-fresh Inv-loop μ-loop) → c .before .before .loop .i < 16
+below : (c : tie.After-fresh-under Inv-loop μ-loop) → c .before .before .loop .i < 16
 below c =
     let e = c .before .before .before .before in
     omega (arith, tree-sixteen (e .before .before .args .t) (good e))
@@ -75,7 +75,7 @@ loop-again c =
     let placed : Column → Bank = λ x. record { tree = t; columns = set (partlyFresh t i .columns) i x; count = 0 } in (
       omega arith,
       rw (l .loop .inv .1)
-          (ap placed (c .fresh .ensures ∙ sym (fresh-place t (good e) i (c .before .loop-test .taken)))
+          (ap placed (c .fresh-under .ensures ∙ sym (fresh-place t (good e) i (c .before .loop-test .taken)))
           ∙ ap (λ (x : List Column). record { tree = t; columns = x; count = 0 }) (places-set (freshPlace t) 16 i noColumn (below c))),
     )
 
@@ -102,7 +102,7 @@ fresh-spec =
     returns
     cast-root
     loop-holds
-    fresh-requires
+    fresh-under-requires
     mul-t13
     element-set-from-b
     add-i

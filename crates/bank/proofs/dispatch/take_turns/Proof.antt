@@ -1,5 +1,4 @@
--- The steps so far and those of a dispatch from here are those of the whole; the bank stands, who runs in it is as it was, and the set is
--- that of the columns that can do anything.
+-- The steps so far and those of a dispatch from here are those of the whole; the bank stands, who runs stays, and the set is of all that are ready.
 use borrow.Author.Needs.{needs}
 use Prim.Native.Nat.{ℕ, _+_, _-_, _≤_, _<_}
 use native.Mathlib.Omega.{arith}
@@ -94,12 +93,8 @@ small : (c : tie.After-acting Inv-loop μ-loop) → c .acting .result < 16
 small c =
     let n = c .before .before in
     let m = at n .loop in
-    omega (
-      arith,
-      c .acting .ensures,
-      turn-below (before n) (m .inv .1 .0) (n .step-of .result) (quick n) (some n),
-      tree-sixteen (m .d .tree) (stands _ (m .inv .1 .0) .tree),
-    )
+    let below = turn-below (before n) (m .inv .1 .0) (n .step-of .result) (quick n) (some n) in
+    omega (arith, c .acting .ensures, below, tree-sixteen (m .d .tree) (stands _ (m .inv .1 .0) .tree))
 
 mul-take-turn : tie.Need-mul-take-turn Inv-loop μ-loop
 mul-take-turn c = search (needs, small c)

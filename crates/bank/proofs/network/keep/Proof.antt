@@ -4,9 +4,7 @@ use mathlib.Core.Path.{_≡_, refl, sym, ap, _∙_}
 use mathlib.Core.Logic.{⊎-elim}
 use mathlib.Core.Bool.{true, false, not}
 use native.Mathlib.Omega.{arith}
-use lib.Dec.{eqb}
 use Rattle.column.specs.Sets.{has}
-use borrow.Author.Tests.{eq-eqb, ne-eqb}
 use lib.ListN.{length, set, take, getD, length-set}
 use Rattle.bank.specs.Lists.{keeping, keeping-longer, keeping-no, partly, partly-start, partly-read, partly-yes, partly-no}
 use Rattle.bank.specs.Networks.{elsewhere}

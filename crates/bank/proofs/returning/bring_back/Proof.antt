@@ -4,7 +4,8 @@ use mathlib.Core.Path.{_≡_, sym, ap, _∙_}
 use mathlib.Core.List.{List, []}
 use native.Mathlib.Omega.{arith}
 use Rattle.column.specs.Sets.{lowest}
-use Rattle.column.specs.SetLaws.{selected-lt, lowest-lt}
+use Rattle.column.specs.SetLaws.{selected-lt}
+use Rattle.column.specs.LowestLaws.{lowest-lt}
 use Rattle.column.specs.TreeLaws.{check-exact, tree-sixteen}
 use Rattle.column.specs.declared.state.Column.{Column}
 use Rattle.bank.specs.Banks.{State, state, columnAt, runs, runningOf}

@@ -1,10 +1,9 @@
 use borrow.Author.Needs.{needs}
 use mathlib.Core.Path.{sym, ap, _∙_}
 use mathlib.Core.Logic.{⊎-elim}
-use Rattle.bank.specs.Networks.{puts}
 use Rattle.bank.specs.ChangeLaws.{settled-none, refused-at}
 use mathlib.Core.Logic.{inl, inr}
-use Rattle.column.specs.declared.step.Answer.the-variants as core-is
+use Rattle.column.specs.declared.outcome.Answer.the-variants as core-is
 use Rattle.bank.specs.ChangeLaws.{settled-put}
 use Rattle.bank.proofs.settling.settle.Statement.{statement}
 use Rattle.bank.proofs.settling.settle.Tie as tie

@@ -7,7 +7,6 @@ use Rattle.bank.specs.Networks.{removed}
 use Rattle.bank.specs.StepLaws.{settled-stays}
 use Rattle.bank.specs.ChangeLaws.{changed-off}
 use Prim.Native.Nat.{_-_}
-use mathlib.Core.Path.{_≡_}
 use Rattle.column.specs.Steps.{meant}
 use Rattle.bank.specs.Banks.{State}
 use Rattle.bank.specs.Networks.{counting}

@@ -1,5 +1,4 @@
-use borrow.Author.Needs.{needs}
-use mathlib.Core.Path.{_≡_, refl}
+use mathlib.Core.Path.{refl}
 use borrow.Author.Tests.{eq-eqb}
 use Rattle.bank.specs.Performs.{perform}
 use Rattle.bank.proofs.step.order.Statement.{statement}

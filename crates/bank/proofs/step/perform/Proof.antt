@@ -7,7 +7,7 @@ use Rattle.bank.specs.Changes.{isOwn}
 use mathlib.Core.Path.{subst}
 use mathlib.Core.Bool.{true}
 use Rattle.bank.specs.Places.{acts}
-use Rattle.bank.specs.declared.step.Step.{Step}
+use Rattle.bank.specs.declared.bank.Step.{Step}
 use Rattle.bank.proofs.step.perform.Statement.{statement}
 use Rattle.bank.proofs.step.perform.Tie as tie
 

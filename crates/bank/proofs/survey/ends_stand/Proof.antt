@@ -1,6 +1,4 @@
 use borrow.Author.Needs.{needs}
-use mathlib.Core.Bool.{_&&_, false}
-use mathlib.Core.Path.{_≡_, refl}
 use borrow.Author.Tests.{lt-ltb, le-ltb, eq-eqb, ne-eqb}
 use Rattle.bank.specs.Standing.{endsStand}
 use Rattle.bank.specs.Words.{receiverIn, senderIn}

@@ -2,7 +2,7 @@ use mathlib.Core.Path.{_≡_, sym, ap, _∙_}
 use mathlib.Core.Bool.{true}
 use native.Mathlib.Omega.{arith}
 use borrow.Author.Tests.{not-true, not-false}
-use Rattle.bank.specs.declared.step.Step.the-variants.{Order}
+use Rattle.bank.specs.declared.bank.Step.the-variants.{Order}
 use Rattle.closing.specs.Text.{orderKey, startsWith, afterKey}
 use Rattle.closing.specs.Lines.{perform, doorsIn, asking}
 use Rattle.closing.specs.Readings.{starts-length, after-other, after-rest}

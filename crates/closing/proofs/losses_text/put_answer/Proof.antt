@@ -1,12 +1,11 @@
 use borrow.Author.Needs.{needs}
-use Prim.Native.Nat.{ℕ, _≤_, _<_}
+use Prim.Native.Nat.{_<_}
 use mathlib.Core.Path.{_≡_, sym, ap, _∙_}
 use native.Mathlib.Omega.{arith}
-use lib.ListN.{length}
 use Rattle.bank.specs.Steps.{answered}
 use Rattle.bank.specs.declared.bank.Answer.{Answer}
 use Rattle.closing.specs.ScriptLaws.{refused-length}
-use Rattle.closing.specs.Tables.{Placed, placedAt, readTable}
+use Rattle.closing.specs.Tables.{Placed, placedAt}
 use Rattle.closing.specs.LossTexts.{tableText, lossesText}
 use Rattle.closing.specs.LossTextLaws.{losses-long, losses-read}
 use Rattle.closing.proofs.losses_text.put_answer.Statement.{statement}

@@ -1,14 +1,13 @@
 use borrow.Author.Needs.{needs}
-use Prim.Native.Nat.{ℕ, _-_, _≤_, _<_}
+use Prim.Native.Nat.{_-_, _<_}
 use mathlib.Core.Path.{_≡_, sym, ap, _∙_}
 use native.Mathlib.Omega.{arith}
 use lib.ListN.{length, drop, length-drop}
 use lib.Seq.{take-all}
 use Rattle.losses.specs.Losses.{lossesRefusal}
-use Rattle.closing.specs.Text.{Reading}
 use Rattle.closing.specs.Readings.{numberMeant}
 use Rattle.closing.specs.ScriptLaws.{refused-length}
-use Rattle.closing.specs.LossTexts.{stepCount, countsText}
+use Rattle.closing.specs.LossTexts.{stepCount}
 use Rattle.closing.specs.LossTextLaws.{counts-fit, asked-refused, asked-unread, asked-missing, asked-counts}
 use Rattle.closing.specs.declared.reading.Number.{Number}
 use Rattle.closing.proofs.losses_text.put_asked.Statement.{statement}

@@ -1,5 +1,5 @@
 use Prim.Native.Nat.{ℕ, min}
-use mathlib.Core.Path.{_≡_, sym, ap, _∙_}
+use mathlib.Core.Path.{_≡_, ap, _∙_}
 use native.Mathlib.Omega.{arith}
 use Rattle.closing.specs.Text.{numeral}
 use borrow.Author.Needs.{needs}

@@ -1,12 +1,12 @@
 -- `frame::read_frame` meets its contract. The loop's invariant: what is left of the frame, laid after the packets so far, is the answer.
 -- Assumes nothing.
-use Prim.Native.Nat.{ℕ, suc, _+_, _-_, _≤_, _<_}
-use mathlib.Core.Path.{_≡_, refl, sym, ap, ap₂, _∙_}
+use Prim.Native.Nat.{ℕ, suc, _+_, _-_, _≤_}
+use mathlib.Core.Path.{_≡_, refl, sym, ap, _∙_}
 use mathlib.Core.List.{List}
 use native.Mathlib.Omega.{arith}
 use lib.ListN.{length, take, drop, set, length-drop, length-set}
 use lib.Seq.{drop-drop, take-all}
-use Rattle.column.specs.Refusals.{given, refused}
+use Rattle.column.specs.Refusals.{given}
 use Rattle.column.specs.Packets.{part, wide, read}
 use Rattle.column.specs.PacketLaws.{read-sized}
 use Rattle.column.specs.Frames.{framePackets, readFrame, slot, noFrame, frameOf}

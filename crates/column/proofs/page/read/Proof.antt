@@ -1,5 +1,4 @@
 use borrow.Author.Needs.{needs}
-use native.Mathlib.Omega.{arith}
 use mathlib.Core.Path.{sym, ap, _∙_, _≡_}
 use borrow.Author.Tests.{eq-eqb, ne-eqb, leb-false}
 use Rattle.column.specs.Refusals.{refused}

@@ -1,8 +1,5 @@
 use borrow.Author.Needs.{needs}
-use mathlib.Core.Path.{_∙_, ap}
-use Prim.Native.Nat.{ℕ}
-use Rattle.column.specs.Refusals.{first, earlier}
-use Rattle.column.specs.Steps.{ackConditions, ackRefusal}
+use Rattle.column.specs.Steps.{ackRefusal}
 use Rattle.column.proofs.refusal.ack_refusal.Statement.{statement}
 use Rattle.column.proofs.refusal.ack_refusal.Tie as tie
 

@@ -1,8 +1,5 @@
 use borrow.Author.Needs.{needs}
-use mathlib.Core.Path.{_∙_, ap}
-use Prim.Native.Nat.{ℕ}
-use Rattle.column.specs.Refusals.{first, earlier}
-use Rattle.column.specs.Steps.{noteConditions, noteRefusal}
+use Rattle.column.specs.Steps.{noteRefusal}
 use Rattle.column.proofs.refusal.note_refusal.Statement.{statement}
 use Rattle.column.proofs.refusal.note_refusal.Tie as tie
 

@@ -1,5 +1,4 @@
 use borrow.Author.Needs.{needs}
-use mathlib.Core.Path.{_∙_}
 use Rattle.column.specs.Refusals.{first}
 use Rattle.column.specs.RefusalLaws.{earlier-assoc}
 use Rattle.column.specs.Columns.{standing}

@@ -1,5 +1,4 @@
 use borrow.Author.Needs.{needs}
-use mathlib.Core.Path.{sym}
 use Rattle.column.specs.SetLaws.{has-above, without-none}
 use Rattle.column.proofs.returning.strike.Statement.{statement}
 use Rattle.column.proofs.returning.strike.Tie as tie

@@ -24,14 +24,14 @@ cast-root c =
     let good = earlier-none (treeRefusal t) _ (sym (e .before .column-refusal .ensures) ∙ e .if1 .left) .0 in
     omega (arith, tree-root t good)
 
-fresh-requires : tie.Need-fresh-requires
-fresh-requires c κs = search needs
+fresh-under-requires : tie.Need-fresh-under-requires
+fresh-under-requires c κs = search needs
 
 returns-2 : tie.Need-returns-2
 returns-2 c =
     let e = c .before .before in
-    simp (eq-eqb _ _ (sym (e .before .column-refusal .ensures) ∙ e .if1 .left)) (ap given (c .fresh .ensures))
+    simp (eq-eqb _ _ (sym (e .before .column-refusal .ensures) ∙ e .if1 .left)) (ap given (c .fresh-under .ensures))
 
 pub fresh-spec : {M : Type 1} → statement M
 fresh-spec =
-    tie.close (tie.spec column-refusal-requires returns cast-root fresh-requires returns-2)
+    tie.close (tie.spec column-refusal-requires returns cast-root fresh-under-requires returns-2)

@@ -5,7 +5,7 @@ use mathlib.Core.Path.{_≡_, sym, ap, _∙_}
 use native.Mathlib.Omega.{arith}
 use borrow.Fn.Kinds.{In}
 use borrow.Fn.PlainCycle.{Measures, is, falls, and}
-use Rattle.column.specs.SetLaws.{lowest-lt}
+use Rattle.column.specs.LowestLaws.{lowest-lt}
 use Rattle.column.specs.Trees.{subtreeIn, subtreesIn}
 use Rattle.column.specs.Descents.{subtree-more, subtrees-more}
 use Rattle.column.proofs.traversal.subtree_in.Reads as subtree-in

@@ -37,50 +37,88 @@ enum-known-m c = search needs
 enum-known-b : tie.Need-enum-known-b
 enum-known-b c = search needs
 
-array-share-prefix-keys-one : tie.Need-array-share-prefix-keys-one
-array-share-prefix-keys-one c =
+sub-compare-read : tie.Need-sub-compare-read
+sub-compare-read c =
     let b = c .before in
     let q = b .before .before .before in
     let a = q .before .before .before in
     let r = a .before .before .before in
     let one = as-journal (start r .args .one .now) (r .read-journal .last .1 .0) (a .a .given .1) (r .read-journal .ensures) in
-    omega (arith, one .1, r .read-journal .kept .1 .0)
+    search (needs, one .inside)
 
-slice-aggregate-compare-read : tie.Need-slice-aggregate-compare-read
-slice-aggregate-compare-read c =
+part-compare-read-start : tie.Need-part-compare-read-start
+part-compare-read-start c =
+    let b = c .before in
+    let q = b .before .before .before in
+    let a = q .before .before .before in
+    let r = a .before .before .before in
+    let one = as-journal (start r .args .one .now) (r .read-journal .last .1 .0) (a .a .given .1) (r .read-journal .ensures) in
+    search (needs, one .inside)
+
+part-compare-read-end : tie.Need-part-compare-read-end
+part-compare-read-end c = search needs
+
+array-share-prefix-keys-one : tie.Need-array-share-prefix-keys-one
+array-share-prefix-keys-one c =
     let b = c .before .before in
     let q = b .before .before .before in
     let a = q .before .before .before in
     let r = a .before .before .before in
     let one = as-journal (start r .args .one .now) (r .read-journal .last .1 .0) (a .a .given .1) (r .read-journal .ensures) in
-    sym (length-take-le _ _ (one .1))
+    omega (arith, one .few, r .read-journal .kept .1 .0)
 
-array-share-prefix-keys-two : tie.Need-array-share-prefix-keys-two
-array-share-prefix-keys-two c =
-    let b = c .before .before in
+slice-aggregate-compare-read : tie.Need-slice-aggregate-compare-read
+slice-aggregate-compare-read c =
+    let b = c .before .before .before in
     let q = b .before .before .before in
-    let two = as-journal (start (first q) .args .two .now) (q .read-journal2 .last .1 .0) (b .b .given .1) (q .read-journal2 .ensures) in
-    omega (arith, two .1, q .read-journal2 .kept .1 .0)
+    let a = q .before .before .before in
+    let r = a .before .before .before in
+    let one = as-journal (start r .args .one .now) (r .read-journal .last .1 .0) (a .a .given .1) (r .read-journal .ensures) in
+    sym (length-take-le _ _ (one .few))
 
-slice-aggregate-compare-read-2 : tie.Need-slice-aggregate-compare-read-2
-slice-aggregate-compare-read-2 c =
+sub-compare-read-2 : tie.Need-sub-compare-read-2
+sub-compare-read-2 c =
     let b = c .before .before .before in
     let q = b .before .before .before in
     let two = as-journal (start (first q) .args .two .now) (q .read-journal2 .last .1 .0) (b .b .given .1) (q .read-journal2 .ensures) in
-    sym (length-take-le _ _ (two .1))
+    search (needs, two .inside)
+
+part-compare-read-start-2 : tie.Need-part-compare-read-start-2
+part-compare-read-start-2 c =
+    let b = c .before .before .before in
+    let q = b .before .before .before in
+    let two = as-journal (start (first q) .args .two .now) (q .read-journal2 .last .1 .0) (b .b .given .1) (q .read-journal2 .ensures) in
+    search (needs, two .inside)
+
+part-compare-read-end-2 : tie.Need-part-compare-read-end-2
+part-compare-read-end-2 c = search needs
+
+array-share-prefix-keys-two : tie.Need-array-share-prefix-keys-two
+array-share-prefix-keys-two c =
+    let b = c .before .before .before .before in
+    let q = b .before .before .before in
+    let two = as-journal (start (first q) .args .two .now) (q .read-journal2 .last .1 .0) (b .b .given .1) (q .read-journal2 .ensures) in
+    omega (arith, two .few, q .read-journal2 .kept .1 .0)
+
+slice-aggregate-compare-read-2 : tie.Need-slice-aggregate-compare-read-2
+slice-aggregate-compare-read-2 c =
+    let b = c .before .before .before .before .before in
+    let q = b .before .before .before in
+    let two = as-journal (start (first q) .args .two .now) (q .read-journal2 .last .1 .0) (b .b .given .1) (q .read-journal2 .ensures) in
+    sym (length-take-le _ _ (two .few))
 
 compare-read-requires : tie.Need-compare-read-requires
 compare-read-requires c κs =
-    let b = c .before .before .before .before in
+    let b = c .before .before .before .before .before .before in
     let q = b .before .before .before in
     let a = q .before .before .before in
     let r = a .before .before .before in
     let one = as-journal (start r .args .one .now) (r .read-journal .last .1 .0) (a .a .given .1) (r .read-journal .ensures) in
     let two = as-journal (start (first q) .args .two .now) (q .read-journal2 .last .1 .0) (b .b .given .1) (q .read-journal2 .ensures) in (
-      one .0,
-      few-words (r .read-journal .last .1 .0) (one .1) (r .read-journal .kept .1 .0),
-      two .0,
-      few-words (q .read-journal2 .last .1 .0) (two .1) (q .read-journal2 .kept .1 .0),
+      one .holds,
+      few-words (r .read-journal .last .1 .0) (one .few) (r .read-journal .kept .1 .0),
+      two .holds,
+      few-words (q .read-journal2 .last .1 .0) (two .few) (q .read-journal2 .kept .1 .0),
     )
 
 returns : tie.Need-returns
@@ -96,7 +134,7 @@ returns-2 c =
     let a = q .before .before .before in
     let r = a .before .before .before in
     let one = as-journal (start r .args .one .now) (r .read-journal .last .1 .0) (a .a .given .1) (r .read-journal .ensures) in
-    sym (second-refused _ _ _ _ _ (one .0 .journal) (as-refused (start (first q) .args .two .now) (q .read-journal2 .last .1 .0) (b .m .given .1) (q .read-journal2 .ensures)))
+    sym (second-refused _ _ _ _ _ (one .journal) (as-refused (start (first q) .args .two .now) (q .read-journal2 .last .1 .0) (b .m .given .1) (q .read-journal2 .ensures)))
 
 same-length : tie.Need-same-length
 same-length c = search needs
@@ -104,13 +142,13 @@ same-length c = search needs
 returns-3 : tie.Need-returns-3
 returns-3 c =
     let w = c .before .before in
-    let b = w .before .before .before .before .before in
+    let b = w .before .before .before .before .before .before .before in
     let q = b .before .before .before in
     let a = q .before .before .before in
     let r = a .before .before .before in
     let one = as-journal (start r .args .one .now) (r .read-journal .last .1 .0) (a .a .given .1) (r .read-journal .ensures) in
     let two = as-journal (start (first q) .args .two .now) (q .read-journal2 .last .1 .0) (b .b .given .1) (q .read-journal2 .ensures) in
-    w .compare-read .ensures ∙ sym (both-given _ _ _ _ _ (one .0 .journal) (two .0 .journal))
+    w .compare-read .ensures ∙ sym (both-given _ _ _ _ _ (one .journal) (two .journal))
 
 pub compare-spec : {M : Type 1} → statement M
 compare-spec =
@@ -124,8 +162,14 @@ compare-spec =
     read-journal-requires-2
     enum-known-m
     enum-known-b
+    sub-compare-read
+    part-compare-read-start
+    part-compare-read-end
     array-share-prefix-keys-one
     slice-aggregate-compare-read
+    sub-compare-read-2
+    part-compare-read-start-2
+    part-compare-read-end-2
     array-share-prefix-keys-two
     slice-aggregate-compare-read-2
     compare-read-requires

@@ -6,7 +6,7 @@ use lib.ListN.{length, length-append}
 use Rattle.closing.specs.Writing.{Writes, writes-more}
 use Rattle.journals.specs.Missing.{textFrom}
 use Rattle.journals.specs.Journals.{missing}
-use Rattle.journals.specs.JournalReads.{linesFrom, missing-text}
+use Rattle.journals.specs.JournalReads.{linesIn, missing-text}
 use Rattle.journals.specs.Comparing.{placed-short, placed-both}
 use borrow.Author.Needs.{needs}
 use Rattle.journals.proofs.comparison.write_missing.Statement.{statement}
@@ -14,30 +14,29 @@ use Rattle.journals.proofs.comparison.write_missing.Tie as tie
 
 module _ (c : tie.After-slice-known) where
   abbrev start : tie.Start
-  start = c .before .before .before .before .before .before .before .before .before
+  start = c .before .before .before .before .before .before .before
+
+  -- what the words say, and what the lines say
+  abbrev first-text : List ℕ
+  first-text = textFrom (start .args .a) (start .args .b) (start .args .theirs .now) (start .args .one .now) 0
+
+  abbrev second-text : List ℕ
+  second-text = textFrom (start .args .b) (start .args .a) (start .args .mine .now) (start .args .two .now) 0
 
   abbrev first : List ℕ
-  first =
-      missing (start .args .a) (start .args .b) (linesFrom (start .args .a) (start .args .one .now) (start .args .from))
-      (linesFrom (start .args .b) (start .args .two .now) (start .args .start))
+  first = missing (start .args .a) (start .args .b) (linesIn (start .args .a) (start .args .one .now)) (linesIn (start .args .b) (start .args .two .now))
 
   abbrev second : List ℕ
-  second =
-      missing (start .args .b) (start .args .a) (linesFrom (start .args .b) (start .args .two .now) (start .args .start))
-      (linesFrom (start .args .a) (start .args .one .now) (start .args .from))
+  second = missing (start .args .b) (start .args .a) (linesIn (start .args .b) (start .args .two .now)) (linesIn (start .args .a) (start .args .one .now))
 
-  first-is : textFrom (start .args .a) (start .args .b) (start .args .theirs .now) (length (start .args .theirs .now)) (start .args .one .now) (start .args .from) ≡ first
+  first-is : first-text ≡ first
   first-is = missing-text (start .pre .0 .holds) (start .pre .1 .holds)
 
-  second-is : textFrom (start .args .b) (start .args .a) (start .args .mine .now) (length (start .args .mine .now)) (start .args .two .now) (start .args .start) ≡ second
+  second-is : second-text ≡ second
   second-is = missing-text (start .pre .1 .holds) (start .pre .0 .holds)
 
 -- both texts fit
-room : (c : tie.Else2)
-    → let s = start (c .before .before .before .before) in
-    length (textFrom (s .args .a) (s .args .b) (s .args .theirs .now) (length (s .args .theirs .now)) (s .args .one .now) (s .args .from))
-    + length (textFrom (s .args .b) (s .args .a) (s .args .mine .now) (length (s .args .mine .now)) (s .args .two .now) (s .args .start))
-    ≤ length (s .args .out .now)
+room : (c : tie.Else2) → let k = c .before .before .before .before in length (first-text k) + length (second-text k) ≤ length (start k .args .out .now)
 room c =
     omega (arith, c .before .before .if1 .left, c .if2 .left, c .before .before .before .missing-length .ensures, c .before .missing-length2 .ensures)
 
@@ -67,19 +66,15 @@ returns-2 c =
 put-missing-requires : tie.Need-put-missing-requires
 put-missing-requires c κs =
     let e = c .before in
-    let k = e .before .before .before .before in
-    let q = start k .pre .0 .holds in
-    let p = start k .pre .1 in
-    (q .inside, q .well, q .below, omega arith, p .placed-in .places, p .placed-in .buckets, p .placed-in .indexed, omega (arith, room e))
+    let p = start (e .before .before .before .before) .pre in
+    (p .0 .holds .well, p .0 .holds .below, p .1 .placed-in, omega (arith, room e))
 
 put-missing-requires-2 : tie.Need-put-missing-requires-2
 put-missing-requires-2 c κs =
     let w = c .before .before .before in
     let e = w .before .before in
-    let k = e .before .before .before .before in
-    let q = start k .pre .1 .holds in
-    let p = start k .pre .0 in
-    (q .inside, q .well, q .below, omega arith, p .placed-in .places, p .placed-in .buckets, p .placed-in .indexed, omega (arith, room e, w .put-missing .ensures .place, w .put-missing .kept .1 .1 .1 .1 .1 .1 .1 .1 .0))
+    let p = start (e .before .before .before .before) .pre in
+    (p .1 .holds .well, p .1 .holds .below, p .0 .placed-in, omega (arith, room e, w .put-missing .ensures .place, w .put-missing .kept .1 .1 .1 .1 .1 .0))
 
 same-length : tie.Need-same-length
 same-length c = search needs
@@ -90,11 +85,9 @@ returns-3 c =
     let w = y .before .before .before .before in
     let e = w .before .before in
     let k = e .before .before .before .before in
-    let v = textFrom (start k .args .a) (start k .args .b) (start k .args .theirs .now) (length (start k .args .theirs .now)) (start k .args .one .now) (start k .args .from) in
-    let u = textFrom (start k .args .b) (start k .args .a) (start k .args .mine .now) (length (start k .args .mine .now)) (start k .args .two .now) (start k .args .start) in
     placed-both (start k .args .out .now) (first k) (second k) (omega (arith, room e, ap length (first-is k), ap length (second-is k)))
-    (subst (Writes (y .put-missing2 .result) (y .put-missing2 .last .1 .1 .1 .1 .1 .1 .1 .1 .0) (start k .args .out .now) 0) (ap₂ (λ (x z : List ℕ). x ++ z) (first-is k) (second-is k))
-    (writes-more v u (omega (arith, room e, length-append v u)) (w .put-missing .ensures) (y .put-missing2 .ensures)))
+    (subst (Writes (y .put-missing2 .result) (y .put-missing2 .last .1 .1 .1 .1 .1 .0) (start k .args .out .now) 0) (ap₂ (λ (x z : List ℕ). x ++ z) (first-is k) (second-is k))
+    (writes-more (first-text k) (second-text k) (omega (arith, room e, length-append (first-text k) (second-text k))) (w .put-missing .ensures) (y .put-missing2 .ensures)))
 
 pub write-missing-spec : {M : Type 1} → statement M
 write-missing-spec =

@@ -1,3 +1,5 @@
+use native.Mathlib.Omega.{arith}
+use lib.ListN.{length-set}
 use Rattle.journals.specs.ChainLaws.{indexed-more}
 use borrow.Author.Needs.{needs}
 use Rattle.journals.proofs.index.add.Statement.{statement}
@@ -9,38 +11,38 @@ mul-bucket c = search needs
 shared-slice-read-bucket : tie.Need-shared-slice-read-bucket
 shared-slice-read-bucket c = search needs
 
-mul-next : tie.Need-mul-next
-mul-next c = search needs
+mul-index : tie.Need-mul-index
+mul-index c = search needs
 
-slice-read-next : tie.Need-slice-read-next
-slice-read-next c = search needs
+slice-read-index : tie.Need-slice-read-index
+slice-read-index c = search needs
 
-mul-next-2 : tie.Need-mul-next-2
-mul-next-2 c = search needs
+add-index : tie.Need-add-index
+add-index c = search needs
 
-slice-write-next : tie.Need-slice-write-next
-slice-write-next c = search needs
+mul-index-2 : tie.Need-mul-index-2
+mul-index-2 c = search needs
 
-add-heads : tie.Need-add-heads
-add-heads c = search needs
+slice-write-index : tie.Need-slice-write-index
+slice-write-index c = search needs
 
-mul-heads : tie.Need-mul-heads
-mul-heads c = search needs
+add-index-2 : tie.Need-add-index-2
+add-index-2 c = search needs
 
-slice-write-heads : tie.Need-slice-write-heads
-slice-write-heads c = search needs
+mul-index-3 : tie.Need-mul-index-3
+mul-index-3 c = search needs
+
+slice-write-index-2 : tie.Need-slice-write-index-2
+slice-write-index-2 c = simp length-set (omega (arith, c .before .before .pre .1))
 
 same-length : tie.Need-same-length
 same-length c = search needs
-
-same-length-2 : tie.Need-same-length-2
-same-length-2 c = search needs
 
 returns : tie.Need-returns
 returns c =
     let s = c .before .before in
     let a = s .args in
-    indexed-more (a .keys .now) (a .n) (a .heads .now) (a .next .now) (s .pre .1) (s .pre .2) (s .pre .3)
+    indexed-more (a .keys .now) (a .n) (a .index .now) (s .pre .1) (s .pre .2)
 
 pub add-spec : {M : Type 1} → statement M
 add-spec =
@@ -48,13 +50,13 @@ add-spec =
     (tie.spec
     mul-bucket
     shared-slice-read-bucket
-    mul-next
-    slice-read-next
-    mul-next-2
-    slice-write-next
-    add-heads
-    mul-heads
-    slice-write-heads
+    mul-index
+    slice-read-index
+    add-index
+    mul-index-2
+    slice-write-index
+    add-index-2
+    mul-index-3
+    slice-write-index-2
     same-length
-    same-length-2
     returns)

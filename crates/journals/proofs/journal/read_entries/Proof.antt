@@ -2,6 +2,7 @@ use Prim.Native.Nat.{_-_, _*_, _≤_, _<_}
 use mathlib.Core.Path.{_≡_, refl, sym, ap, _∙_}
 use native.Mathlib.Omega.{arith}
 use lib.ListN.{length, take, length-set}
+use Rattle.journals.specs.Journals.{shortestLine}
 use Rattle.journals.specs.JournalKeys.{nextMeant, keysFrom, withKeys, keys-stop, keys-step, keys-end, with-none, with-refused, with-end, with-step, take-written}
 use borrow.Author.Needs.{needs}
 use Rattle.journals.proofs.journal.read_entries.Statement.{statement}
@@ -9,7 +10,7 @@ use Rattle.journals.proofs.journal.read_entries.Tie as tie
 
 abbrev Inv-loop : tie.InvT-loop
 Inv-loop text from owner keys₀ at₀ count₀ keys at count =
-    (at ≤ length text) × (10 * count ≤ at) × (length keys ≡ length keys₀) × (length text ≤ 10 * length keys₀)
+    (at ≤ length text) × (shortestLine * count ≤ at) × (length keys ≡ length keys₀) × (length text ≤ shortestLine * length keys₀)
     × (keysFrom owner text from ≡ withKeys (take count keys) (keysFrom owner text at))
 
 abbrev μ-loop : tie.MeasureT-loop
@@ -58,7 +59,7 @@ loop-less c =
     let l = k .before .before in
     let a = l .before .before .before .args in
     let z = keys-step (a .owner) (a .text .now) (l .loop .at) (k .before .loop-test .taken) _ _ (sym (k .next-key .ensures) ∙ ap nextMeant (c .before .key .given .1)) in
-    omega (arith, z .ten, z .inside)
+    omega (arith, z .long, z .inside)
 
 loop-again : tie.Need-loop-again Inv-loop μ-loop
 loop-again c =
@@ -69,7 +70,7 @@ loop-again c =
     let room : l .loop .count < length (l .loop .keys) =
     omega (arith, l .loop .inv .1, l .loop .inv .2, l .loop .inv .3, k .before .loop-test .taken) in (
       z .inside,
-      omega (arith, l .loop .inv .1, z .ten),
+      omega (arith, l .loop .inv .1, z .long),
       simp length-set (l .loop .inv .2),
       l .loop .inv .3,
       l .loop .inv .4 ∙ ap (withKeys _) (z .rest-keys) ∙ with-step _ _ _ _ (take-written (l .loop .keys) (l .loop .count) _ room),

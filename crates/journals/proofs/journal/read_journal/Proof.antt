@@ -4,7 +4,7 @@ use native.Mathlib.Omega.{arith}
 use lib.ListN.{length}
 use Rattle.closing.specs.Readings.{numberMeant}
 use Rattle.journals.specs.JournalKeys.{countMeant, countOf}
-use Rattle.journals.specs.JournalReads.{journal-long, journal-unended, journal-unread, journal-above, journal-owned, read-refused, read-holds}
+use Rattle.journals.specs.JournalReads.{journal-long, journal-unended, journal-unread, journal-above, journal-owned, read-refused, read-headed}
 use Rattle.journals.specs.declared.journal.Count.{Count}
 use borrow.Author.Needs.{needs}
 use Rattle.journals.proofs.journal.read_journal.Statement.{statement}
@@ -100,13 +100,12 @@ returns-6 c =
     let o = t .before .before in
     let k = o .before .before in
     let e = k .before .before .before in
-    let f = e .before .find .ensures in (
-      read-holds _ _ (e .before .find .result + 1)
-          (journal-owned _ (e .before .before .if1 .left) _ (f .0) (f .1) (e .if2 .left) _ (sym (k .read-keyed .ensures) ∙ ap numberMeant (o .owner .given .1)) (t .if3 .left))
-          _ (ap (λ (r : Count). countMeant r (x .read-entries .last .1 .1 .1 .0)) (sym (n .count .given .1)) ∙ x .read-entries .ensures .0)
-          (omega (arith, f .1, e .if2 .left)) (t .if3 .left),
-      subst (λ (r : Count). countOf r ≤ length (x .read-entries .last .1 .1 .1 .0)) (n .count .given .1) (x .read-entries .ensures .1),
-    )
+    let f = e .before .find .ensures in
+    read-headed _ _ (e .before .find .result + 1)
+    (journal-owned _ (e .before .before .if1 .left) _ (f .0) (f .1) (e .if2 .left) _ (sym (k .read-keyed .ensures) ∙ ap numberMeant (o .owner .given .1)) (t .if3 .left))
+    _ _ (ap (λ (r : Count). countMeant r (x .read-entries .last .1 .1 .1 .0)) (sym (n .count .given .1)) ∙ x .read-entries .ensures .0)
+    (omega (arith, f .1, e .if2 .left)) (t .if3 .left)
+    (subst (λ (r : Count). countOf r ≤ length (x .read-entries .last .1 .1 .1 .0)) (n .count .given .1) (x .read-entries .ensures .1))
 
 pub read-journal-spec : {M : Type 1} → statement M
 read-journal-spec =

@@ -10,16 +10,16 @@ use Rattle.journals.proofs.missing.put_missing.Statement.{statement}
 use Rattle.journals.proofs.missing.put_missing.Tie as tie
 
 abbrev Inv-loop : tie.InvT-loop
-Inv-loop text from a b theirs m heads next out₀ start at₀ end₀ out at end =
-    (at ≤ length text) × (isGiven (entriesFrom a text at) ≡ true) × Put a b theirs m text from at start end out out₀
+Inv-loop text a b theirs index out₀ start at₀ end₀ out at end =
+    (at ≤ length text) × (isGiven (entriesFrom a text at) ≡ true) × Put a b theirs text at start end out out₀
 
 abbrev μ-loop : tie.MeasureT-loop
-μ-loop text from a b theirs m heads next out₀ start at₀ end₀ out at end = length text - at
+μ-loop text a b theirs index out₀ start at₀ end₀ out at end = length text - at
 
 loop-holds : tie.Need-loop-holds Inv-loop μ-loop
 loop-holds c =
-    let s = c .before .before .before .before .before in
-    (s .pre .0, s .pre .1, put-start _ _ _ _ _ _ _ _ (s .pre .7))
+    let s = c .before .before .before .before in
+    (omega arith, s .pre .0, put-start _ _ _ _ _ _ (s .pre .3))
 
 next-key-requires : tie.Need-next-key-requires Inv-loop μ-loop
 next-key-requires c κs = search needs
@@ -34,8 +34,8 @@ returns : tie.Need-returns Inv-loop μ-loop
 returns c =
     let k = c .before .before in
     let l = k .before .before in
-    let a = l .before .before .before .before .before .before .args in
-    absurd (never-stops (a .a) (a .b) (a .theirs .now) (a .m) (a .text .now) (l .loop .at) (k .before .loop-test .taken) (l .loop .inv .1) _
+    let a = l .before .before .before .before .before .args in
+    absurd (never-stops (a .a) (a .b) (a .theirs .now) (a .text .now) (l .loop .at) (k .before .loop-test .taken) (l .loop .inv .1) _
     (sym (k .next-key .ensures) ∙ ap nextMeant (c .enum-told .given .1)))
 
 enum-known-key : tie.Need-enum-known-key Inv-loop μ-loop
@@ -49,8 +49,8 @@ sub-put-piece c =
     let x = c .before .before in
     let k = x .before .before .before in
     let l = k .before .before in
-    let a = l .before .before .before .before .before .before .args in
-    let w = went (a .a) (a .b) (a .theirs .now) (a .m) (a .text .now) (l .loop .at) (k .before .loop-test .taken) (l .loop .inv .1) _ _
+    let a = l .before .before .before .before .before .args in
+    let w = went (a .a) (a .b) (a .theirs .now) (a .text .now) (l .loop .at) (k .before .loop-test .taken) (l .loop .inv .1) _ _
     (sym (k .next-key .ensures) ∙ ap nextMeant (x .before .key .given .1)) in
     search (needs, w .onward)
 
@@ -59,8 +59,8 @@ part-put-piece-start c =
     let x = c .before .before in
     let k = x .before .before .before in
     let l = k .before .before in
-    let a = l .before .before .before .before .before .before .args in
-    let w = went (a .a) (a .b) (a .theirs .now) (a .m) (a .text .now) (l .loop .at) (k .before .loop-test .taken) (l .loop .inv .1) _ _
+    let a = l .before .before .before .before .before .args in
+    let w = went (a .a) (a .b) (a .theirs .now) (a .text .now) (l .loop .at) (k .before .loop-test .taken) (l .loop .inv .1) _ _
     (sym (k .next-key .ensures) ∙ ap nextMeant (x .before .key .given .1)) in
     search (needs, w .onward, w .inside)
 
@@ -69,10 +69,10 @@ part-put-piece-end c =
     let x = c .before .before in
     let k = x .before .before .before in
     let l = k .before .before in
-    let a = l .before .before .before .before .before .before .args in
-    let w = went (a .a) (a .b) (a .theirs .now) (a .m) (a .text .now) (l .loop .at) (k .before .loop-test .taken) (l .loop .inv .1) _ _
+    let a = l .before .before .before .before .before .args in
+    let w = went (a .a) (a .b) (a .theirs .now) (a .text .now) (l .loop .at) (k .before .loop-test .taken) (l .loop .inv .1) _ _
     (sym (k .next-key .ensures) ∙ ap nextMeant (x .before .key .given .1)) in
-    search (needs, w .onward, w .inside)
+    search (needs, w .inside)
 
 put-piece-requires : tie.Need-put-piece-requires Inv-loop μ-loop
 put-piece-requires c κs =
@@ -80,10 +80,10 @@ put-piece-requires c κs =
     let x = o .before in
     let k = x .before .before .before in
     let l = k .before .before in
-    let a = l .before .before .before .before .before .before .args in
-    let w = went (a .a) (a .b) (a .theirs .now) (a .m) (a .text .now) (l .loop .at) (k .before .loop-test .taken) (l .loop .inv .1) _ _
+    let a = l .before .before .before .before .before .args in
+    let w = went (a .a) (a .b) (a .theirs .now) (a .text .now) (l .loop .at) (k .before .loop-test .taken) (l .loop .inv .1) _ _
     (sym (k .next-key .ensures) ∙ ap nextMeant (x .before .key .given .1)) in
-    put-room (a .a) (a .b) (a .theirs .now) (a .m) (a .text .now) (a .from) (l .loop .at) (k .before .loop-test .taken) (l .loop .inv .1) (l .loop .inv .2) _ _ w _ (o .missed-one .ensures)
+    put-room (a .a) (a .b) (a .theirs .now) (a .text .now) (l .loop .at) (k .before .loop-test .taken) (l .loop .inv .1) (l .loop .inv .2) _ _ w _ (o .missed-one .ensures)
 
 loop-less : tie.Need-loop-less Inv-loop μ-loop
 loop-less c =
@@ -92,8 +92,8 @@ loop-less c =
     let x = o .before in
     let k = x .before .before .before in
     let l = k .before .before in
-    let a = l .before .before .before .before .before .before .args in
-    let w = went (a .a) (a .b) (a .theirs .now) (a .m) (a .text .now) (l .loop .at) (k .before .loop-test .taken) (l .loop .inv .1) _ _
+    let a = l .before .before .before .before .before .args in
+    let w = went (a .a) (a .b) (a .theirs .now) (a .text .now) (l .loop .at) (k .before .loop-test .taken) (l .loop .inv .1) _ _
     (sym (k .next-key .ensures) ∙ ap nextMeant (x .before .key .given .1)) in
     omega (arith, w .onward, w .inside)
 
@@ -104,12 +104,12 @@ loop-again c =
     let x = o .before in
     let k = x .before .before .before in
     let l = k .before .before in
-    let a = l .before .before .before .before .before .before .args in
-    let w = went (a .a) (a .b) (a .theirs .now) (a .m) (a .text .now) (l .loop .at) (k .before .loop-test .taken) (l .loop .inv .1) _ _
+    let a = l .before .before .before .before .before .args in
+    let w = went (a .a) (a .b) (a .theirs .now) (a .text .now) (l .loop .at) (k .before .loop-test .taken) (l .loop .inv .1) _ _
     (sym (k .next-key .ensures) ∙ ap nextMeant (x .before .key .given .1)) in (
       w .inside,
       w .still,
-      put-more (a .a) (a .b) (a .theirs .now) (a .m) (a .text .now) (a .from) (l .loop .at) (k .before .loop-test .taken) (l .loop .inv .1) (l .loop .inv .2) _ _ w _ (o .missed-one .ensures)
+      put-more (a .a) (a .b) (a .theirs .now) (a .text .now) (l .loop .at) (k .before .loop-test .taken) (l .loop .inv .1) (l .loop .inv .2) _ _ w _ (o .missed-one .ensures)
           (y .put-piece .ensures) (y .put-piece .kept .0),
     )
 
@@ -119,8 +119,8 @@ same-length-2 c = search needs
 returns-2 : tie.Need-returns-2 Inv-loop μ-loop
 returns-2 c =
     let l = c .before in
-    let a = l .before .before .before .before .before .before .args in
-    put-end (a .a) (a .b) (a .theirs .now) (a .m) (a .text .now) (a .from) (l .loop .at) (c .loop-test .left) (l .loop .inv .2)
+    let a = l .before .before .before .before .before .args in
+    put-end (a .a) (a .b) (a .theirs .now) (a .text .now) (l .loop .at) (c .loop-test .left) (l .loop .inv .2)
 
 pub put-missing-spec : {M : Type 1} → statement M
 put-missing-spec =

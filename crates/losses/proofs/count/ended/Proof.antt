@@ -1,7 +1,7 @@
 use borrow.Author.Needs.{needs}
-use mathlib.Core.Path.{_≡_, sym, ap, _∙_}
-use Rattle.bank.specs.Banks.{State, state}
-use Rattle.bank.specs.Steps.{Outcome, after, halt}
+use mathlib.Core.Path.{ap, _∙_}
+use Rattle.bank.specs.Banks.{State}
+use Rattle.bank.specs.Steps.{after, halt}
 use Rattle.bank.specs.Dispatch.{dispatchOutcome}
 use Rattle.losses.specs.Losses.{toRest, ended}
 use Rattle.losses.specs.LossesLaws.{step-left, dispatch-left}
