@@ -2,35 +2,42 @@
 #include "bank.h"
 #include <string.h>
 
-static bool packets_stand(const struct bank *b, uint16_t running) {
-    size_t count = b->count;
-    for (size_t k = 0; k < count; k++)
-        if (!packet_stands(&b->tree, running, &b->packets[k]))
+/* Row 4 of every column, and who runs. */
+static bool columns_stand(const struct bank *b, uint16_t *running) {
+    for (size_t i = 0; i < b->tree.columns; i++) {
+        if (!stands(&b->tree, i, &b->columns[i]))
             return false;
+        *running |= b->columns[i].running << i;
+    }
     return true;
 }
 
-/* Rows 2, 3 and 4 over the tree, every column and every packet. */
-uint8_t bank_refusal(const struct bank *b) {
-    uint8_t refusal = tree_refusal(&b->tree);
-    if (refusal)
-        return refusal;
-    uint16_t running = 0;
-    for (size_t i = 0; i < b->tree.columns; i++) {
-        if (!stands(&b->tree, i, &b->columns[i]))
-            return 4;
-        running |= b->columns[i].running << i;
+/* Row 4 of every packet. The ends are tested one by one; the receivers are gathered, and compared with those who run once. */
+static bool packets_stand(const struct bank *b, uint16_t running) {
+    size_t count = b->count;
+    uint32_t receivers = 0;
+    for (size_t k = 0; k < count; k++) {
+        if (!ends_stand(&b->tree, &b->packets[k]))
+            return false;
+        receivers |= 1u << b->packets[k].to;
     }
-    return b->count <= CAPACITY && packets_stand(b, running) ? 0 : 4;
+    return !(receivers & ~(uint32_t)running);
+}
+
+struct survey survey(const struct bank *b) {
+    struct survey s = {tree_refusal(&b->tree), 0};
+    if (!s.refusal && !(columns_stand(b, &s.running) && b->count <= CAPACITY && packets_stand(b, s.running)))
+        s.refusal = 4;
+    return s;
 }
 
 uint8_t acting_refusal(const struct bank *b, size_t i) {
-    uint8_t refusal = bank_refusal(b);
-    if (refusal)
-        return refusal;
+    struct survey s = survey(b);
+    if (s.refusal)
+        return s.refusal;
     if (i >= b->tree.columns)
         return 4;
-    return b->columns[i].running ? 0 : 5;
+    return has(s.running, i) ? 0 : 5;
 }
 
 void bank_fresh(struct bank *b, const struct tree *t) {
@@ -40,7 +47,7 @@ void bank_fresh(struct bank *b, const struct tree *t) {
 }
 
 uint8_t bank_order(struct bank *b, uint64_t doors) {
-    uint8_t refusal = bank_refusal(b);
+    uint8_t refusal = survey(b).refusal;
     if (refusal)
         return refusal;
     struct column *c = &b->columns[b->tree.root];
@@ -89,7 +96,7 @@ uint8_t settle_taken(struct bank *b, size_t place, const struct column *before, 
 }
 
 uint8_t bank_take(struct bank *b, size_t place) {
-    uint8_t refusal = bank_refusal(b);
+    uint8_t refusal = survey(b).refusal;
     if (refusal)
         return refusal;
     if (place >= b->count)
@@ -122,29 +129,28 @@ uint8_t bank_all(struct bank *b, size_t i) {
 }
 
 uint8_t bank_note(struct bank *b, size_t i, size_t j) {
-    uint8_t refusal = bank_refusal(b);
-    if (refusal)
-        return refusal;
+    struct survey s = survey(b);
+    if (s.refusal)
+        return s.refusal;
     if (i >= b->tree.columns || j >= b->tree.columns)
         return 4;
     struct column *c = &b->columns[i];
-    if (!c->running)
+    if (!has(s.running, i))
         return 5;
-    if (j == i || b->columns[j].running || has(c->noted, j))
+    if (j == i || has(s.running, j) || has(c->noted, j))
         return 6;
     note_effect(&b->tree, c, j);
     return 0;
 }
 
 uint8_t bank_halt(struct bank *b, uint32_t set) {
-    uint8_t refusal = bank_refusal(b);
-    if (refusal)
-        return refusal;
+    struct survey s = survey(b);
+    if (s.refusal)
+        return s.refusal;
     if (set >> b->tree.columns)
         return 4;
-    for (uint32_t rest = set; rest; rest &= rest - 1)
-        if (!b->columns[__builtin_ctz(rest)].running)
-            return 5;
+    if (set & ~(uint32_t)s.running)
+        return 5;
     for (uint32_t rest = set; rest; rest &= rest - 1)
         b->columns[__builtin_ctz(rest)].running = false;
     size_t kept = 0;
@@ -155,20 +161,10 @@ uint8_t bank_halt(struct bank *b, uint32_t set) {
     return 0;
 }
 
-uint16_t halted_columns(const struct bank *b) {
-    uint16_t halted = 0;
-    for (size_t i = 0; i < b->tree.columns; i++)
-        halted |= (!b->columns[i].running) << i;
-    return halted;
-}
+uint16_t halted_columns(const struct bank *b, uint16_t running) { return (uint16_t)(((1u << b->tree.columns) - 1) & ~(uint32_t)running); }
 
-/* A bank that every step refuses is at rest where no packet is under way. */
-bool bank_at_rest(const struct bank *b) {
-    if (b->count)
-        return false;
-    if (bank_refusal(b))
-        return true;
-    uint16_t halted = halted_columns(b);
+/* Of a bank that stands and in which no packet is under way. */
+static bool columns_rest(const struct bank *b, uint16_t halted) {
     for (size_t i = 0; i < b->tree.columns; i++) {
         const struct column *c = &b->columns[i];
         if (c->running && (c->send || may_ack(&b->tree, i, c) || may_all(&b->tree, i, c) || (halted & ~c->noted)))
@@ -177,30 +173,34 @@ bool bank_at_rest(const struct bank *b) {
     return true;
 }
 
+/* A bank that every step refuses is at rest where no packet is under way. */
+bool bank_at_rest(const struct bank *b) {
+    if (b->count)
+        return false;
+    struct survey s = survey(b);
+    return s.refusal || columns_rest(b, halted_columns(b, s.running));
+}
+
 uint8_t bank_back(struct bank *b, size_t j) {
-    uint8_t refusal = bank_refusal(b);
-    if (refusal)
-        return refusal;
-    size_t columns = b->tree.columns;
-    if (j >= columns)
+    struct survey s = survey(b);
+    if (s.refusal)
+        return s.refusal;
+    if (j >= b->tree.columns)
         return 4;
-    if (b->columns[j].running)
+    if (has(s.running, j))
         return 6;
     if (j == b->tree.root)
         return 15;
-    if (!bank_at_rest(b))
+    uint16_t halted = halted_columns(b, s.running);
+    if (b->count || !columns_rest(b, halted))
         return 14;
-    uint16_t halted = halted_columns(b);
-    uint32_t running = ((1u << columns) - 1) & ~(uint32_t)halted;
-    if (!running)
+    if (!s.running)
         return 16;
-    const struct column *copied = &b->columns[__builtin_ctz(running)];
-    struct column back = {.running = true, .number = copied->number, .doors = copied->doors,
-                          .noted = (uint16_t)(halted & ~(1u << j)), .whole = !b->columns[b->tree.root].running,
-                          .sender = (uint8_t)__builtin_ctz(running),
-                          .mask = b->columns[j].mask, .pending = b->columns[j].pending};
-    for (size_t i = 0; i < columns; i++)
+    uint8_t sender = (uint8_t)__builtin_ctz(s.running);
+    struct column *back = &b->columns[j];
+    *back = (struct column){.running = true, .number = b->columns[sender].number, .doors = b->columns[sender].doors, .noted = halted,
+                            .whole = !has(s.running, b->tree.root), .sender = sender, .mask = back->mask, .pending = back->pending};
+    for (size_t i = 0; i < b->tree.columns; i++)
         b->columns[i].noted &= (uint16_t)~(1u << j);
-    b->columns[j] = back;
     return 0;
 }

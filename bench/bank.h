@@ -24,23 +24,23 @@ uint8_t bank_note(struct bank *b, size_t i, size_t j);
 uint8_t bank_halt(struct bank *b, uint32_t set);
 uint8_t bank_back(struct bank *b, size_t j);
 
-/* Steps until rest, the limit or a refused one, counted. Each is tested as a call of its own; or, not `thorough`, the bank is tested once and
-   after each step the column and the packet that it changed. */
+/* Steps until rest, the limit or a refused one, counted. The bank is tested once, and after each step the column and the packet that it changed;
+   or, `thorough`, each is tested as a call of its own. */
 uint8_t bank_dispatch(struct bank *b, size_t limit, bool thorough, size_t *steps);
 
-/* Rows 2 to 4. */
-uint8_t bank_refusal(const struct bank *b);
+/* By which of rows 2 to 4 the bank is refused, and who runs where it is not: one pass over the columns, one over the packets. */
+struct survey {
+    uint8_t refusal;
+    uint16_t running;
+};
+struct survey survey(const struct bank *b);
 
 /* Rows 2 to 5 for an acting column, as the list too is refused. */
 uint8_t acting_refusal(const struct bank *b, size_t i);
 bool bank_at_rest(const struct bank *b);
 
 /* What the dispatcher shares with the steps. */
-uint16_t halted_columns(const struct bank *b);
-
-static inline bool packet_stands(const struct tree *t, uint16_t running, const struct packet *p) {
-    return p->from < t->columns && p->to < t->columns && p->from != p->to && (p->kind != MESSAGE || p->to != t->root || t->watch) && (running >> p->to & 1);
-}
+uint16_t halted_columns(const struct bank *b, uint16_t running);
 
 /* The packet of a column's step; where it has no place the column is again as it was. */
 uint8_t settle(struct bank *b, struct column *c, const struct column *before, struct packet p);

@@ -130,7 +130,7 @@ struct answer take(const struct tree *t, size_t i, struct column *c, struct pack
     uint8_t refusal = standing(t, i, c);
     if (refusal)
         return refused(refusal);
-    if (p.from >= t->columns || p.to >= t->columns || p.from == p.to || (p.kind == MESSAGE && p.to == t->root && !t->watch) || p.to != i)
+    if (!ends_stand(t, &p) || p.to != i)
         return refused(4);
     if (!c->running)
         return refused(5);

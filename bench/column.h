@@ -69,6 +69,11 @@ static inline bool stands(const struct tree *t, size_t i, const struct column *c
         && (i != t->root || c->whole) && c->sender < t->columns;
 }
 
+/* Row 4 of a packet, but for whether its receiver runs. */
+static inline bool ends_stand(const struct tree *t, const struct packet *p) {
+    return p->to < t->columns && p->from < t->columns && p->from != p->to && (p->to != t->root || p->kind != MESSAGE || t->watch);
+}
+
 static inline bool idle(const struct column *c) { return !c->send && !c->awaited; }
 
 static inline bool may_ack(const struct tree *t, size_t i, const struct column *c) {

@@ -74,25 +74,29 @@ static uint8_t perform_standing(struct bank *b, struct step x) {
     }
 }
 
-static bool still_stands(const struct bank *b, uint16_t halted, size_t i) {
+/* Row 4 of what a step of column i can have changed: that column, and the newest packet. */
+static bool still_stands(const struct bank *b, uint16_t running, size_t i) {
     if (!stands(&b->tree, i, &b->columns[i]))
         return false;
-    return !b->count || packet_stands(&b->tree, (uint16_t)~halted, &b->packets[b->count - 1]);
+    if (!b->count)
+        return true;
+    const struct packet *newest = &b->packets[b->count - 1];
+    return ends_stand(&b->tree, newest) && has(running, newest->to);
 }
 
 uint8_t bank_dispatch(struct bank *b, size_t limit, bool thorough, size_t *steps) {
     *steps = 0;
-    uint8_t refusal = bank_refusal(b);
-    if (refusal)
-        return refusal;
-    uint16_t halted = halted_columns(b), set = ready_columns(b, halted);
+    struct survey s = survey(b);
+    if (s.refusal)
+        return s.refusal;
+    uint16_t halted = halted_columns(b, s.running), set = ready_columns(b, halted);
     while (*steps < limit && (set || b->count)) {
         bool full = b->count == CAPACITY;
         struct step x = step_of(b, halted, set ? (size_t)__builtin_ctz(set) : 0);
         if (thorough ? perform(b, x) : perform_standing(b, x))
             break;
         ++*steps;
-        if (!thorough && !still_stands(b, halted, x.i))
+        if (!thorough && !still_stands(b, s.running, x.i))
             break;
         bool same = full == (b->count == CAPACITY);
         set = same ? (uint16_t)(set & ~(1u << x.i)) | ready(b, halted, x.i) : ready_columns(b, halted);

@@ -1,4 +1,5 @@
-/* A step through the boundary beside the same in plain C, and the stack of each call: firmware LAPS. */
+/* Steps through the boundary beside the same in plain C: `firmware LETTER LAPS` prints the nanoseconds of a lap of each. `firmware LETTERS` prints
+   the most bytes of stack that one of these calls needs. */
 #include "column.h"
 #include <mudasgup.h>
 #include <stdio.h>
@@ -8,7 +9,6 @@
 #include <ucontext.h>
 
 #define STACK 262144
-#define ROUNDS 9
 #define PAINT 0xA5
 
 static const uint8_t blocks_tree[MUDASGUP_TREE] = {16, 0, 0, 0, 0, 1, 1, 2, 2, 3, 3, 4, 4, 5, 5, 6, 6, 6,
@@ -21,17 +21,16 @@ static const struct packet plain_message = {MESSAGE, 0, 1, 1000, 513};
 /* What is run: the column that acts, its state, and its step on both sides. */
 static const struct lap {
     char letter;
-    const char *name;
     size_t i;
     struct column state;
 } laps[] = {
-    {'o', "order", 0, {.running = true, .whole = true}},
-    {'s', "send, a message put", 0, {.running = true, .whole = true, .send = 6}},
-    {'m', "take, a message received", 1, {.running = true}},
-    {'a', "ack", 2, {.running = true, .owed = 9}},
-    {'l', "all", 3, {.running = true, .noted = 1}},
-    {'n', "note, children joined", 0, {.running = true, .whole = true, .awaited = 6}},
-    {'h', "halt", 5, {.running = true}},
+    {'o', 0, {.running = true, .whole = true}},
+    {'s', 0, {.running = true, .whole = true, .send = 6}},
+    {'m', 1, {.running = true}},
+    {'a', 2, {.running = true, .owed = 9}},
+    {'l', 3, {.running = true, .noted = 1}},
+    {'n', 0, {.running = true, .whole = true, .awaited = 6}},
+    {'h', 5, {.running = true}},
 };
 
 static void block_of(const struct column *c, uint8_t *block) {
@@ -93,34 +92,40 @@ static double now(void) {
     return (double)t.tv_sec * 1e9 + (double)t.tv_nsec;
 }
 
-/* The least nanoseconds of a step on both sides; each lap begins at the same state, and what both leave must be the same. */
-static void time_of(const struct lap *lap, long count) {
-    double best[2] = {1e18, 1e18};
-    uint8_t first[MUDASGUP_COLUMN], block[MUDASGUP_COLUMN], after[MUDASGUP_COLUMN];
-    struct column c;
+/* Each lap begins at the same state. What the last one leaves is answered, and a refusal is no lap. */
+static void laps_through(const struct lap *lap, long count, uint8_t *block) {
+    uint8_t first[MUDASGUP_COLUMN];
     block_of(&lap->state, first);
-    for (int round = 0; round < ROUNDS; round++) {
-        double start = now();
-        for (long k = 0; k < count; k++) {
-            memcpy(block, first, sizeof block);
-            if (through(lap->letter, lap->i, block) >= MUDASGUP_REFUSED)
-                exit(1);
-        }
-        double middle = now();
-        for (long k = 0; k < count; k++) {
-            c = lap->state;
-            __asm__ volatile("" : : "r"(&c) : "memory");
-            if (in_place(lap->letter, lap->i, &c).refusal)
-                exit(1);
-        }
-        double end = now();
-        best[0] = middle - start < best[0] ? middle - start : best[0];
-        best[1] = end - middle < best[1] ? end - middle : best[1];
+    for (long k = 0; k < count; k++) {
+        memcpy(block, first, sizeof first);
+        if (through(lap->letter, lap->i, block) >= MUDASGUP_REFUSED)
+            exit(1);
     }
+}
+
+static void laps_in_place(const struct lap *lap, long count, struct column *c) {
+    for (long k = 0; k < count; k++) {
+        *c = lap->state;
+        __asm__ volatile("" : : "r"(c) : "memory");
+        if (in_place(lap->letter, lap->i, c).refusal)
+            exit(1);
+    }
+}
+
+/* After a fourth of the laps, which are slower; what both sides leave must be the same. */
+static int time_of(const struct lap *lap, long count) {
+    uint8_t block[MUDASGUP_COLUMN], after[MUDASGUP_COLUMN];
+    struct column c;
+    laps_through(lap, count / 4, block);
+    laps_in_place(lap, count / 4, &c);
+    double start = now();
+    laps_through(lap, count, block);
+    double middle = now();
+    laps_in_place(lap, count, &c);
+    double end = now();
     block_of(&c, after);
-    if (memcmp(after, block, sizeof block) != 0)
-        exit(2);
-    printf("| %s | %.0f ns | %.0f ns | %.2f |\n", lap->name, best[0] / (double)count, best[1] / (double)count, best[0] / best[1]);
+    printf("%f %f\n", (middle - start) / (double)count, (end - middle) / (double)count);
+    return memcmp(after, block, sizeof block) != 0;
 }
 
 /* The bytes of stack that an accepted call reaches down to, on a stack of its own that was painted, from where its caller has its packet. */
@@ -154,29 +159,31 @@ static size_t stack_of(struct lap lap) {
     return (size_t)(top - lowest);
 }
 
-static size_t larger(size_t a, size_t b) { return a > b ? a : b; }
+/* The step of this letter, or another call at a root that has every door. */
+static struct lap lap_of(char letter) {
+    for (size_t k = 0; k < sizeof laps / sizeof *laps; k++)
+        if (laps[k].letter == letter)
+            return laps[k];
+    return (struct lap){.letter = letter, .state = {.doors = UINT64_MAX, .number = UINT32_MAX, .running = true, .whole = true}};
+}
 
-/* The most of the calls of these letters, at a root that has every door. */
-static size_t most_of(const char *letters) {
+static size_t most_stack_of(const char *letters) {
     size_t most = 0;
-    for (; *letters; letters++)
-        most = larger(most, stack_of((struct lap){.letter = *letters, .state = {.doors = UINT64_MAX, .number = UINT32_MAX, .running = true, .whole = true}}));
+    for (; *letters; letters++) {
+        size_t used = stack_of(lap_of(*letters));
+        most = used > most ? used : most;
+    }
     return most;
 }
 
 int main(int count, char **words) {
-    const char *const calls[] = {"F", "L", "f", "c", "tpurMAj"};
-    const char *const names[] = {"fresh", "the closing list", "a frame of 512 messages", "the converter", "any other call"};
-    if (count != 2)
+    if (count < 2)
         return 2;
     mudasgup_message(0, 1, 1000, doors, sizeof doors, message, sizeof message);
     for (size_t k = 0; k < 512; k++)
         memcpy(frame + k * sizeof message, message, sizeof message);
-    size_t steps = most_of("w");
-    for (size_t k = 0; k < sizeof laps / sizeof *laps; k++)
-        time_of(&laps[k], strtol(words[1], NULL, 10)), steps = larger(steps, stack_of(laps[k]));
-    printf("| stack of a step, the deepest | %zu bytes |\n", steps);
-    for (size_t k = 0; k < 5; k++)
-        printf("| stack of %s | %zu bytes |\n", names[k], most_of(calls[k]));
-    return 0;
+    if (count == 2)
+        return printf("%zu\n", most_stack_of(words[1])) < 0;
+    const struct lap lap = lap_of(*words[1]);
+    return time_of(&lap, strtol(words[2], NULL, 10));
 }

@@ -1,5 +1,7 @@
 """Pairs of journals to measure, each as long as a journal may be."""
 LIMIT = 32768
+# Numbers that differ by so many have their words in one chain.
+BUCKETS = 4093
 
 
 def full(owner, lines):
@@ -24,4 +26,4 @@ def pair(numbers, got):
 JOURNALS = [("every message got", *pair(range(1, 4000), lambda number: True)),
             ("every second message got", *pair(range(1, 4000), lambda number: number % 2)),
             ("no message got", *pair(range(1, 4000), lambda number: False)),
-            ("all lines of one chain", *pair(range(4093, 4093 * 4000, 4093), lambda number: True))]
+            ("all lines of one chain", *pair(range(BUCKETS, BUCKETS * 4000, BUCKETS), lambda number: True))]

@@ -1,5 +1,5 @@
 /* Laps of one step of a lone column or of a bank, or of a frame read: standard input as for crates/timing; the number printed must be the
-   same. Letter B prints the bytes of a bank and of its packets; G is F with the tests that the proved dispatcher makes, and no other. */
+   same. Letter B prints the bytes of a bank and of its packets; G is F with each step tested as a call of its own. */
 #include "bank.h"
 #include "frame.h"
 #include <stdio.h>
@@ -159,7 +159,7 @@ static uint64_t dispatch_laps(char letter, uint64_t laps) {
         size_t steps;
         bank = before;
         bank.columns[0].doors = lap;
-        bank_dispatch(&bank, 9999, letter != 'G', &steps);
+        bank_dispatch(&bank, 9999, letter == 'G', &steps);
         const struct column *last = &bank.columns[15];
         sum = fold(sum, fold(fold(steps, bank.count), last->number + last->doors % 65536));
     }

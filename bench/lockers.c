@@ -4,6 +4,7 @@
 enum { LONGEST_LIST = 229 };
 
 static struct bank bank;
+
 static void put_answer(uint8_t refusal) {
     if (refusal)
         put_field("refused=", refusal);
@@ -108,7 +109,7 @@ static uint8_t step(struct cursor *c) {
 
 static void dispatched(size_t limit) {
     size_t steps;
-    uint8_t refusal = bank_dispatch(&bank, limit, true, &steps);
+    uint8_t refusal = bank_dispatch(&bank, limit, false, &steps);
     if (!refusal)
         put_field("steps=", steps);
     put_answer(refusal);

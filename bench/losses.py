@@ -1,8 +1,6 @@
 """Tables of eight columns whose losses are measured and drawn."""
-import os
-import subprocess
+from measure import built, run
 
-ROOT = os.path.dirname(os.path.dirname(os.path.abspath(__file__)))
 # The fastest tree for delay 2 and gap 1.
 TREES = (("chain", (0, 0, 1, 2, 3, 4, 5, 6)), ("bush", (0,) * 8), ("fastest tree", (0, 0, 0, 0, 1, 0, 1, 2)))
 
@@ -12,7 +10,7 @@ def table(up):
 
 
 def answered(program, given):
-    return subprocess.run([os.path.join(ROOT, "target", "bin", program)], input=given, capture_output=True, text=True, check=True).stdout
+    return run(built(program), given)[0]
 
 
 def to_rest(given):

@@ -81,9 +81,10 @@ def packet_limit(columns):
 
 
 class Counters:
-    """What the model met, and whether demand 3 held after every line."""
+    """What a model met, and whether demand 3 held after every line."""
 
-    def __init__(self):
+    def __init__(self, module=model):
+        self.module = module
         self.met = collections.Counter()
         self.lines = 0
         # The most packets under way at once and the longest run, by the columns of the bank and whom it watches.
@@ -97,7 +98,7 @@ class Counters:
     def script(self, data):
         """What the model prints for a script."""
         texts = []
-        for text, bank in model.run(data, self.tell):
+        for text, bank in self.module.run(data, self.tell):
             texts.append(text)
             if bank:
                 self.lines += 1

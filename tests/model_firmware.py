@@ -1,10 +1,13 @@
 """The calls of `include/mudasgup.h`, written from the papers and the header: blocks as bytes, a lone column as a bank's column whose packets go nowhere.
-A call answers a number and the bytes that it leaves; the steps themselves are those of `model.py`."""
+A call answers a number and the bytes that it leaves; the steps themselves are those of `model.py`. `tell` is told in words why a call is refused."""
+import functools
+
 from model import Refused, refuse
 from model_frames import Converter, Reader
 from model_pages import Bank
 
 TREE, COLUMN, PACKET, DOORS = 34, 23, 15, 8
+STATUS = 20
 LEFT, REFUSED = 100, 1000
 SETS = ("send", "awaited", "owed", "noted")
 
@@ -50,7 +53,7 @@ def fill_column(bank, i, block):
     column.doors, column.number = bytes(block[:8]), int.from_bytes(block[8:12], "big")
     for k, name in enumerate(SETS):
         setattr(column, name, members(int.from_bytes(block[12 + 2 * k:14 + 2 * k], "big")))
-    column.running, column.whole, column.sender = bool(block[20] & 1), bool(block[20] & 2), block[20] >> 2
+    column.running, column.whole, column.sender = bool(block[STATUS] & 1), bool(block[STATUS] & 2), block[STATUS] >> 2
     bank.masks[i], bank.pending[i] = block[21:23]
 
 
@@ -142,6 +145,10 @@ def step(name, block, i, column, put, *more):
     return stepped(bank, i)
 
 
+def note(block, i, column, j, put):
+    return step("note", block, i, column, put, j)
+
+
 def take(block, i, column, packet, put):
     sized((block, TREE), (column, COLUMN), (put, PACKET))
     fields, _ = Reader().packet(packet)
@@ -210,9 +217,15 @@ def join(data, buffer, at):
     return used, buffer[:at] + data[:used] + buffer[at + used:]
 
 
-def called(call, buffers, *arguments):
+CALLS = {"tree": tree, "fresh": fresh, "list": listing, "order": order, "take": take, "note": note, "page_read": page_read, "page_write": page_write,
+         "line_up": line_up, "read": read, "message": message, "acknowledgement": acknowledgement, "convert": convert, "frame": frame, "join": join,
+         **{name: functools.partial(step, name) for name in ("send", "ack", "all", "halt")}}
+
+
+def called(name, buffers, arguments, tell=lambda words: None):
     """What a call answers and leaves; a refused one leaves every lent byte."""
     try:
-        return call(*arguments)
+        return CALLS[name](*arguments)
     except Refused as refusal:
+        tell(f"refused {refusal}")
         return (REFUSED + refusal.number, *buffers)

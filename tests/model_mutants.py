@@ -1,9 +1,11 @@
 """Wrong programs, each an edit of tests/model.py's source: a name, the text that stands there once, and what stands in its place. Those of TOLD
-must be told from the program by what they print for some script. Those of EQUAL print what the model prints, whatever the script, for the reason
-given."""
+must be told from the program by what they print for some script. Those of EQUAL print what the model prints, whatever the script, for a reason that
+is put to the test at every line of every script."""
 import functools
-import os
-import types
+import re
+
+import edited
+import model
 
 TOLD = [
     # document 01's slips
@@ -147,7 +149,7 @@ TOLD = [
     ("who is sent to stays", "        column.send.remove(c)\n", "        if c in column.noted or c == i:\n            column.send.remove(c)\n"),
     # the network
     ("a packet to a halted column is put", "if self.columns[packet[2]].running:", "if True:"),
-    ("a network of 419 packets is full", "CAPACITY = 512", "CAPACITY = 419"),
+    ("a network of 433 packets is full", "CAPACITY = 512", "CAPACITY = 433"),
     ("a packet is put first", "self.network.append(packet)", "self.network.insert(0, packet)"),
     ("the newest packet moves to the place", "del self.network[place]", "self.network[place] = self.network[-1]\n        del self.network[-1]"),
     ("place 0 is the newest", "= self.network[place]\n", "= self.network[place] if place else self.network[-1]\n"),
@@ -356,54 +358,90 @@ TOLD = [
     ("a halted column keeps a bank from rest", "for i in columns if self.columns[i].running)", "for i in columns)"),
     ("no rest where nobody runs", "return not self.network and all(", "return not self.network and any(c.running for c in self.columns) and all("),
 ]
+# Each with why it prints the same, the line of the model before which that is put to the test, and what must hold there.
 EQUAL = [
-    ("note of itself asked for", '            return "itself"', "            pass", "whoever notes runs, and who runs is not noted"),
-    ("a takeover of the root", '            return "the root"', "            pass", "the root never notes itself"),
+    ("note of itself asked for", '            return "itself"', "            pass", "whoever notes runs, and a note of one that runs is refused with 6 too",
+     'return "itself"', "self.columns[j].running"),
+    ("a takeover of the root", '            return "the root"', "            pass", "the root's record is its own or the root's, and it never notes itself",
+     'return "the root"', "column.sender == self.root and self.root not in column.noted"),
     ("an acknowledgement of a higher number ends a wait", "if number == column.number:\n            column.awaited",
      "if number >= column.number:\n            column.awaited",
-     "an acknowledgement has the number of a message that its receiver sent, and numbers rise"),
-    ("no full network", "len(self.network) == CAPACITY", "False", "the fullest network that is known has 420 packets"),
-    ("no highest number", "root.number == HIGHEST", "False", "4,294,967,295 orders do not fit into a script"),
+     "an acknowledgement has the number of a message that its receiver sent, and numbers rise",
+     'which = "the" if number == column.number', "number <= column.number"),
+    ("no full network where the root is watched", "len(self.network) == CAPACITY", 'self.watch == "sender" and len(self.network) == CAPACITY',
+     "`never-nine` of `crates/agreement/proofs/Limits.antt`: a packet more is at most the last of 2N(N-1)",
+     "refuse(9,", 'self.watch == "sender" or len(self.network) < 2 * len(self.columns) * (len(self.columns) - 1) < CAPACITY'),
+    ("no highest number", "root.number == HIGHEST", "False", "a script has fewer orders than its bytes, which are fewer than HIGHEST",
+     "refuse(8,", "root.number <= LIMIT < HIGHEST"),
     ("those noted are asked before itself", "if c == i:\n            self.tell(\"send to itself\")\n        elif c in column.noted:",
-     "if c == i and c not in column.noted:\n            pass\n        elif c in column.noted:", "nobody notes itself"),
-    ("an order clears those owed", "root.doors = doors", "root.doors, root.owed = doors, set()", "a root that owes is given no order"),
-    ("a receiver keeps those owed", "column.owed = {sender}", "column.owed.add(sender)", "a message is received where nobody is owed"),
-    ("a takeover keeps those to send to", "column.send = {self.root}", "column.send.add(self.root)", "there is nobody"),
+     "if c == i and c not in column.noted:\n            pass\n        elif c in column.noted:", "nobody notes itself",
+     "if c == i:", "i not in column.noted"),
+    ("an order clears those owed", "root.doors = doors", "root.doors, root.owed = doors, set()", "a root that owes is given no order",
+     "root.doors = doors", "not root.owed"),
+    ("a receiver keeps those owed", "column.owed = {sender}", "column.owed.add(sender)", "a message is received where nobody is owed",
+     "column.owed = {sender}", "not column.owed"),
+    ("a takeover keeps those to send to", "column.send = {self.root}", "column.send.add(self.root)", "there is nobody",
+     "column.send = {self.root}", "not column.send"),
     ("a halted column forgets", "self.columns[i].running = False", "self.columns[i].__init__(False, 0)\n            self.columns[i].running = False",
-     "a halted column neither acts nor lists"),
-    ("the highest running column is copied", "self.columns[running[0]]", "self.columns[running[-1]]", "at rest all that run hold one record"),
+     "a halted column neither acts, which is 5, nor takes: packets to it are gone; and it comes back without what it held",
+     "kind, sender, to, number, doors = self.network[place]", "self.columns[self.network[place][2]].running"),
+    ("the highest running column is copied", "self.columns[running[0]]", "self.columns[running[-1]]",
+     "at rest all that run hold one record: `agreement` of `crates/agreement/proofs/Agreement.antt`",
+     "copied, old, root = ", "len({(self.columns[i].number, self.columns[i].doors) for i in running}) == 1"),
     ("those noted are copied with the record", "column.noted = {i for i, other in enumerate(self.columns) if not other.running}",
-     "column.noted = set(copied.noted)", "at rest the one copied has noted all that are halted"),
+     "column.noted = set(copied.noted)", "at rest the one copied has noted all that are halted, of whom the one that comes back is struck from all",
+     "column.noted = {i for i, other", "copied.noted - {j} == {i for i, other in enumerate(self.columns) if not other.running}"),
     ("halted columns keep it noted", "        for other in self.columns:\n            other.noted.discard(j)\n",
      "        for other in self.columns:\n            other.noted -= {j} if other.running else set()\n",
-     "a halted column does nothing, and comes back with others noted"),
-    ("a climb stops one early", "for _ in range(columns):", "for _ in range(columns - 1):", "the root is at most columns - 1 parents away"),
+     "a halted column does nothing, and comes back with just those noted that are halted",
+     "self.came_back.add(j)", "column is not old and column.noted == {i for i, other in enumerate(self.columns) if not other.running}"),
+    ("a climb stops one early", "for _ in range(columns):", "for _ in range(columns - 1):", "the root is at most columns - 1 parents away, or never met",
+     "for _ in range(columns):", "climb(up, c, columns - 1) == root or climb(up, c, columns) != root"),
     ("a root not its own parent", 'refuse(3, up[root] != root and "root not its own parent")', "",
-     "some climb then ends beside the root, in the round that the root is in"),
+     "some climb then ends beside the root, in the round that the root is in",
+     "refuse(3, up[root] != root", "up[root] == root or any(climb(up, c, columns) != root for c in range(columns))"),
     ("a column that owes never rests", "self.refused_ack(i) and self.refused_all(i)\n", "not self.columns[i].owed and self.refused_all(i)\n",
-     "who owes and may not acknowledge waits for a step of another"),
-    ("the root counts its orders", "root.number += 1", "root.number = len(self.orders) + 1", "the n-th order gives number n"),
+     "who owes and may not acknowledge waits for a step of another; at rest nobody that runs owes",
+     "highest = max(", "not any(self.columns[i].owed for i in records)"),
+    ("the root counts its orders", "root.number += 1", "root.number = len(self.orders) + 1", "the n-th order gives number n",
+     "root.number += 1", "root.number == len(self.orders)"),
     ("whoever sends to itself awaits itself", 'self.tell("send to itself")', "column.awaited.add(c)",
-     "it has taken over: it acknowledges while it awaits, and takes over again only after it received, which ends every wait"),
+     "it has taken over: it acknowledges while it awaits, and takes over again only after it received, which ends every wait",
+     'self.tell("send to itself")', "column.whole and i != self.root"),
     ("a message with the last order's doors", "c, column.number, column.doors))", "c, column.number, self.orders[-1] if self.orders else bytes(8)))",
-     "an earlier order is received by nobody: whoever runs has it already"),
+     "an earlier order is received by nobody: whoever runs has it already",
+     "column.number, column.doors = number, doors", "number == len(self.orders)"),
     ("the root's goal is its own subtree", "Column(i == root, root)", "Column(False, root)",
-     "the root owes nobody, or senders are watched and it acknowledges by its sets alone; and it never takes over"),
-    ("a higher number makes the root's goal its subtree", "column.whole = to == self.root", "column.whole = False", "no number is above the root's, so it receives none"),
-    ("an order is refused while the root owes, whoever is watched", 'self.watch == "sender" and root.owed', "root.owed", "where the root is watched it owes nobody"),
+     "the root owes nobody, or senders are watched and it acknowledges by its sets alone; and it never takes over",
+     "if not column.whole and column.send:", "i != self.root"),
+    ("a higher number makes the root's goal its subtree", "column.whole = to == self.root", "column.whole = False", "no number is above the root's, so it receives none",
+     "column.whole = to == self.root", "to != self.root"),
+    ("an order is refused while the root owes, whoever is watched", 'self.watch == "sender" and root.owed', "root.owed", "where the root is watched it owes nobody",
+     'refuse(7, self.watch == "sender"', 'self.watch == "sender" or not root.owed'),
 ]
 
 
 @functools.cache
 def modules():
     """Each wrong program as a module: its name, and whether it is one of EQUAL."""
-    with open(os.path.join(os.path.dirname(os.path.abspath(__file__)), "model.py"), encoding="utf8") as file:
-        source = file.read()
-    mutants = []
     assert len({row[0] for row in TOLD + EQUAL}) == len(TOLD + EQUAL), "a name stands twice"
-    for name, old, new, *reason in TOLD + EQUAL:
-        assert source.count(old) == 1, f"{name}: {source.count(old)} times in the model: {old}"
-        module = types.ModuleType(name)
-        exec(compile(source.replace(old, new), name, "exec"), module.__dict__)
-        mutants.append((module, bool(reason)))
-    return mutants
+    return [(edited.edited(model, name, (old, new)), bool(reason)) for name, old, new, *reason in TOLD + EQUAL]
+
+
+def climb(up, c, parents):
+    for _ in range(parents):
+        c = up[c]
+    return c
+
+
+def reasoned(reached):
+    """The model with the reason of every row of EQUAL put to the test before the line that it names; `reached` counts how often."""
+    def hold(name, fact):
+        assert fact, name
+        reached[name] += 1
+
+    def tested(name, line, fact):
+        before = re.search(rf"^( *){re.escape(line)}.*$", edited.source_of(model), re.M)
+        return before[0], f"{before[1]}hold({name!r}, {fact})\n{before[0]}"
+
+    return edited.edited(model, "reasoned", *(tested(name, line, fact) for name, _, _, _, line, fact in EQUAL), hold=hold, climb=climb)

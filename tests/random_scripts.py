@@ -8,6 +8,7 @@ Prints the least and the most times that a seed met each thing of tests/counters
 must tell every wrong program of tests/model_mutants.py from the built one. A difference prints the shortest failing script that it could be cut
 down to."""
 import argparse
+import collections
 import itertools
 import os
 import pathlib
@@ -18,17 +19,20 @@ import sys
 import counters
 import model
 import model_mutants
+import refusals
 import script_makers
 
 ROOT = os.path.dirname(os.path.dirname(os.path.abspath(__file__)))
 PROGRAM = os.path.join(ROOT, "target", "bin", "lockers")
 GATE = (3, 7, 82519)
-# Each of 15 columns has a packet under way for each of the 14 others, under each of two order numbers.
-CROWDED = 15 * 14 * 2
+# Each of 15 columns has a packet under way for each of the 14 others, under each of two order numbers; and 14 were sent one by the root.
+CROWDED = 15 * 14 * 2 + 14
 
 
 def program(data):
-    return subprocess.run([PROGRAM], input=data, capture_output=True, check=True).stdout.decode("ascii")
+    printed = subprocess.run([PROGRAM], input=data, capture_output=True, check=True).stdout.decode("ascii")
+    refusals.count("lockers", printed)
+    return printed
 
 
 def differ(data):
@@ -75,11 +79,13 @@ def telling(module, printed, order):
     return None
 
 
-def mutants_part(printed):
-    """Every wrong program is told from the built one by what is printed, and those that are equal are not."""
+def mutants_part(printed, with_equal):
+    """Every wrong program is told from the built one by what is printed, and those that are equal, where they are asked for, are not."""
     order = sorted(range(len(printed)), key=lambda place: len(printed[place][0]))
     faults = 0
     for module, equal in model_mutants.modules():
+        if equal and not with_equal:
+            continue
         place = telling(module, printed, order)
         if place is None and not equal:
             faults += fault(f"told from the program by no script: {module.__name__}")
@@ -91,25 +97,41 @@ def mutants_part(printed):
 
 # ---- random scripts
 
-def seed_part(seed, met):
-    """The scripts of a seed; its counters go to `met`."""
-    count, printed = counters.Counters(), []
+def seed_part(seed, met, wrong_too=True):
+    """The scripts of a seed; its counters go to `met`. The reasons of the programs that are equal are put to the test on every seed; what these print is
+    compared on the first alone, since each goes through all scripts."""
+    reached = collections.Counter()
+    count, printed = counters.Counters(model_mutants.reasoned(reached)), []
     for data in script_makers.scripts(random.Random(seed)):
         printed.append((data, program(data)))
-        if count.script(data) != printed[-1][1]:
+        try:
+            text = count.script(data)
+        except AssertionError as name:
+            return fault(f"seed {seed}, not equal for the reason that is given: {name}, by:", data)
+        if text != printed[-1][1]:
             return fault(f"seed {seed}, the program and the model differ on:", shortest(data, differ))
         if not count.agreed:
             return fault(f"seed {seed}, lit columns disagree after:", shortest(data, disagree))
     met.append(count)
     print(f"seed {seed}: {len(printed)} scripts, {count.lines} lines, at most {max(count.most_packets.values())} packets at once, 0 differences", flush=True)
     faults = [f"seed {seed}, {words}" for words in count.faults()] + ["no crowded network"] * (count.most_packets[16, "root"] < CROWDED)
-    return sum(map(fault, faults)) + mutants_part(printed)
+    faults += [f"seed {seed}, a reason put to the test {reached[row[0]]} times: {row[0]}" for row in model_mutants.EQUAL if reached[row[0]] < counters.LEAST]
+    return sum(map(fault, faults)) + (mutants_part(printed, with_equal=len(met) == 1) if wrong_too else 0)
 
 
 def seeds_part(seeds):
     """The scripts of every seed, and a table of what they met."""
     met = []
     faults = sum(seed_part(seed, met) for seed in seeds)
+    tell_met(met)
+    if faults:
+        return fault(f"{faults} faults")
+    print(f"each of {len(model_mutants.TOLD)} wrong programs told from the built one on each seed; {len(model_mutants.EQUAL)} are equal, and told on none")
+    return 0
+
+
+def tell_met(met):
+    """How often a seed met each counter, and the longest run and the fullest network for each count of columns."""
     print("least  most  of what a seed met")
     for name in counters.WANTED * bool(met):
         print(f"{min(one.met[name] for one in met):5} {max(one.met[name] for one in met):5}  {name}")
@@ -118,11 +140,8 @@ def seeds_part(seeds):
         run, packets, sender_run, sender_packets = (max((most[columns, watch] for most in seen), default=0) for watch in ("root", "sender")
                                                     for seen in ([one.most_steps for one in met], [one.most_packets for one in met]))
         print(f"{columns:7} {run:12} {counters.step_limit(columns):8} {packets:13} {counters.packet_limit(columns):8} {sender_run:26} {sender_packets:13}")
-    if faults:
-        return fault(f"{faults} faults")
-    print(f"{len(met)} seeds: each of {len(counters.WANTED)} counters met {counters.LEAST} times or more on each, each of {len(model_mutants.TOLD)} "
-          f"wrong programs told from the built one on each, {len(model_mutants.EQUAL)} that are equal told on none")
-    return 0
+    print(f"{len(met)} seeds, {len(counters.WANTED)} counters, each to be met {counters.LEAST} times or more on each; as often the reasons of {len(model_mutants.EQUAL)} "
+          "programs that are equal are to be put to the test")
 
 
 # ---- all that there are

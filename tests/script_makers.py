@@ -144,20 +144,20 @@ def lost(rng):
 
 
 def crowded(rng):
-    """The fullest network that is known: the root halts with its order under way, and every other column takes over before it receives the order
-    and once more after it."""
+    """The fullest network that is known: the root halts with its order under way, and every other column takes over before it receives the order and
+    once more after it. One receives the order from the root, the others from that one, so that the root's packets to them stay under way."""
     root = rng.randrange(16)
     script = Script(rng, script_texts.table(16, root, [root] * 16))
     script.order()
     script.send_all(root)
     script.do(f"halt={root}")
-    others = [i for i in range(16) if i != root]
-    for i in others:
+    first, *others = (i for i in range(16) if i != root)
+    for i in (first, *others):
         script.do(f"note={i},{root}")
         script.do(f"all={i}")
         script.send_all(i)
-    for i in others:
-        script.do(f"take={[packet[1:3] for packet in script.bank.network].index((root, i))}")
+    for sender, i in ((root, first), *((first, other) for other in others)):
+        script.do(f"take={[packet[1:4] for packet in script.bank.network].index((sender, i, 1))}")
         script.do(f"ack={i}")
         script.do(f"all={i}")
         script.send_all(i)
@@ -193,6 +193,12 @@ def unended(rng):
     return data[:-rng.choice([1, 1, 2, 3, 10])]
 
 
+def unended_table(rng):
+    """A table alone of three, four or five lines, without its last byte."""
+    lines = script_texts.tree(rng, rng.randint(1, 16)).splitlines()
+    return "\n".join(lines[:rng.randint(3, len(lines))]).encode()
+
+
 def damaged(rng):
     return script_texts.damaged(rng, calm(rng))
 
@@ -220,7 +226,7 @@ def refused_tables(rng):
 
 
 MAKERS = [(calm, 200), (unserved, 110), (race, 200), (sleeping, 120), (returning, 100), (watched, 120), (lost, 40), (crowded, 1), (wandering, 60), (blind, 70), (unended, 60), (damaged, 60),
-          (at_limit, 25), (past_limit, 25)]
+          (at_limit, 25), (past_limit, 25), (unended_table, 20)]
 
 
 def scripts(rng):

@@ -7,11 +7,17 @@ import sys
 import unittest
 
 import model
+import model_mutants
+import refusals
 from test_fastest import answer
 from test_losses import answer as counted
 from test_scripts import PROGRAM, ROOT, run
 
 sys.path.insert(0, os.path.join(ROOT, "bench"))
+import boundary
+import laps
+import processes
+from row import limits
 from scripts import SCRIPTS
 from stack import ROUNDS, runs_in
 
@@ -83,6 +89,29 @@ def blocks(text):
     return [line.split("#")[0].strip() for block in BLOCK.findall(text) for line in block.splitlines()]
 
 
+def led_to(lines, names, crate):
+    """The crates that the lines of a picture lead down to from one; `names` has the crate of each cell that a name takes."""
+    own = [cell for cell, name in names.items() if name == crate]
+    beside = (own[0][0], max(column for _, column in own) + 2)
+    cells, seen, found = [beside] + [(row + 1, column) for row, column in own], set(), set()
+    while cells:
+        row, column = cell = cells.pop()
+        mark = lines[row][column:column + 1] if row < len(lines) and cell not in seen else ""
+        seen.add(cell)
+        if cell in names:
+            found.add(names[cell])
+        if mark and mark in "|+":
+            cells.append((row + 1, column))
+        if mark and mark in "-+":
+            cells += [(row, column - 1), (row, column + 1)]
+    return found
+
+
+def rests_on(crate, below):
+    """A crate's crates, and those of theirs."""
+    return below[crate].union(*(rests_on(other, below) for other in below[crate]))
+
+
 class Citations(unittest.TestCase):
     def stands(self, document, name, path):
         self.assertTrue(os.path.exists(os.path.join(ROOT, path)), f"{document}: {path}")
@@ -98,6 +127,17 @@ class Documents(Citations):
             for name, path in pairs:
                 self.stands(document, name, path)
 
+    def test_every_law_that_a_reason_cites_stands_in_its_file(self):
+        cited = [pair for _, _, _, reason, *_ in model_mutants.EQUAL for pair in citations(reason)]
+        self.assertGreaterEqual(len(cited), 2)
+        for name, path in cited:
+            self.stands("tests/model_mutants.py", name, path)
+
+    def test_the_numbers_of_each_program_are_those_that_are_told(self):
+        _, _, *lines = rows(section(read("tests", "mutants", "README.md"), "The refusals that the tests meet"))
+        told = {program: {int(number) for number, *cells in lines if cells[place]} for place, program in enumerate(refusals.PROGRAMS)}
+        self.assertEqual(told, refusals.PROGRAMS)
+
     def test_the_layers_are_the_crates_and_their_modules(self):
         layers = section(read("docs", "PROOFS.md"), "Layers")
         self.assertEqual(set(re.findall(r"crates/(\w+)", layers)), set(re.findall(r"^(\w+):", read("crates.txt"), re.M)))
@@ -105,6 +145,35 @@ class Documents(Citations):
         modules = {os.path.relpath(path, ROOT) for crate in libraries for path in glob.glob(os.path.join(ROOT, "crates", crate, "src", "*.rt"))}
         named = {file_of(word) for word in spans(layers)} - {None}
         self.assertEqual(named, {path for path in modules if not path.endswith("lib.rt")})
+
+    def test_the_picture_of_the_layers_is_that_of_the_crates(self):
+        lines = BLOCK.search(section(read("docs", "PROOFS.md"), "Layers"))[1].splitlines()
+        found = [(row, name) for row, line in enumerate(lines) for name in re.finditer(r"crates/(\w+)", line)]
+        names = {(row, column): name[1] for row, name in found for column in range(*name.span())}
+        below = {crate: led_to(lines, names, crate) for crate in names.values()}
+        listed = {line.split(":")[0]: set(line.split()[1:]) for line in read("crates.txt").splitlines()}
+        self.assertEqual({crate: rests_on(crate, below) for crate in below}, {crate: rest & set(listed) for crate, rest in listed.items()})
+
+    def test_every_name_of_the_decisions_stands_in_a_source(self):
+        paths = [path for path in glob.glob(os.path.join(ROOT, "crates", "**", "*.*"), recursive=True) if path.endswith((".rt", ".antt"))]
+        modules = {os.path.basename(path).split(".")[0] for path in paths + glob.glob(os.path.join(ROOT, "tests", "mutants", "*", "*.edit"))}
+        words = set(re.findall(r"[\w\-]+", "\n".join(read(path) for path in [*paths, "crates.txt", "command.sh"])))
+        named = {word for word in spans(read("docs", "DECISIONS.md")) if re.fullmatch(r"[A-Za-z][\w\-]*", word)}
+        self.assertGreater(len(named), 200)
+        self.assertEqual(named - words - modules, set())
+
+    def test_every_point_of_document_02_has_its_decisions_and_its_landing(self):
+        decisions = read("docs", "DECISIONS.md")
+        entries = re.findall(r"^- \*\*(.+?)\*\*", decisions, re.M)
+        named = {int(row[0]): re.findall(r"\*\*(.+?)\*\*", row[1]) for row in rows(section(decisions, "Document 02, Point by Point"))[2:]}
+        self.assertEqual(list(named), list(range(1, 14)))
+        for point, names in named.items():
+            self.assertTrue(names, point)
+            for name in names:
+                self.assertEqual(entries.count(name), 1, name)
+        for document, heading in (("SPECIFICATION.md", "## Document 02, Point"), ("CHANGES.md", "## Point")):
+            points = {int(point) for point in re.findall(rf"^{heading} (\d+): ", read("docs", document), re.M)}
+            self.assertEqual(points, set(named), document)
 
 
 class Readme(Citations):
@@ -176,8 +245,9 @@ class Readme(Citations):
 
     def test_every_file_and_command_is_there(self):
         first_run = section(self.text, "The first run")
-        needed = spans(first_run.strip().split("\n\n")[0])
-        self.assertEqual(needed[0], "rt")
+        needs = [word for row in self.rows("Limits and needs") if row[0] in ("for the four commands", "for the tests") for word in spans(row[1])]
+        needed = [word for word in needs if not os.path.exists(os.path.join(ROOT, word))]
+        self.assertEqual(needed, ["bash", "rt", "gcc", "g++", "python3"])
         commands = needed + blocks(first_run) + [spans(row[0])[0] for row in self.rows("Tests")] + ["bench/run"]
         for command in commands:
             program = command.split()[0]
@@ -187,12 +257,27 @@ class Readme(Citations):
         for path in paths:
             self.assertTrue(os.path.exists(os.path.join(ROOT, path)), path)
 
+    def test_the_wrong_program_that_is_tried_is_refused_as_the_list_has_it(self):
+        command, printed = BLOCK.findall(section(self.text, "To distrust it"))
+        refused, total = printed.splitlines()
+        self.assertEqual("{}/{}".format(*command.split()[1:]), refused.split(":")[0])
+        self.assertIn(refused, read("tests", "mutants", "refused.txt").splitlines())
+        self.assertEqual(total, "1 refused for a fact, 0 not")
+
+    def test_the_table_of_speed_is_that_of_its_command(self):
+        shown = [row for row in self.rows("Figures") if len(row) == 6]
+        measured = [*laps.rows(1), *boundary.rows(1), *processes.rows()]
+        self.assertEqual([row[0] for row in shown], [row.name for row in measured])
+        for cells, row in zip(shown, measured):
+            self.assertEqual(cells[4:], limits(row, float(cells[3])), row.name)
+
     def test_the_program_runs_in_the_stack_that_is_told(self):
-        measured = re.search(r"^\| stack in which `lockers`.*\| (\d+) KB \|$", self.text, re.M)[1]
+        measured, *others = (re.search(rf"^\| stack in which `{name}`.*\| (\d+) KB \|$", self.text, re.M)[1] for name in ("lockers", "journals", "losses"))
+        self.assertEqual(re.findall(r"runs in a stack of (\d+) KB", self.text), others)
         for text in (self.text, read("lockers"), read("docs", "DECISIONS.md")):
             self.assertEqual(re.findall(r"(\d+) KB of stack", text), [measured])
         for name, script in SCRIPTS:
-            self.assertTrue(all(runs_in(PROGRAM, script, int(measured)) for _ in range(ROUNDS)), name)
+            self.assertTrue(all(runs_in(PROGRAM, script, int(measured), {}) for _ in range(ROUNDS)), name)
 
     def test_the_times_of_the_first_build_are_those_of_the_newest_gate(self):
         crates = ("column", "bank", "closing", "lockers")

@@ -8,6 +8,7 @@ import subprocess
 import unittest
 
 import model_fastest
+import refusals
 from test_scripts import ROOT, run
 
 PROGRAM = os.path.join(ROOT, "target", "bin", "installer")
@@ -27,7 +28,9 @@ def request(columns, delay, gap):
 
 @functools.lru_cache(maxsize=None)
 def answer(data):
-    return subprocess.run([PROGRAM], input=data, capture_output=True, check=True).stdout.decode()
+    printed = subprocess.run([PROGRAM], input=data, capture_output=True, check=True).stdout.decode()
+    refusals.count("installer", printed)
+    return printed
 
 
 # ---- what is told apart from the strategy: trees and schedules tried one by one

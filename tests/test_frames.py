@@ -7,6 +7,7 @@ import subprocess
 import unittest
 
 import model_frames
+import refusals
 
 ROOT = os.path.dirname(os.path.dirname(os.path.abspath(__file__)))
 PROGRAM = os.path.join(ROOT, "target", "bin", "frames")
@@ -105,6 +106,7 @@ def printed(frames):
             batch = b""
         if frame is not None:
             batch += len(frame).to_bytes(2, "big") + frame
+    refusals.count("frames", "\n".join(lines))
     return lines[::2], lines[1::2]
 
 

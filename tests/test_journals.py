@@ -5,11 +5,12 @@ import os
 import random
 import subprocess
 import tempfile
-import types
 import unittest
 
+import edited
 import model
 import model_journals
+import refusals
 from test_scripts import ROOT
 
 PROGRAM = os.path.join(ROOT, "target", "bin", "fitter")
@@ -35,6 +36,29 @@ WRONG = [
      "one = Journal(first)\n        model.refuse(20, len(set(one.lines)) < len(one.lines) and \"twice\")\n        two = Journal(second)"),
     ("32,768 bytes are too long", "len(text) > LIMIT", "len(text) >= LIMIT"),
     ("the highest number is none", "number > HIGHEST", "number >= HIGHEST"),
+    ("32,769 bytes are read", "len(text) > LIMIT", "len(text) > LIMIT + 1"),
+    ("a number above the highest passes", "number > HIGHEST and", "False and"),
+    ("an unended line is read", "model.refuse(19, not text.endswith(b\"\\n\") and \"unended\")", "text += b\"\" if text.endswith(b\"\\n\") else b\"\\n\""),
+    ("column 16 is an owner", "self.owner > 15", "self.owner > 16"),
+    ("an owner may begin with 0", 'rb"column=(0|[1-9][0-9]?)"', 'rb"column=([0-9][0-9]?)"'),
+    ("column 16 is another", "other > 15", "other > 16"),
+    ("a line about its owner passes", 'model.refuse(19, other == self.owner and "about its owner")', "pass"),
+    ("kind 3 passes", "=([12]),", "=([123]),"),
+    ("one owner passes", "one.owner == two.owner and", "False and"),
+    ("one owner is 20", 'model.refuse(19, one.owner == two.owner and "one owner")', 'model.refuse(20, one.owner == two.owner and "one owner")'),
+    ("a repeated line is looked for in the first journal only", "for journal in (one, two)) and", "for journal in (one,)) and"),
+    ("a repeated line passes", "any(len(set(journal.lines)) < len(journal.lines) for journal in (one, two))", "False"),
+    ("what the first journal got is not tested", "(one.unheard(two) or two.unheard(one))", "two.unheard(one)"),
+    ("what the second journal got is not tested", "(one.unheard(two) or two.unheard(one))", "one.unheard(two)"),
+    ("what was got is listed", 'if way == "sent" and about == other.owner and', "if about == other.owner and"),
+    ("what was sent to a third column is listed", 'if way == "sent" and about == other.owner and', 'if way == "sent" and'),
+    ("what was got too is listed", 'if way == "sent" and about == other.owner and ("got", kind, self.owner, number) not in other.lines]',
+     'if way == "sent" and about == other.owner]'),
+    ("a number is got by any column's number", '("got", kind, self.owner, number) not in other.lines]', "all(line[3] != number for line in other.lines)]"),
+    ("what is missing by its number", "missing = one.missing(two) + two.missing(one)",
+     "missing = sorted(one.missing(two), key=lambda line: line[3]) + sorted(two.missing(one), key=lambda line: line[3])"),
+    ("what the second journal's owner sent is not listed", "missing = one.missing(two) + two.missing(one)", "missing = one.missing(two)"),
+    ("what is missing as got", 'f"{way}={kind},{other},{number}\\n" for', 'f"got={kind},{other},{number}\\n" for'),
 ]
 
 
@@ -44,17 +68,9 @@ def answer(one, two):
         for path, text in zip(paths, (one, two)):
             with open(path, "wb") as file:
                 file.write(text)
-        return subprocess.run([PROGRAM, *paths], capture_output=True, check=True).stdout
-
-
-def wrong(old, new):
-    with open(model_journals.__file__, encoding="utf8") as file:
-        source = file.read()
-    assert source.count(old) == 1, old
-    module = types.ModuleType("wrong")
-    module.__file__ = model_journals.__file__
-    exec(source.replace(old, new), module.__dict__)
-    return module.compare
+        printed = subprocess.run([PROGRAM, *paths], capture_output=True, check=True).stdout
+    refusals.count("fitter", printed.decode())
+    return printed
 
 
 # ---- journals of a run
@@ -211,7 +227,7 @@ class Journals(unittest.TestCase):
         for seed in SEEDS:
             rng = random.Random(seed)
             met = collections.Counter()
-            left = {name: wrong(old, new) for name, old, new in WRONG}
+            left = {name: edited.edited(model_journals, name, (old, new)).compare for name, old, new in WRONG}
             for _ in range(PAIRS):
                 one, two = pair(rng)
                 said = answer(one, two)

@@ -4,12 +4,17 @@ import itertools
 import os
 import random
 import subprocess
+import sys
 import tempfile
 import unittest
 
 import model
 import model_losses
+import refusals
 from test_scripts import ROOT
+
+sys.path.append(os.path.join(ROOT, "bench"))
+from measure import plain
 
 PROGRAM = os.path.join(ROOT, "target", "bin", "sales")
 SEEDS = (1, 2, 3)
@@ -26,7 +31,9 @@ def request(up, root, steps, further=""):
 
 
 def answer(data):
-    return subprocess.run([PROGRAM], input=data, capture_output=True, check=True).stdout.decode()
+    printed = subprocess.run([PROGRAM], input=data, capture_output=True, check=True).stdout.decode()
+    refusals.count("sales", printed)
+    return printed
 
 
 def trees(columns):
@@ -197,13 +204,9 @@ class Losses(unittest.TestCase):
         self.assertNotIn("| 29 |", printed)
 
     def test_plain_c_counts_the_same(self):
-        with tempfile.TemporaryDirectory() as folder:
-            plain = os.path.join(folder, "losses")
-            files = [os.path.join(ROOT, "bench", source) for source in ("column.c", "bank.c", "dispatch.c", "losses.c")]
-            subprocess.run(["gcc", "-O3", "-o", plain, *files], check=True)
-            rng = random.Random(1)
-            for data in [whole(rng, columns) for columns in range(1, 9) for _ in range(20)] + [random_input(rng)[1] for _ in range(200)]:
-                self.assertEqual(subprocess.run([plain], input=data, capture_output=True, check=True).stdout.decode(), answer(data), data)
+        rng = random.Random(1)
+        for data in [whole(rng, columns) for columns in range(1, 9) for _ in range(20)] + [random_input(rng)[1] for _ in range(200)]:
+            self.assertEqual(subprocess.run([plain("losses")], input=data, capture_output=True, check=True).stdout.decode(), answer(data), data)
 
     def test_a_bank_of_one_column(self):
         self.assertEqual(answer(request([0], 0, 0)), "kept=1\nlost=0\nnone=1\n")

@@ -7,18 +7,22 @@ import unittest
 
 import model
 import model_pages
+import refusals
 
 ROOT = os.path.dirname(os.path.dirname(os.path.abspath(__file__)))
 PROGRAM = os.path.join(ROOT, "target", "bin", "pages")
 SEEDS = (1, 2, 3)
 RUNS = 120
 COMMANDS = 250
+# In some runs all columns halt before the last commands.
+LAST = 10
 LEAST = 5
 TOLD = ["bit 0 by an order", "bit 0 by a take", "bit 1 by a note", "bit 2 by a takeover", "bit 0 by an order, pending before", "bit 0 by a take, pending before",
         "bit 1 by a note, pending before", "a return with its page kept", "a read of a running column", "a read of a halted column",
         "a write to 5 of a running column", "a write to 5 of a halted column", "a write to 7 of a running column", "a write to 7 of a halted column",
         "a clear of what is pending", "a clear of nothing", "the line up", "the line down", "equal number", "lower number answered", "left take, one owed",
-        "run takes note", "run takes take", "refused 4: no such column", "refused 22: an offset above 7", "refused 22: a write above 7", "refused 22: a write elsewhere"]
+        "run takes note", "run takes take", "refused 4: no such column", "refused 22: an offset above 7", "refused 22: a write above 7", "refused 22: a write elsewhere",
+        "refused 14: not at rest", "refused 15: the root", "refused 16: no column runs"]
 
 
 def random_tree(rng):
@@ -44,7 +48,7 @@ def steps(rng, bank):
         found += [("o", rng.randrange(256), 0, 0)] * 20
     if len(running) > 1 and rng.random() < 0.02:
         found = [("h", *(1 << rng.choice([i for i in running if i != bank.root or rng.random() < 0.3] or running)).to_bytes(2, "little"), 0)]
-    if len(running) < len(columns) and bank.at_rest():
+    if len(running) < len(columns) and (bank.at_rest() or rng.random() < 0.03):
         found += [("b", i, 0, 0) for i in columns if i not in running]
     return found or [("d", 1, 0, 0)]
 
@@ -91,17 +95,24 @@ def random_run(rng, tell):
     tree = (*CHAIN, rng.choice(("root", "sender"))) if leaving else random_tree(rng)
     bank = model_pages.Bank(*tree, tell)
     given = led(rng, bank, LEFT if leaving else [])
-    commands, answers = [], ["ok\n"]
+    commands, answers, ending = [], ["ok\n"], rng.random() < 0.2
     while len(commands) < COMMANDS:
         command = next(given, None) or random_command(rng, bank)
+        if ending and len(commands) == COMMANDS - LAST:
+            command = "h", *sum(1 << i for i, column in enumerate(bank.columns) if column.running).to_bytes(2, "little"), 0
         commands.append(command)
         answers.append(model_pages.answer(bank, *command))
     return tree, commands, answers
 
 
 def printed(tree, commands):
-    data = head(*tree) + b"".join(bytes([ord(letter), *numbers]) for letter, *numbers in commands)
-    return subprocess.run([PROGRAM], input=data, stdout=subprocess.PIPE, check=True).stdout.decode()
+    return answered(head(*tree) + b"".join(bytes([ord(letter), *numbers]) for letter, *numbers in commands))
+
+
+def answered(data):
+    said = subprocess.run([PROGRAM], input=data, stdout=subprocess.PIPE, check=True).stdout.decode()
+    refusals.count("pages", said)
+    return said
 
 
 # ---- wrong pages, each of which some run must tell apart
@@ -218,8 +229,77 @@ class DispatchedUntold(model_pages.Bank):
         return text
 
 
+class TwentyTwoBeforeFour(model_pages.Bank):
+    def write(self, i, offset, value):
+        model.refuse(22, offset not in (model_pages.MASK, model_pages.CLEAR) and "a write elsewhere")
+        super().write(i, offset, value)
+
+
+class AboveSevenReadsZero(model_pages.Bank):
+    def read(self, i, offset):
+        return 0 if i < len(self.columns) and offset > 7 else super().read(i, offset)
+
+
+class SixWritten(model_pages.Bank):
+    def write(self, i, offset, value):
+        if i < len(self.columns) and offset == 6:
+            self.pending[i] = value
+        else:
+            super().write(i, offset, value)
+
+
+class MaskClears(model_pages.Bank):
+    def write(self, i, offset, value):
+        super().write(i, offset, value)
+        if offset == model_pages.MASK:
+            self.pending[i] = 0
+
+
+class CountsExchanged(model_pages.Bank):
+    def page(self, i):
+        first, second, sends, awaits, *rest = super().page(i)
+        return [first, second, awaits, sends, *rest]
+
+
+class GoalHidden(model_pages.Bank):
+    def page(self, i):
+        return [i, super().page(i)[1] % 2, *super().page(i)[2:]]
+
+
+class AllAskedFor(model_pages.Bank):
+    def line_up(self, i):
+        return self.masks[i] != 0 and self.masks[i] & self.pending[i] == self.masks[i]
+
+
+class NewestAlone(model_pages.Bank):
+    def raised(self, i, bit, words):
+        self.pending[i] = bit
+
+
+class NoteUntold(model_pages.Bank):
+    def note(self, i, j):
+        pending = list(self.pending)
+        super().note(i, j)
+        self.pending = pending
+
+
+class TakeoverUntold(model_pages.Bank):
+    def all(self, i):
+        pending = list(self.pending)
+        super().all(i)
+        self.pending = pending
+
+
+class HaltClears(model_pages.Bank):
+    def halt(self, *named):
+        super().halt(*named)
+        for i in named:
+            self.pending[i] = 0
+
+
 WRONG = [ClearedByReading, LeftIsReceived, ThreeBits, PageCopied, PageFresh, BackIsReceived, HaltedRefused, HaltedUnread, ClearSets, ClearsAll, OrderUntold,
-         EqualIsReceived, SevenShown, HaltedHidden, AnyPending, DispatchedUntold]
+         EqualIsReceived, SevenShown, HaltedHidden, AnyPending, DispatchedUntold, TwentyTwoBeforeFour, AboveSevenReadsZero, SixWritten, MaskClears, CountsExchanged,
+         GoalHidden, AllAskedFor, NewestAlone, NoteUntold, TakeoverUntold, HaltClears]
 
 
 def differs(wrong, tree, commands, answers):
@@ -244,8 +324,7 @@ class Pages(unittest.TestCase):
 
     def test_trees_that_are_refused(self):
         for bytes_in, number in ((b"", 2), (bytes([17]), 2), (bytes([3, 3]), 3)):
-            found = subprocess.run([PROGRAM], input=bytes_in + bytes(19 - len(bytes_in)) + b"r" + bytes(3), stdout=subprocess.PIPE, check=True).stdout
-            self.assertEqual(found.decode(), f"refused={number}\n" * 2)
+            self.assertEqual(answered(bytes_in + bytes(19 - len(bytes_in)) + b"r" + bytes(3)), f"refused={number}\n" * 2)
 
 
 if __name__ == "__main__":

@@ -1,0 +1,194 @@
+#!/usr/bin/env python3
+"""Draws the run of a script as SVG: a line for each column, time downwards, a row for each step. The answers are those of the program; where one does not
+fit the run, nothing is drawn and the status is 1.
+
+    tools/picture.py SCRIPT > PICTURE
+    tools/picture.py SCRIPT PROGRAM > PICTURE      # with another program than ./lockers
+"""
+import html
+import sys
+
+import recorded
+
+ROW = 22
+TOP = 108
+MARGIN = 16
+TEXTS = 190
+ANSWERS = 264
+# More characters of an answer than these are left out.
+LONGEST = 30
+# How far the columns of a bank stand apart, and of one with many.
+APART, CLOSE, MANY = 124, 72, 6
+# A colour for each order's number, again from the first after the last.
+RECORDS = ("#9aa0a6", "#1a73e8", "#e8710a", "#188038", "#a142f4", "#d01884", "#00796b", "#b06000")
+HALTED = "#c5221f"
+
+
+def colour(number):
+    return RECORDS[0] if number == 0 else RECORDS[1 + (number - 1) % (len(RECORDS) - 1)]
+
+
+def text(x, y, words, kind="", anchor="start"):
+    return f'<text x="{x:g}" y="{y:g}" class="{kind}" text-anchor="{anchor}">{html.escape(words)}</text>'
+
+
+def line(x, y, to_x, to_y, kind, stroke, more=""):
+    return f'<line x1="{x:g}" y1="{y:g}" x2="{to_x:g}" y2="{to_y:g}" class="{kind}" stroke="{stroke}" {more}/>'
+
+
+def cross(x, y, stroke):
+    return line(x - 5, y - 5, x + 5, y + 5, "cross", stroke) + line(x - 5, y + 5, x + 5, y - 5, "cross", stroke)
+
+
+def shortened(answer):
+    """An answer as it fits; a list without the column, whose number its step has."""
+    answer = " ".join(word for word in answer.split() if not word.startswith(("column=", "occupied=")))
+    return answer if len(answer) <= LONGEST else f"{answer[:LONGEST]}…"
+
+
+class Picture:
+    """The parts of a picture of a bank's moments and flights."""
+
+    def __init__(self, bank):
+        self.bank, self.moments = bank, bank.moments
+        self.close = len(bank.columns) > MANY
+        self.apart = CLOSE if self.close else APART
+        self.width = TEXTS + self.apart * len(bank.columns) + ANSWERS
+        self.height = TOP + ROW * len(self.moments) + MARGIN
+
+    def x(self, column):
+        return TEXTS + self.apart * (column + 0.5)
+
+    def y(self, moment):
+        return TOP + ROW * (moment + 0.5)
+
+    def rests(self):
+        """A band behind every row after which the bank is at rest."""
+        for at, moment in enumerate(self.moments):
+            if moment.rests:
+                yield f'<rect x="{MARGIN}" y="{self.y(at) - ROW / 2:g}" width="{self.width - 2 * MARGIN}" height="{ROW}" class="rest"/>'
+
+    def heads(self):
+        for i, parent in enumerate(self.bank.up[:len(self.bank.columns)]):
+            under = "root" if i == self.bank.root else f"under {parent}"
+            yield text(self.x(i), TOP - 34, str(i) if self.close else f"column {i}", "head", "middle")
+            yield text(self.x(i), TOP - 18, under, "small", "middle")
+
+    def texts(self):
+        for at, moment in enumerate(self.moments):
+            kind = "dispatched" if moment.dispatched else "step"
+            kind += " refused" if moment.answer.startswith("refused") else ""
+            yield text(MARGIN + (14 if moment.dispatched else 0), self.y(at) + 4, moment.text, kind)
+            yield text(self.width - ANSWERS + 2 * MARGIN, self.y(at) + 4, shortened(moment.answer), kind)
+
+    def life(self, i):
+        """A column's line, in the colour of the record that it holds; thin and broken while it is halted."""
+        for at in range(len(self.moments) - 1):
+            moment = self.moments[at]
+            kind, stroke = ("life", colour(moment.numbers[i])) if moment.running[i] else ("halted", HALTED)
+            yield line(self.x(i), self.y(at), self.x(i), self.y(at + 1), kind, stroke)
+
+    def records(self, i):
+        """The number of the record where a column begins to hold it."""
+        before = None
+        for at, moment in enumerate(self.moments):
+            number = moment.numbers[i]
+            if moment.running[i] and number != before:
+                yield f'<circle cx="{self.x(i):g}" cy="{self.y(at):g}" r="8" class="record" fill="{colour(number)}"/>'
+                yield text(self.x(i), self.y(at) + 4, str(number), "number", "middle")
+            before = number if moment.running[i] else before
+
+    def flight(self, flight):
+        """A packet's way: an arrow to where it is taken, a cross where it is lost, an open end where it is under way."""
+        start, toward = self.x(flight.sender), self.x(flight.to)
+        side = 1 if toward > start else -1
+        kind, stroke = flight.kind, colour(flight.number)
+        if flight.end == "not put":
+            end = start + side * self.apart * 0.4
+            yield line(start + side * 9, self.y(flight.put), end, self.y(flight.put), kind, stroke) + cross(end, self.y(flight.put), stroke)
+            return
+        reached = flight.left[0] if flight.left else flight.ended
+        if flight.end == "under way" and not flight.left:
+            yield line(start + side * 9, self.y(flight.put), (start + toward) / 2, self.height - MARGIN, kind, stroke, 'marker-end="url(#open)"')
+            return
+        end = toward - side * (9 if flight.end == "taken" else 14)
+        yield line(start + side * 9, self.y(flight.put), end, self.y(reached), kind, stroke, f'marker-end="url(#{"tip" if flight.end == "taken" else "open"})"')
+        if flight.left:
+            yield line(end, self.y(reached), end, self.y(len(self.moments) - 1 if flight.ended is None else flight.ended), "waiting", stroke)
+        if flight.end == "vanished":
+            yield cross(end, self.y(flight.ended), stroke)
+
+    def marks(self):
+        for at, moment in enumerate(self.moments):
+            for i, kind, words in moment.marks:
+                if kind == "halt":
+                    yield cross(self.x(i), self.y(at), HALTED)
+                if kind == "takeover":
+                    yield f'<circle cx="{self.x(i):g}" cy="{self.y(at):g}" r="11" class="takeover"/>'
+                if not self.close or kind in ("note", "takeover"):
+                    yield text(self.x(i) + 15, self.y(at) + 4, words, "mark")
+
+    def legend(self):
+        """What the strokes mean."""
+        y, below = 22, 44
+        for x, kind in ((MARGIN, "message"), (MARGIN + 116, "acknowledgement")):
+            yield line(x, y, x + 34, y, kind, colour(1), 'marker-end="url(#tip)"') + text(x + 42, y + 4, kind, "small")
+        for number in range(3):
+            x = MARGIN + 276 + 76 * number
+            yield line(x, y, x + 14, y, "life", colour(number)) + text(x + 20, y + 4, f"record {number}", "small")
+        yield cross(MARGIN + 8, below, HALTED) + text(MARGIN + 20, below + 4, "halts, or a packet to a halted one", "small")
+        yield f'<circle cx="{MARGIN + 226}" cy="{below}" r="9" class="takeover"/>' + text(MARGIN + 242, below + 4, "takes over", "small")
+        yield f'<rect x="{MARGIN + 320}" y="{below - 7}" width="20" height="14" class="rest"/>' + text(MARGIN + 346, below + 4, "at rest", "small")
+
+    def parts(self):
+        columns = range(len(self.bank.columns))
+        yield from self.rests()
+        yield from self.legend()
+        yield from self.heads()
+        yield from self.texts()
+        for i in columns:
+            yield from self.life(i)
+        for flight in self.bank.flights:
+            yield from self.flight(flight)
+        for i in columns:
+            yield from self.records(i)
+        yield from self.marks()
+
+
+STYLE = """
+text { font: 12px sans-serif; fill: #202124; } .small { font-size: 11px; fill: #5f6368; } .head { font-weight: bold; }
+.step { font-family: monospace; } .dispatched { font: 11px monospace; fill: #5f6368; } .refused { fill: #c5221f; }
+.mark { font-size: 11px; paint-order: stroke; stroke: white; stroke-width: 3px; } .number { font-size: 10px; fill: white; font-weight: bold; }
+.life { stroke-width: 5; } .halted { stroke-width: 1.5; stroke-dasharray: 2 4; } .cross { stroke-width: 2.5; }
+.message { stroke-width: 2; } .acknowledgement { stroke-width: 1.5; stroke-dasharray: 6 3; } .waiting { stroke-width: 1.5; stroke-dasharray: 1 3; }
+.record { stroke: white; stroke-width: 1.5; } .takeover { fill: none; stroke: #202124; stroke-width: 2; } .rest { fill: #e6f4ea; }
+"""
+
+ENDS = """
+<marker id="tip" viewBox="0 0 10 10" refX="9" refY="5" markerWidth="9" markerHeight="9" markerUnits="userSpaceOnUse" orient="auto"><path d="M0 0L10 5L0 10z" fill="context-stroke"/></marker>
+<marker id="open" viewBox="0 0 10 10" refX="5" refY="5" markerWidth="8" markerHeight="8" markerUnits="userSpaceOnUse" orient="auto"><circle cx="5" cy="5" r="4" fill="white" stroke="#5f6368" stroke-width="2"/></marker>
+"""
+
+
+def drawn(bank):
+    """The picture of a recorded run, as SVG."""
+    picture = Picture(bank)
+    size = f'width="{picture.width}" height="{picture.height}" viewBox="0 0 {picture.width} {picture.height}"'
+    body = "\n".join(picture.parts())
+    return (f'<svg xmlns="http://www.w3.org/2000/svg" {size}>\n<title>The run of a script</title>\n<style>{STYLE}</style>\n<defs>{ENDS}</defs>\n'
+            f'<rect width="100%" height="100%" fill="white"/>\n{body}\n</svg>\n')
+
+
+def main():
+    script, *program = sys.argv[1:] or sys.exit(__doc__)
+    with open(script, "rb") as file:
+        data = file.read()
+    try:
+        answers = recorded.answers_of(program[0] if program else recorded.PROGRAM, script)
+        sys.stdout.write(drawn(recorded.recorded(data, answers)))
+    except recorded.Unfit as unfit:
+        sys.exit(f"picture: {unfit}")
+
+
+if __name__ == "__main__":
+    main()
