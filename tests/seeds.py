@@ -3,12 +3,13 @@
 
     python3 tests/seeds.py 1-20
 
-Each seed must meet every counter of every test, and have every program answer each of its numbers; it must tell the wrong models of all programs but the
+Each seed must meet every counter of every test, those of scripts half as often as the gate's seeds, and have every program answer each of its numbers; it must tell the wrong models of all programs but the
 script program, whose random_scripts.py tells on seeds of its own. Prints how often a seed met each number, the least and the most of all seeds."""
 import io
 import sys
 import unittest
 
+import counters
 import random_scripts
 import refusals
 import test_fastest
@@ -45,6 +46,7 @@ def main():
     first, _, last = sys.argv[1].partition("-")
     seeds = range(int(first), int(last or first) + 1)
     met, numbers, faults = [], [], 0
+    counters.LEAST //= 2
     for seed in seeds:
         refusals.MET.clear()
         faults += random_scripts.seed_part(seed, met, wrong_too=False) + points(seed)

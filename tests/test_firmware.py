@@ -75,9 +75,18 @@ class Walk:
             if rng.randrange(2):
                 mask = rng.randrange(1 << columns) & (-1 if name == "noted" else rng.randrange(1 << columns)) & ~((name == "owed") << i)
                 block[12 + 2 * k:14 + 2 * k] = mask.to_bytes(2, "big")
+        if i == self.tree[1] and columns > 1 and rng.randrange(2):
+            self.owing(i, block)
         whole = i == self.tree[1] or rng.randrange(2)
         block[model.STATUS] = (rng.randrange(12) > 0) + 2 * whole + 4 * rng.randrange(columns)
         return bytes(block)
+
+    def owing(self, i, block):
+        """A root that owes another column, and awaits it or nobody."""
+        other = (1 << self.rng.choice([k for k in range(len(self.columns)) if k != i])).to_bytes(2, "big")
+        for name, members in (("send", bytes(2)), ("awaited", self.rng.choice([other, bytes(2)])), ("owed", other)):
+            at = 12 + 2 * model.SETS.index(name)
+            block[at:at + 2] = members
 
     def packet(self, i):
         """One for column i, if there is one, or one that somebody might have sent."""

@@ -114,6 +114,11 @@ def other_counts(rng, columns):
     return request(up, root, rng.choice(("00", "01", "012", "1000", "9999", "", "-1", "+1", " 1", "1 ", "0x1", "1\r")))
 
 
+def of_four_digits(rng, columns):
+    up, root = random_tree(rng, columns)
+    return request(up, root, rng.randrange(1000, 10000))
+
+
 def followed(rng, columns):
     return whole(rng, columns) + rng.choice((b"\n", b"0", b"\0", b"after=1\n", b"order=0000000000000000\n"))
 
@@ -126,7 +131,7 @@ def unasked(rng, columns):
     return b"".join(whole(rng, columns).splitlines(keepends=True)[:-1])
 
 
-OTHERS = (of_many, of_senders, of_many_and_another_form, astray, dropped, changed, other_counts, followed, unended, unasked)
+OTHERS = (of_many, of_senders, of_many_and_another_form, astray, dropped, changed, other_counts, of_four_digits, followed, unended, unasked)
 
 
 def random_input(rng):

@@ -5,9 +5,9 @@ import random
 import subprocess
 import unittest
 
-import model
 import model_pages
 import refusals
+from pages_mutants import WRONG
 
 ROOT = os.path.dirname(os.path.dirname(os.path.abspath(__file__)))
 PROGRAM = os.path.join(ROOT, "target", "bin", "pages")
@@ -75,6 +75,11 @@ def random_command(rng, bank):
 CHAIN = (3, 0, [0, 0, 1])
 LEFT = [("o", 1), ("s", 0), ("t", 0), ("s", 1), ("t", 0), ("h", 2), ("n", 0, 1), ("s", 0), ("w", 2, 7, 1), ("t", 0), ("p", 2), ("a", 2), ("t", 0),
         ("o", 2), ("s", 0), ("s", 0), ("w", 2, 7, 1), ("t", 0), ("p", 2)]
+# A root that halts when the first of its two children has the second order: the other takes over, and sends it the first again, which is lower.
+STAR = (3, 0, [0, 0, 0])
+LOWER = [("o", 1), ("s", 0), ("s", 0), ("t", 0), ("t", 0), ("a", 1), ("a", 2), ("t", 0), ("t", 0), ("o", 2), ("s", 0), ("t", 0), ("h", 1), ("n", 2, 0), ("g", 2),
+         ("s", 2), ("s", 2), ("t", 0), ("p", 1)]
+SCENES = [(CHAIN, LEFT), (STAR, LOWER)]
 
 
 def led(rng, bank, given):
@@ -91,10 +96,10 @@ def head(columns, root, up, watch):
 
 def random_run(rng, tell):
     """A tree and its commands, with what the model answers to each."""
-    leaving = rng.random() < 0.2
-    tree = (*CHAIN, rng.choice(("root", "sender"))) if leaving else random_tree(rng)
+    scene, lines = rng.choice(SCENES) if rng.random() < 0.3 else (None, [])
+    tree = (*scene, rng.choice(("root", "sender"))) if scene else random_tree(rng)
     bank = model_pages.Bank(*tree, tell)
-    given = led(rng, bank, LEFT if leaving else [])
+    given = led(rng, bank, lines)
     commands, answers, ending = [], ["ok\n"], rng.random() < 0.2
     while len(commands) < COMMANDS:
         command = next(given, None) or random_command(rng, bank)
@@ -113,193 +118,6 @@ def answered(data):
     said = subprocess.run([PROGRAM], input=data, stdout=subprocess.PIPE, check=True).stdout.decode()
     refusals.count("pages", said)
     return said
-
-
-# ---- wrong pages, each of which some run must tell apart
-
-class ClearedByReading(model_pages.Bank):
-    def read(self, i, offset):
-        value = super().read(i, offset)
-        if offset == 6:
-            self.pending[i] = 0
-        return value
-
-
-class LeftIsReceived(model_pages.Bank):
-    def acknowledge(self, i, owed):
-        super().acknowledge(i, owed)
-        if self.taking:
-            self.pending[i] |= model_pages.RECORD_RECEIVED
-
-    taking = False
-
-    def take(self, place):
-        self.taking = True
-        try:
-            super().take(place)
-        finally:
-            self.taking = False
-
-
-class ThreeBits(model_pages.Bank):
-    def write(self, i, offset, value):
-        super().write(i, offset, value % 8 if offset == model_pages.MASK else value)
-
-
-class PageCopied(model_pages.Bank):
-    def back(self, j):
-        running = [i for i, column in enumerate(self.columns) if column.running]
-        super().back(j)
-        self.masks[j], self.pending[j] = self.masks[running[0]], self.pending[running[0]]
-
-
-class PageFresh(model_pages.Bank):
-    def back(self, j):
-        super().back(j)
-        self.masks[j] = self.pending[j] = 0
-
-
-class BackIsReceived(model_pages.Bank):
-    def back(self, j):
-        super().back(j)
-        self.pending[j] |= model_pages.RECORD_RECEIVED
-
-
-class HaltedRefused(model_pages.Bank):
-    def write(self, i, offset, value):
-        if i < len(self.columns):
-            self.acting(i)
-        super().write(i, offset, value)
-
-
-class HaltedUnread(model_pages.Bank):
-    def read(self, i, offset):
-        self.acting(i)
-        return super().read(i, offset)
-
-
-class ClearSets(model_pages.Bank):
-    def write(self, i, offset, value):
-        super().write(i, offset, value)
-        if offset == model_pages.CLEAR:
-            self.pending[i] |= value
-
-
-class ClearsAll(model_pages.Bank):
-    def write(self, i, offset, value):
-        super().write(i, offset, 255 if offset == model_pages.CLEAR else value)
-
-
-class OrderUntold(model_pages.Bank):
-    def order(self, doors):
-        pending = self.pending[self.root]
-        super().order(doors)
-        self.pending[self.root] = pending
-
-
-class EqualIsReceived(model_pages.Bank):
-    def take(self, place):
-        packet = self.network[place] if place < len(self.network) else None
-        super().take(place)
-        if packet and packet[0] == "message" and packet[3] == self.columns[packet[2]].number:
-            self.pending[packet[2]] |= model_pages.RECORD_RECEIVED
-
-
-class SevenShown(model_pages.Bank):
-    def page(self, i):
-        return super().page(i)[:7] + [self.pending[i]]
-
-
-class HaltedHidden(model_pages.Bank):
-    def page(self, i):
-        column = self.columns[i]
-        return super().page(i) if column.running else [i, 0, 0, 0, 0, self.masks[i], self.pending[i], 0]
-
-
-class AnyPending(model_pages.Bank):
-    def line_up(self, i):
-        return self.pending[i] != 0
-
-
-class DispatchedUntold(model_pages.Bank):
-    def run(self, limit):
-        pending = list(self.pending)
-        text = super().run(limit)
-        self.pending = pending
-        return text
-
-
-class TwentyTwoBeforeFour(model_pages.Bank):
-    def write(self, i, offset, value):
-        model.refuse(22, offset not in (model_pages.MASK, model_pages.CLEAR) and "a write elsewhere")
-        super().write(i, offset, value)
-
-
-class AboveSevenReadsZero(model_pages.Bank):
-    def read(self, i, offset):
-        return 0 if i < len(self.columns) and offset > 7 else super().read(i, offset)
-
-
-class SixWritten(model_pages.Bank):
-    def write(self, i, offset, value):
-        if i < len(self.columns) and offset == 6:
-            self.pending[i] = value
-        else:
-            super().write(i, offset, value)
-
-
-class MaskClears(model_pages.Bank):
-    def write(self, i, offset, value):
-        super().write(i, offset, value)
-        if offset == model_pages.MASK:
-            self.pending[i] = 0
-
-
-class CountsExchanged(model_pages.Bank):
-    def page(self, i):
-        first, second, sends, awaits, *rest = super().page(i)
-        return [first, second, awaits, sends, *rest]
-
-
-class GoalHidden(model_pages.Bank):
-    def page(self, i):
-        return [i, super().page(i)[1] % 2, *super().page(i)[2:]]
-
-
-class AllAskedFor(model_pages.Bank):
-    def line_up(self, i):
-        return self.masks[i] != 0 and self.masks[i] & self.pending[i] == self.masks[i]
-
-
-class NewestAlone(model_pages.Bank):
-    def raised(self, i, bit, words):
-        self.pending[i] = bit
-
-
-class NoteUntold(model_pages.Bank):
-    def note(self, i, j):
-        pending = list(self.pending)
-        super().note(i, j)
-        self.pending = pending
-
-
-class TakeoverUntold(model_pages.Bank):
-    def all(self, i):
-        pending = list(self.pending)
-        super().all(i)
-        self.pending = pending
-
-
-class HaltClears(model_pages.Bank):
-    def halt(self, *named):
-        super().halt(*named)
-        for i in named:
-            self.pending[i] = 0
-
-
-WRONG = [ClearedByReading, LeftIsReceived, ThreeBits, PageCopied, PageFresh, BackIsReceived, HaltedRefused, HaltedUnread, ClearSets, ClearsAll, OrderUntold,
-         EqualIsReceived, SevenShown, HaltedHidden, AnyPending, DispatchedUntold, TwentyTwoBeforeFour, AboveSevenReadsZero, SixWritten, MaskClears, CountsExchanged,
-         GoalHidden, AllAskedFor, NewestAlone, NoteUntold, TakeoverUntold, HaltClears]
 
 
 def differs(wrong, tree, commands, answers):
