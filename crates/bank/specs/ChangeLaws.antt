@@ -18,8 +18,8 @@ use Rattle.column.specs.Trees.{treeRefusal}
 use Rattle.column.specs.Columns.{standing}
 use Rattle.column.specs.StateLaws.{acceptable, note-beyond}
 use Rattle.column.specs.Steps as core
-use Rattle.column.specs.Tested.{takeTested}
-use Rattle.column.specs.TestedLaws.{take-tested}
+use Rattle.column.specs.Unchecked.{takeUnchecked}
+use Rattle.column.specs.UncheckedLaws.{take-unchecked}
 use Rattle.column.specs.declared.outcome.Outcome as core-outcome
 use Rattle.column.specs.declared.outcome.Answer as core-answer
 use Rattle.column.specs.declared.outcome.Answer.the-variants as core-is
@@ -259,7 +259,7 @@ module _ (s : State) (stood : Stands s) (place : ℕ) (there : place < s .bank .
   to-below : receiver p < s .bank .tree .columns
   to-below = acceptable (s .bank .tree) p (stood .packets place there) .receiver-below
 
-  pub taken-done : (i : ℕ) → i ≡ receiver p → (o : core-outcome.Outcome) → core.meant o ≡ takeTested (s .bank .tree) i (columnAt (s .bank) i) p
+  pub taken-done : (i : ℕ) → i ≡ receiver p → (o : core-outcome.Outcome) → core.meant o ≡ takeUnchecked (s .bank .tree) i (columnAt (s .bank) i) p
       → {after : Outcome State} → (Steady (columnAt (s .bank) i) (core.meant o) → Aimed (s .bank .tree) (core.meant o) → after ≡ settled s (removed s place) i (core.meant o))
       → after ≡ delivered s place p
   unfolding delivered
@@ -268,7 +268,7 @@ module _ (s : State) (stood : Stands s) (place : ℕ) (there : place < s .bank .
       let c = columnAt (s .bank) i in
       let fit = stood .packets place there in
       let good = stands-at s stood i (subst (λ (j : ℕ). j < t .columns) (sym is) to-below) in
-      let same : core.meant o ≡ core.take t i c p = e ∙ take-tested t i c good p fit in
+      let same : core.meant o ≡ core.take t i c p = e ∙ take-unchecked t i c good p fit in
       let steady = steady-cond (eqb (core.takeRefusal t i c p) 0) c (core.takeEffect t i c p) (core.refused (core.takeRefusal t i c p) c) (steady-take t i c p) tt in
       settles (subst (Steady c) (sym same) steady) (subst (Aimed t) (sym same) (aimed-take t i c good p fit))
       ∙ ap (settled s (removed s place) i) same

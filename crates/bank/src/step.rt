@@ -23,8 +23,8 @@ use column::precedence::earlier;
 use column::precedence::refuse_if;
 use column::refusal::note_refusal;
 use column::state::Column;
-use column::tested;
 use column::tree::Tree;
+use column::unchecked_for_bank;
 ghost use mathlib.Core.Path.{_≡_};
 ghost use mathlib.Core.Bool.{true};
 ghost use Prim.Native.Nat.{_≤_, _<_};
@@ -43,7 +43,7 @@ fn noted(t: Tree, running: u16, i: usize, c: Column, j: usize) -> Outcome
     ensures { λ r. ⌜ StepsCore r t running (Note i j) i c ⌝ }
 {
     if !has(running, j) {
-        return tested::note(t, i, c, j);
+        return unchecked_for_bank::note(t, i, c, j);
     }
     let n = earlier(note_refusal(t, i, c, j), 6);
     Outcome {
@@ -67,10 +67,10 @@ pub(crate) fn core_step(t: Tree, running: u16, x: Step, i: usize, c: Column) -> 
     ensures { λ r. ⌜ StepsCore r t running x i c ⌝ }
 {
     match x {
-        Step::Order(given) => tested::order(t, i, c, given),
-        Step::Send(_) => tested::send(t, i, c),
-        Step::Ack(_) => tested::ack(t, i, c),
-        Step::All(_) => tested::all(t, i, c),
+        Step::Order(given) => unchecked_for_bank::order(t, i, c, given),
+        Step::Send(_) => unchecked_for_bank::send(t, i, c),
+        Step::Ack(_) => unchecked_for_bank::ack(t, i, c),
+        Step::All(_) => unchecked_for_bank::all(t, i, c),
         Step::Note(_, j) => noted(t, running, i, c, j),
         Step::Take(_) => no_step(c),
         Step::Halt(_) => no_step(c),
@@ -119,7 +119,7 @@ pub(crate) fn taken(
     ensures { λ r. ⌜ Takes r t running place i c count (now (heads .entry)) (now (doors .entry)) (now (heads .exit)) (now (doors .exit)) ⌝ }
 {
     let p = packet(heads[place], doors[place]);
-    let o = tested::take(t, i, c, p);
+    let o = unchecked_for_bank::take(t, i, c, p);
     settle_taken(running, place, o, count, heads, doors)
 }
 

@@ -35,6 +35,6 @@ pub mod PageLaws
 pub mod PageExamples
 pub mod PlainLaws
 pub mod StateLaws
-pub mod Tested
-pub mod TestedLaws
+pub mod Unchecked
+pub mod UncheckedLaws
 pub mod StepExamples

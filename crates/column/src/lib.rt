@@ -16,7 +16,7 @@ pub mod returning;
 mod sets;
 pub mod state;
 pub mod step;
-pub mod tested;
 pub mod topology;
 mod traversal;
 pub mod tree;
+pub mod unchecked_for_bank;

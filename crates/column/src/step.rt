@@ -8,8 +8,8 @@ use crate::refusal::halt_refusal;
 use crate::refusal::packet_refusal;
 use crate::state::Column;
 use crate::state::standing;
-use crate::tested;
 use crate::tree::Tree;
+use crate::unchecked_for_bank;
 ghost use mathlib.Core.Path.{_≡_};
 ghost use Rattle.column.specs.Steps.{meant, order, send, take, ack, all, note, halt};
 
@@ -21,7 +21,7 @@ pub fn order(t: Tree, i: usize, c: Column, doors: u64) -> Outcome
     if n != 0 {
         return refused(c, n);
     }
-    tested::order(t, i, c, doors)
+    unchecked_for_bank::order(t, i, c, doors)
 }
 
 // Column i with the one served that stands earliest of those to send to, and the message for it, if there is one to put.
@@ -32,7 +32,7 @@ pub fn send(t: Tree, i: usize, c: Column) -> Outcome
     if n != 0 {
         return refused(c, n);
     }
-    tested::send(t, i, c)
+    unchecked_for_bank::send(t, i, c)
 }
 
 // Column i after a packet, what it answers at once, and whether the packet is left for another take.
@@ -43,7 +43,7 @@ pub fn take(t: Tree, i: usize, c: Column, p: Packet) -> Outcome
     if n != 0 {
         return refused(c, n);
     }
-    tested::take(t, i, c, p)
+    unchecked_for_bank::take(t, i, c, p)
 }
 
 // Column i with the lowest owed struck out, and the acknowledgement for that one.
@@ -54,7 +54,7 @@ pub fn ack(t: Tree, i: usize, c: Column) -> Outcome
     if n != 0 {
         return refused(c, n);
     }
-    tested::ack(t, i, c)
+    unchecked_for_bank::ack(t, i, c)
 }
 
 // Column i with the whole bank as its goal, and the root alone to send to.
@@ -65,7 +65,7 @@ pub fn all(t: Tree, i: usize, c: Column) -> Outcome
     if n != 0 {
         return refused(c, n);
     }
-    tested::all(t, i, c)
+    unchecked_for_bank::all(t, i, c)
 }
 
 // Column i with j noted; where j was awaited, its children are to be sent to instead.
@@ -76,7 +76,7 @@ pub fn note(t: Tree, i: usize, c: Column, j: usize) -> Outcome
     if n != 0 {
         return refused(c, n);
     }
-    tested::note(t, i, c, j)
+    unchecked_for_bank::note(t, i, c, j)
 }
 
 // Column i halted, with all else that it holds as it was.

@@ -1,6 +1,6 @@
 use borrow.Author.Needs.{needs}
 use mathlib.Core.Path.{_∙_}
-use Rattle.column.specs.TestedLaws.{order-tested, send-tested, ack-tested, all-tested}
+use Rattle.column.specs.UncheckedLaws.{order-unchecked, send-unchecked, ack-unchecked, all-unchecked}
 use Rattle.bank.proofs.step.core_step.Statement.{statement}
 use Rattle.bank.proofs.step.core_step.Tie as tie
 
@@ -63,28 +63,28 @@ returns c =
     λ good.
     let k = c .before .before in
     let a = k .before .before .args in
-    rw (k .x .given .1) (c .order .ensures ∙ order-tested (a .t) (a .i) (a .c) good _)
+    rw (k .x .given .1) (c .order .ensures ∙ order-unchecked (a .t) (a .i) (a .c) good _)
 
 returns-2 : tie.Need-returns-2
 returns-2 c =
     λ good.
     let k = c .before in
     let a = k .before .before .args in
-    rw (k .enum-told .given .1) (c .send .ensures ∙ send-tested (a .t) (a .i) (a .c) good)
+    rw (k .enum-told .given .1) (c .send .ensures ∙ send-unchecked (a .t) (a .i) (a .c) good)
 
 returns-3 : tie.Need-returns-3
 returns-3 c =
     λ good.
     let k = c .before in
     let a = k .before .before .args in
-    rw (k .enum-told2 .given .1) (c .ack .ensures ∙ ack-tested (a .t) (a .i) (a .c) good)
+    rw (k .enum-told2 .given .1) (c .ack .ensures ∙ ack-unchecked (a .t) (a .i) (a .c) good)
 
 returns-4 : tie.Need-returns-4
 returns-4 c =
     λ good.
     let k = c .before in
     let a = k .before .before .args in
-    rw (k .enum-told3 .given .1) (c .all .ensures ∙ all-tested (a .t) (a .i) (a .c) good)
+    rw (k .enum-told3 .given .1) (c .all .ensures ∙ all-unchecked (a .t) (a .i) (a .c) good)
 
 returns-5 : tie.Need-returns-5
 returns-5 c = λ good. rw (c .before .before .x2 .given .1) (c .noted .ensures good)

@@ -2,7 +2,7 @@ use borrow.Author.Needs.{needs}
 use mathlib.Core.Path.{sym, _∙_}
 use borrow.Author.Tests.{not-true, not-false}
 use Rattle.column.specs.Sets.{has}
-use Rattle.column.specs.TestedLaws.{note-tested}
+use Rattle.column.specs.UncheckedLaws.{note-unchecked}
 use Rattle.bank.specs.StepLaws.{note-halted, note-running}
 use Rattle.bank.proofs.step.noted.Statement.{statement}
 use Rattle.bank.proofs.step.noted.Tie as tie
@@ -18,7 +18,7 @@ returns c =
     λ good.
     let k = c .before .before in
     let a = k .before .args in
-    c .note .ensures ∙ note-tested (a .t) (a .i) (a .c) good (a .j)
+    c .note .ensures ∙ note-unchecked (a .t) (a .i) (a .c) good (a .j)
     ∙ note-halted (a .t) (a .i) (a .c) (a .j) (has (a .running) (a .j)) (sym (k .has .ensures) ∙ not-true _ (c .before .if1 .taken))
 
 note-refusal-requires : tie.Need-note-refusal-requires

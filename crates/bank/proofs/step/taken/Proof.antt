@@ -2,7 +2,7 @@ use borrow.Author.Needs.{needs}
 use mathlib.Core.Path.{sym, ap, _∙_}
 use native.Mathlib.Omega.{arith}
 use Prim.Native.Nat.{_<_}
-use Rattle.column.specs.Tested.{takeTested}
+use Rattle.column.specs.Unchecked.{takeUnchecked}
 use Rattle.column.specs.declared.tree.Tree.{Tree}
 use Rattle.column.specs.declared.state.Column.{Column}
 use Rattle.bank.specs.Banks.{state, columnAt}
@@ -42,9 +42,9 @@ returns c =
     let there : a .place < b .count = omega (arith, s .pre .0, handed .count-is) in
     taken-done (state b (a .heads .now) (a .doors .now)) (stands _ ok) (a .place) there (a .i) is (k .take .result)
     (k .take .ensures
-    ∙ ap (λ (t : Tree). takeTested t (a .i) (a .c) (q .packet .result)) (sym (handed .tree-is))
-    ∙ ap (λ (c : Column). takeTested (b .tree) (a .i) c (q .packet .result)) (sym (handed .column-is))
-    ∙ ap (takeTested (b .tree) (a .i) (columnAt b (a .i))) (q .packet .ensures))
+    ∙ ap (λ (t : Tree). takeUnchecked t (a .i) (a .c) (q .packet .result)) (sym (handed .tree-is))
+    ∙ ap (λ (c : Column). takeUnchecked (b .tree) (a .i) c (q .packet .result)) (sym (handed .column-is))
+    ∙ ap (takeUnchecked (b .tree) (a .i) (columnAt b (a .i))) (q .packet .ensures))
     (c .settle-taken .ensures b (a .i) (handed .count-is) (handed .lit))
 
 pub taken-spec : {M : Type 1} → statement M

@@ -1,7 +1,7 @@
 use borrow.Author.Needs.{needs}
 use mathlib.Core.Path.{sym, _∙_}
 use Rattle.column.specs.Steps.{ackRefusal}
-use Rattle.column.specs.TestedLaws.{standing-refused, ack-tested}
+use Rattle.column.specs.UncheckedLaws.{standing-refused, ack-unchecked}
 use Rattle.column.proofs.step.ack.Statement.{statement}
 use Rattle.column.proofs.step.ack.Tie as tie
 
@@ -24,7 +24,7 @@ returns-2 : tie.Need-returns-2
 returns-2 c =
     let e = c .before in
     let a = e .before .before .args in
-    c .ack .ensures ∙ ack-tested (a .t) (a .i) (a .c) (sym (e .before .standing .ensures) ∙ e .if1 .left)
+    c .ack .ensures ∙ ack-unchecked (a .t) (a .i) (a .c) (sym (e .before .standing .ensures) ∙ e .if1 .left)
 
 pub ack-spec : {M : Type 1} → statement M
 ack-spec = tie.close (tie.spec standing-requires refused-requires returns ack-requires returns-2)

@@ -1,7 +1,7 @@
 use borrow.Author.Needs.{needs}
 use mathlib.Core.Path.{sym, _∙_}
 use Rattle.column.specs.Steps.{allRefusal}
-use Rattle.column.specs.TestedLaws.{standing-refused, all-tested}
+use Rattle.column.specs.UncheckedLaws.{standing-refused, all-unchecked}
 use Rattle.column.proofs.step.all.Statement.{statement}
 use Rattle.column.proofs.step.all.Tie as tie
 
@@ -24,7 +24,7 @@ returns-2 : tie.Need-returns-2
 returns-2 c =
     let e = c .before in
     let a = e .before .before .args in
-    c .all .ensures ∙ all-tested (a .t) (a .i) (a .c) (sym (e .before .standing .ensures) ∙ e .if1 .left)
+    c .all .ensures ∙ all-unchecked (a .t) (a .i) (a .c) (sym (e .before .standing .ensures) ∙ e .if1 .left)
 
 pub all-spec : {M : Type 1} → statement M
 all-spec = tie.close (tie.spec standing-requires refused-requires returns all-requires returns-2)

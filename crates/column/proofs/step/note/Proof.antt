@@ -1,7 +1,7 @@
 use borrow.Author.Needs.{needs}
 use mathlib.Core.Path.{sym, _∙_}
 use Rattle.column.specs.Steps.{noteRefusal}
-use Rattle.column.specs.TestedLaws.{standing-refused, note-tested}
+use Rattle.column.specs.UncheckedLaws.{standing-refused, note-unchecked}
 use Rattle.column.proofs.step.note.Statement.{statement}
 use Rattle.column.proofs.step.note.Tie as tie
 
@@ -24,7 +24,7 @@ returns-2 : tie.Need-returns-2
 returns-2 c =
     let e = c .before in
     let a = e .before .before .args in
-    c .note .ensures ∙ note-tested (a .t) (a .i) (a .c) (sym (e .before .standing .ensures) ∙ e .if1 .left) (a .j)
+    c .note .ensures ∙ note-unchecked (a .t) (a .i) (a .c) (sym (e .before .standing .ensures) ∙ e .if1 .left) (a .j)
 
 pub note-spec : {M : Type 1} → statement M
 note-spec = tie.close (tie.spec standing-requires refused-requires returns note-requires returns-2)

@@ -1,7 +1,7 @@
 use borrow.Author.Needs.{needs}
 use mathlib.Core.Path.{sym, _∙_}
 use Rattle.column.specs.Steps.{orderRefusal}
-use Rattle.column.specs.TestedLaws.{standing-refused, order-tested}
+use Rattle.column.specs.UncheckedLaws.{standing-refused, order-unchecked}
 use Rattle.column.proofs.step.order.Statement.{statement}
 use Rattle.column.proofs.step.order.Tie as tie
 
@@ -24,7 +24,7 @@ returns-2 : tie.Need-returns-2
 returns-2 c =
     let e = c .before in
     let a = e .before .before .args in
-    c .order .ensures ∙ order-tested (a .t) (a .i) (a .c) (sym (e .before .standing .ensures) ∙ e .if1 .left) (a .doors)
+    c .order .ensures ∙ order-unchecked (a .t) (a .i) (a .c) (sym (e .before .standing .ensures) ∙ e .if1 .left) (a .doors)
 
 pub order-spec : {M : Type 1} → statement M
 order-spec = tie.close (tie.spec standing-requires refused-requires returns order-requires returns-2)

@@ -1,7 +1,7 @@
 use borrow.Author.Needs.{needs}
 use mathlib.Core.Path.{sym, _∙_}
 use Rattle.column.specs.Steps.{sendRefusal}
-use Rattle.column.specs.TestedLaws.{standing-refused, send-tested}
+use Rattle.column.specs.UncheckedLaws.{standing-refused, send-unchecked}
 use Rattle.column.proofs.step.send.Statement.{statement}
 use Rattle.column.proofs.step.send.Tie as tie
 
@@ -24,7 +24,7 @@ returns-2 : tie.Need-returns-2
 returns-2 c =
     let e = c .before in
     let a = e .before .before .args in
-    c .send .ensures ∙ send-tested (a .t) (a .i) (a .c) (sym (e .before .standing .ensures) ∙ e .if1 .left)
+    c .send .ensures ∙ send-unchecked (a .t) (a .i) (a .c) (sym (e .before .standing .ensures) ∙ e .if1 .left)
 
 pub send-spec : {M : Type 1} → statement M
 send-spec = tie.close (tie.spec standing-requires refused-requires returns send-requires returns-2)

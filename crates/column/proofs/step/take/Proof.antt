@@ -5,7 +5,7 @@ use Rattle.column.specs.Refusals.{first, earlier}
 use Rattle.column.specs.RefusalLaws.{earlier-none, earlier-assoc}
 use Rattle.column.specs.Columns.{standing}
 use Rattle.column.specs.Steps.{unless, packetRefusal, takeConditions, takeRefusal, takeEffect}
-use Rattle.column.specs.TestedLaws.{standing-refused, take-tested}
+use Rattle.column.specs.UncheckedLaws.{standing-refused, take-unchecked}
 use Rattle.column.proofs.step.take.Statement.{statement}
 use Rattle.column.proofs.step.take.Tie as tie
 
@@ -46,7 +46,7 @@ returns-2 c =
     let e = c .before in
     let a = e .before .before .before .before .args in
     let q = earlier-none (standing (a .t) (a .i) (a .c)) (packetRefusal (a .t) (a .p)) (sym (tests (e .before)) ∙ e .if1 .left) in
-    c .take .ensures ∙ take-tested (a .t) (a .i) (a .c) (q .0) (a .p) (q .1)
+    c .take .ensures ∙ take-unchecked (a .t) (a .i) (a .c) (q .0) (a .p) (q .1)
 
 pub take-spec : {M : Type 1} → statement M
 take-spec =

@@ -3,10 +3,10 @@ use mathlib.Core.Path.{_≡_, sym, ap, _∙_}
 use borrow.Author.Tests.{eq-eqb, ne-eqb}
 use Rattle.column.specs.Trees.{choose}
 use Rattle.column.specs.Steps.{refused, sendConditions}
-use Rattle.column.specs.Tested.{testedRefusal}
-use Rattle.column.specs.TestedLaws.{tested-passes}
-use Rattle.column.proofs.tested.send.Statement.{statement}
-use Rattle.column.proofs.tested.send.Tie as tie
+use Rattle.column.specs.Unchecked.{uncheckedRefusal}
+use Rattle.column.specs.UncheckedLaws.{unchecked-passes}
+use Rattle.column.proofs.unchecked_for_bank.send.Statement.{statement}
+use Rattle.column.proofs.unchecked_for_bank.send.Tie as tie
 
 send-conditions-requires : tie.Need-send-conditions-requires
 send-conditions-requires c κs = search needs
@@ -25,7 +25,7 @@ refused-requires c κs = search needs
 
 refusal : (c : tie.After-refuse-if)
     → let a = c .before .before .before .before .args in
-    c .refuse-if .result ≡ testedRefusal (sendConditions (a .t) (a .i) (a .c)) (a .t) (a .i) (choose (a .t) (a .c .send))
+    c .refuse-if .result ≡ uncheckedRefusal (sendConditions (a .t) (a .i) (a .c)) (a .t) (a .i) (choose (a .t) (a .c .send))
 refusal c = rw (c .refuse-if .ensures, c .before .bounded .ensures, c .before .before .choose .ensures, c .before .before .before .send-conditions .ensures)
 
 returns : tie.Need-returns
@@ -37,7 +37,7 @@ returns c =
 send-effect-requires : tie.Need-send-effect-requires
 send-effect-requires c κs =
     let a = c .before .before .before .before .before .args in
-    let q = tested-passes (sendConditions (a .t) (a .i) (a .c)) (a .t) (a .i) (choose (a .t) (a .c .send)) (sym (refusal (c .before)) ∙ c .if1 .left) in
+    let q = unchecked-passes (sendConditions (a .t) (a .i) (a .c)) (a .t) (a .i) (choose (a .t) (a .c .send)) (sym (refusal (c .before)) ∙ c .if1 .left) in
     (q .1 .sixteen, (q .1 .column, q .1 .other))
 
 returns-2 : tie.Need-returns-2

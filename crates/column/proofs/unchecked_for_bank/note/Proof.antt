@@ -2,10 +2,10 @@ use borrow.Author.Needs.{needs}
 use mathlib.Core.Path.{_≡_, sym, ap, _∙_}
 use borrow.Author.Tests.{eq-eqb, ne-eqb}
 use Rattle.column.specs.Steps.{refused, noteConditions}
-use Rattle.column.specs.Tested.{testedRefusal}
-use Rattle.column.specs.TestedLaws.{tested-passes}
-use Rattle.column.proofs.tested.note.Statement.{statement}
-use Rattle.column.proofs.tested.note.Tie as tie
+use Rattle.column.specs.Unchecked.{uncheckedRefusal}
+use Rattle.column.specs.UncheckedLaws.{unchecked-passes}
+use Rattle.column.proofs.unchecked_for_bank.note.Statement.{statement}
+use Rattle.column.proofs.unchecked_for_bank.note.Tie as tie
 
 note-conditions-requires : tie.Need-note-conditions-requires
 note-conditions-requires c κs = search needs
@@ -21,7 +21,7 @@ refused-requires c κs = search needs
 
 refusal : (c : tie.After-refuse-if)
     → let a = c .before .before .before .args in
-    c .refuse-if .result ≡ testedRefusal (noteConditions (a .t) (a .i) (a .c) (a .j)) (a .t) (a .i) (a .j)
+    c .refuse-if .result ≡ uncheckedRefusal (noteConditions (a .t) (a .i) (a .c) (a .j)) (a .t) (a .i) (a .j)
 refusal c = rw (c .refuse-if .ensures, c .before .bounded .ensures, c .before .before .note-conditions .ensures)
 
 returns : tie.Need-returns
@@ -33,7 +33,7 @@ returns c =
 note-effect-requires : tie.Need-note-effect-requires
 note-effect-requires c κs =
     let a = c .before .before .before .before .args in
-    let q = tested-passes (noteConditions (a .t) (a .i) (a .c) (a .j)) (a .t) (a .i) (a .j) (sym (refusal (c .before)) ∙ c .if1 .left) in
+    let q = unchecked-passes (noteConditions (a .t) (a .i) (a .c) (a .j)) (a .t) (a .i) (a .j) (sym (refusal (c .before)) ∙ c .if1 .left) in
     (q .1 .sixteen, q .1 .other)
 
 returns-2 : tie.Need-returns-2

@@ -2,10 +2,10 @@ use borrow.Author.Needs.{needs}
 use mathlib.Core.Path.{_≡_, sym, ap, _∙_}
 use borrow.Author.Tests.{eq-eqb, ne-eqb}
 use Rattle.column.specs.Steps.{refused, allConditions}
-use Rattle.column.specs.Tested.{testedRefusal}
-use Rattle.column.specs.TestedLaws.{tested-passes}
-use Rattle.column.proofs.tested.all.Statement.{statement}
-use Rattle.column.proofs.tested.all.Tie as tie
+use Rattle.column.specs.Unchecked.{uncheckedRefusal}
+use Rattle.column.specs.UncheckedLaws.{unchecked-passes}
+use Rattle.column.proofs.unchecked_for_bank.all.Statement.{statement}
+use Rattle.column.proofs.unchecked_for_bank.all.Tie as tie
 
 all-conditions-requires : tie.Need-all-conditions-requires
 all-conditions-requires c κs = search needs
@@ -21,7 +21,7 @@ refused-requires c κs = search needs
 
 refusal : (c : tie.After-refuse-if)
     → let a = c .before .before .before .args in
-    c .refuse-if .result ≡ testedRefusal (allConditions (a .t) (a .i) (a .c)) (a .t) (a .i) (a .t .root)
+    c .refuse-if .result ≡ uncheckedRefusal (allConditions (a .t) (a .i) (a .c)) (a .t) (a .i) (a .t .root)
 refusal c = rw (c .refuse-if .ensures, c .before .bounded .ensures, c .before .before .all-conditions .ensures)
 
 returns : tie.Need-returns
@@ -33,7 +33,7 @@ returns c =
 all-effect-requires : tie.Need-all-effect-requires
 all-effect-requires c κs =
     let a = c .before .before .before .before .args in
-    let q = tested-passes (allConditions (a .t) (a .i) (a .c)) (a .t) (a .i) (a .t .root) (sym (refusal (c .before)) ∙ c .if1 .left) in
+    let q = unchecked-passes (allConditions (a .t) (a .i) (a .c)) (a .t) (a .i) (a .t .root) (sym (refusal (c .before)) ∙ c .if1 .left) in
     q .1 .other
 
 returns-2 : tie.Need-returns-2

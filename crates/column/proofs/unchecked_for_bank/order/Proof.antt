@@ -5,10 +5,10 @@ use borrow.Author.Tests.{eq-eqb, ne-eqb, eqb-false}
 use Rattle.column.specs.RefusalLaws.{passed}
 use Rattle.column.specs.Columns.{highest}
 use Rattle.column.specs.Steps.{refused, orderConditions}
-use Rattle.column.specs.Tested.{testedRefusal}
-use Rattle.column.specs.TestedLaws.{tested-passes}
-use Rattle.column.proofs.tested.order.Statement.{statement}
-use Rattle.column.proofs.tested.order.Tie as tie
+use Rattle.column.specs.Unchecked.{uncheckedRefusal}
+use Rattle.column.specs.UncheckedLaws.{unchecked-passes}
+use Rattle.column.proofs.unchecked_for_bank.order.Statement.{statement}
+use Rattle.column.proofs.unchecked_for_bank.order.Tie as tie
 
 order-conditions-requires : tie.Need-order-conditions-requires
 order-conditions-requires c κs = search needs
@@ -24,7 +24,7 @@ refused-requires c κs = search needs
 
 refusal : (c : tie.After-refuse-if)
     → let a = c .before .before .before .args in
-    c .refuse-if .result ≡ testedRefusal (orderConditions (a .t) (a .i) (a .c)) (a .t) (a .i) (a .i)
+    c .refuse-if .result ≡ uncheckedRefusal (orderConditions (a .t) (a .i) (a .c)) (a .t) (a .i) (a .i)
 refusal c = rw (c .refuse-if .ensures, c .before .bounded .ensures, c .before .before .order-conditions .ensures)
 
 returns : tie.Need-returns
@@ -36,7 +36,7 @@ returns c =
 order-effect-requires : tie.Need-order-effect-requires
 order-effect-requires c κs =
     let a = c .before .before .before .before .args in
-    let q = tested-passes (orderConditions (a .t) (a .i) (a .c)) (a .t) (a .i) (a .i) (sym (refusal (c .before)) ∙ c .if1 .left) in
+    let q = unchecked-passes (orderConditions (a .t) (a .i) (a .c)) (a .t) (a .i) (a .i) (sym (refusal (c .before)) ∙ c .if1 .left) in
     let p = passed (orderConditions (a .t) (a .i) (a .c)) tt (q .0) in
     (q .1 .sixteen, omega (arith, eqb-false (a .c .number) highest (p .1 .1 .1 .1 .0)))
 

@@ -17,7 +17,7 @@ use Rattle.column.specs.StateLaws.{acceptable, standing-tree, standing-s
 use Rattle.column.specs.Steps.{Result, refused, unless, packetRefusal, orderConditions, orderRefusal, orderEffect, order, sendConditions, sendRefusal, sendEffect, send}
 use Rattle.column.specs.Steps.{takeConditions, takeRefusal, takeEffect, take, ackConditions, ackRefusal, ackEffect, ack, allConditions, allRefusal, allEffect, all}
 use Rattle.column.specs.Steps.{noteConditions, noteRefusal, noteEffect, note}
-use Rattle.column.specs.Tested.{bounded, testedRefusal, orderTested, sendTested, takeTested, ackTested, allTested, noteTested}
+use Rattle.column.specs.Unchecked.{bounded, uncheckedRefusal, orderUnchecked, sendUnchecked, takeUnchecked, ackUnchecked, allUnchecked, noteUnchecked}
 use Rattle.column.specs.declared.tree.Tree.{Tree}
 use Rattle.column.specs.declared.state.Column.{Column}
 use Rattle.column.specs.declared.packet.Packet.{Packet}
@@ -37,8 +37,8 @@ module _ (conditions : List (ℕ × Bool)) (t : Tree) (i k : ℕ) where
   both = ltb i 16 && ltb k 16
 
   -- where nothing refuses
-  pub tested-passes : testedRefusal conditions t i k ≡ 0 → (first conditions ≡ 0) × Bounds t i k
-  tested-passes e =
+  pub unchecked-passes : uncheckedRefusal conditions t i k ≡ 0 → (first conditions ≡ 0) × Bounds t i k
+  unchecked-passes e =
       let q = earlier-none (first conditions) (first ((4, not (bounded t i k)) ∷ [])) e in
       let b = not-false (bounded t i k) (passed ((4, not (bounded t i k)) ∷ []) tt (q .1) .0) in
       let r = and-right (leb (t .columns) 16) both b in (
@@ -51,7 +51,7 @@ module _ (conditions : List (ℕ × Bool)) (t : Tree) (i k : ℕ) where
       )
 
   -- the last condition refuses nothing where the others that hold ask for its opposite
-  same : (first conditions ≡ 0 → Bounds t i k) → testedRefusal conditions t i k ≡ first conditions
+  same : (first conditions ≡ 0 → Bounds t i k) → uncheckedRefusal conditions t i k ≡ first conditions
   same h = go (eqb (first conditions) 0) refl
     where
       go : (b : Bool) → eqb (first conditions) 0 ≡ b → cond b (first ((4, not (bounded t i k)) ∷ [])) (first conditions) ≡ first conditions
@@ -62,47 +62,47 @@ module _ (conditions : List (ℕ × Bool)) (t : Tree) (i k : ℕ) where
       go false e = refl
 
   pub tested-same : (n : ℕ) (c : Column) (effect : Result) → n ≡ 0 → (first conditions ≡ 0 → Bounds t i k)
-      → unless (testedRefusal conditions t i k) c effect ≡ unless (earlier n (first conditions)) c effect
+      → unless (uncheckedRefusal conditions t i k) c effect ≡ unless (earlier n (first conditions)) c effect
   tested-same n c effect z h = ap (λ (m : ℕ). unless m c effect) (same h ∙ sym (ap (λ (m : ℕ). earlier m (first conditions)) z))
 
 module _ (t : Tree) (i : ℕ) (c : Column) (good : standing t i c ≡ 0) where
   within : (k : ℕ) → k < 16 → Bounds t i k
   within k h = record { sixteen = standing-sixteen t i c good; column = standing-column t i c good; other = h }
 
-  pub order-tested : (doors : ℕ) → orderTested t i c doors ≡ order t i c doors
+  pub order-unchecked : (doors : ℕ) → orderUnchecked t i c doors ≡ order t i c doors
   unfolding orderRefusal
-  order-tested doors = tested-same (orderConditions t i c) t i i (standing t i c) c (orderEffect t i c doors) good (λ e. within i (standing-column t i c good))
+  order-unchecked doors = tested-same (orderConditions t i c) t i i (standing t i c) c (orderEffect t i c doors) good (λ e. within i (standing-column t i c good))
 
-  pub send-tested : sendTested t i c ≡ send t i c
+  pub send-unchecked : sendUnchecked t i c ≡ send t i c
   unfolding sendRefusal
-  send-tested =
+  send-unchecked =
       tested-same (sendConditions t i c) t i (choose t (c .send)) (standing t i c) c (sendEffect t i c) good
       (λ e.
       let p = passed (sendConditions t i c) tt e in
       within (choose t (c .send)) (standing-choice t i c good (omega (arith, eqb-false (c .send) 0 (p .1 .0)))))
 
-  pub take-tested : (p : Packet) → packetRefusal t p ≡ 0 → takeTested t i c p ≡ take t i c p
+  pub take-unchecked : (p : Packet) → packetRefusal t p ≡ 0 → takeUnchecked t i c p ≡ take t i c p
   unfolding takeRefusal
-  take-tested p fit =
+  take-unchecked p fit =
       let own = first (takeConditions t i c p) in
       let below = acceptable t p fit .sender-below in
       tested-same (takeConditions t i c p) t i (sender p) (standing t i c) c (takeEffect t i c p) good
       (λ e. within (sender p) (omega (arith, below, standing-sixteen t i c good)))
       ∙ ap (λ (m : ℕ). unless (earlier (standing t i c) m) c (takeEffect t i c p)) (sym (ap (λ (m : ℕ). earlier m own) fit))
 
-  pub ack-tested : ackTested t i c ≡ ack t i c
+  pub ack-unchecked : ackUnchecked t i c ≡ ack t i c
   unfolding ackRefusal
-  ack-tested = tested-same (ackConditions t i c) t i i (standing t i c) c (ackEffect i c) good (λ e. within i (standing-column t i c good))
+  ack-unchecked = tested-same (ackConditions t i c) t i i (standing t i c) c (ackEffect i c) good (λ e. within i (standing-column t i c good))
 
-  pub all-tested : allTested t i c ≡ all t i c
+  pub all-unchecked : allUnchecked t i c ≡ all t i c
   unfolding allRefusal
-  all-tested =
+  all-unchecked =
       tested-same (allConditions t i c) t i (t .root) (standing t i c) c (allEffect t c) good
       (λ e. within (t .root) (tree-root t (standing-tree t i c good)))
 
-  pub note-tested : (j : ℕ) → noteTested t i c j ≡ note t i c j
+  pub note-unchecked : (j : ℕ) → noteUnchecked t i c j ≡ note t i c j
   unfolding noteRefusal
-  note-tested j =
+  note-unchecked j =
       tested-same (noteConditions t i c j) t i j (standing t i c) c (noteEffect t c j) good
       (λ e.
       let p = passed (noteConditions t i c j) tt e in

@@ -4,10 +4,10 @@ use native.Mathlib.Omega.{arith}
 use borrow.Author.Tests.{eq-eqb, ne-eqb, eqb-false}
 use Rattle.column.specs.RefusalLaws.{passed}
 use Rattle.column.specs.Steps.{refused, ackConditions}
-use Rattle.column.specs.Tested.{testedRefusal}
-use Rattle.column.specs.TestedLaws.{tested-passes}
-use Rattle.column.proofs.tested.ack.Statement.{statement}
-use Rattle.column.proofs.tested.ack.Tie as tie
+use Rattle.column.specs.Unchecked.{uncheckedRefusal}
+use Rattle.column.specs.UncheckedLaws.{unchecked-passes}
+use Rattle.column.proofs.unchecked_for_bank.ack.Statement.{statement}
+use Rattle.column.proofs.unchecked_for_bank.ack.Tie as tie
 
 ack-conditions-requires : tie.Need-ack-conditions-requires
 ack-conditions-requires c κs = search needs
@@ -23,7 +23,7 @@ refused-requires c κs = search needs
 
 refusal : (c : tie.After-refuse-if)
     → let a = c .before .before .before .args in
-    c .refuse-if .result ≡ testedRefusal (ackConditions (a .t) (a .i) (a .c)) (a .t) (a .i) (a .i)
+    c .refuse-if .result ≡ uncheckedRefusal (ackConditions (a .t) (a .i) (a .c)) (a .t) (a .i) (a .i)
 refusal c = rw (c .refuse-if .ensures, c .before .bounded .ensures, c .before .before .ack-conditions .ensures)
 
 returns : tie.Need-returns
@@ -35,7 +35,7 @@ returns c =
 ack-effect-requires : tie.Need-ack-effect-requires
 ack-effect-requires c κs =
     let a = c .before .before .before .before .args in
-    let q = tested-passes (ackConditions (a .t) (a .i) (a .c)) (a .t) (a .i) (a .i) (sym (refusal (c .before)) ∙ c .if1 .left) in
+    let q = unchecked-passes (ackConditions (a .t) (a .i) (a .c)) (a .t) (a .i) (a .i) (sym (refusal (c .before)) ∙ c .if1 .left) in
     let p = passed (ackConditions (a .t) (a .i) (a .c)) tt (q .0) in
     (q .1 .column, omega (arith, eqb-false (a .c .owed) 0 (p .1 .0)))
 

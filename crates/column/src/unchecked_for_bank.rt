@@ -22,7 +22,7 @@ use crate::state::Column;
 use crate::tree::Tree;
 ghost use mathlib.Core.Path.{_≡_};
 ghost use Rattle.column.specs.Steps.{meant};
-ghost use Rattle.column.specs.Tested.{bounded, orderTested, sendTested, takeTested, ackTested, allTested, noteTested};
+ghost use Rattle.column.specs.Unchecked.{bounded, orderUnchecked, sendUnchecked, takeUnchecked, ackUnchecked, allUnchecked, noteUnchecked};
 
 fn bounded(t: Tree, i: usize, k: usize) -> bool
     ensures { λ r. ⌜ r ≡ bounded t i k ⌝ }
@@ -32,7 +32,7 @@ fn bounded(t: Tree, i: usize, k: usize) -> bool
 
 // The root with the next number, these doors, and its children to send to.
 pub fn order(t: Tree, i: usize, c: Column, doors: u64) -> Outcome
-    ensures { λ r. ⌜ meant r ≡ orderTested t i c doors ⌝ }
+    ensures { λ r. ⌜ meant r ≡ orderUnchecked t i c doors ⌝ }
 {
     let n = refuse_if(order_conditions(0, t, i, c), !bounded(t, i, i), 4);
     if n != 0 {
@@ -43,7 +43,7 @@ pub fn order(t: Tree, i: usize, c: Column, doors: u64) -> Outcome
 
 // Column i with the one served that stands earliest of those to send to, and the message for it, if there is one to put.
 pub fn send(t: Tree, i: usize, c: Column) -> Outcome
-    ensures { λ r. ⌜ meant r ≡ sendTested t i c ⌝ }
+    ensures { λ r. ⌜ meant r ≡ sendUnchecked t i c ⌝ }
 {
     let n = refuse_if(
         send_conditions(0, t, i, c),
@@ -58,7 +58,7 @@ pub fn send(t: Tree, i: usize, c: Column) -> Outcome
 
 // Column i after a packet, what it answers at once, and whether the packet is left for another take.
 pub fn take(t: Tree, i: usize, c: Column, p: Packet) -> Outcome
-    ensures { λ r. ⌜ meant r ≡ takeTested t i c p ⌝ }
+    ensures { λ r. ⌜ meant r ≡ takeUnchecked t i c p ⌝ }
 {
     let n = refuse_if(take_conditions(0, t, i, c, p), !bounded(t, i, sender(p)), 4);
     if n != 0 {
@@ -69,7 +69,7 @@ pub fn take(t: Tree, i: usize, c: Column, p: Packet) -> Outcome
 
 // Column i with the lowest owed struck out, and the acknowledgement for that one.
 pub fn ack(t: Tree, i: usize, c: Column) -> Outcome
-    ensures { λ r. ⌜ meant r ≡ ackTested t i c ⌝ }
+    ensures { λ r. ⌜ meant r ≡ ackUnchecked t i c ⌝ }
 {
     let n = refuse_if(ack_conditions(0, t, i, c), !bounded(t, i, i), 4);
     if n != 0 {
@@ -80,7 +80,7 @@ pub fn ack(t: Tree, i: usize, c: Column) -> Outcome
 
 // Column i with the whole bank as its goal, and the root alone to send to.
 pub fn all(t: Tree, i: usize, c: Column) -> Outcome
-    ensures { λ r. ⌜ meant r ≡ allTested t i c ⌝ }
+    ensures { λ r. ⌜ meant r ≡ allUnchecked t i c ⌝ }
 {
     let n = refuse_if(all_conditions(0, t, i, c), !bounded(t, i, t.root), 4);
     if n != 0 {
@@ -91,7 +91,7 @@ pub fn all(t: Tree, i: usize, c: Column) -> Outcome
 
 // Column i with j noted; where j was awaited, its children are to be sent to instead.
 pub fn note(t: Tree, i: usize, c: Column, j: usize) -> Outcome
-    ensures { λ r. ⌜ meant r ≡ noteTested t i c j ⌝ }
+    ensures { λ r. ⌜ meant r ≡ noteUnchecked t i c j ⌝ }
 {
     let n = refuse_if(note_conditions(0, t, i, c, j), !bounded(t, i, j), 4);
     if n != 0 {

@@ -3,10 +3,10 @@ use mathlib.Core.Path.{_≡_, sym, ap, _∙_}
 use borrow.Author.Tests.{eq-eqb, ne-eqb}
 use Rattle.column.specs.Packets.{sender}
 use Rattle.column.specs.Steps.{refused, takeConditions}
-use Rattle.column.specs.Tested.{testedRefusal}
-use Rattle.column.specs.TestedLaws.{tested-passes}
-use Rattle.column.proofs.tested.take.Statement.{statement}
-use Rattle.column.proofs.tested.take.Tie as tie
+use Rattle.column.specs.Unchecked.{uncheckedRefusal}
+use Rattle.column.specs.UncheckedLaws.{unchecked-passes}
+use Rattle.column.proofs.unchecked_for_bank.take.Statement.{statement}
+use Rattle.column.proofs.unchecked_for_bank.take.Tie as tie
 
 take-conditions-requires : tie.Need-take-conditions-requires
 take-conditions-requires c κs = search needs
@@ -25,7 +25,7 @@ refused-requires c κs = search needs
 
 refusal : (c : tie.After-refuse-if)
     → let a = c .before .before .before .before .args in
-    c .refuse-if .result ≡ testedRefusal (takeConditions (a .t) (a .i) (a .c) (a .p)) (a .t) (a .i) (sender (a .p))
+    c .refuse-if .result ≡ uncheckedRefusal (takeConditions (a .t) (a .i) (a .c) (a .p)) (a .t) (a .i) (sender (a .p))
 refusal c = rw (c .refuse-if .ensures, c .before .bounded .ensures, c .before .before .sender .ensures, c .before .before .before .take-conditions .ensures)
 
 returns : tie.Need-returns
@@ -37,7 +37,7 @@ returns c =
 take-effect-requires : tie.Need-take-effect-requires
 take-effect-requires c κs =
     let a = c .before .before .before .before .before .args in
-    let q = tested-passes (takeConditions (a .t) (a .i) (a .c) (a .p)) (a .t) (a .i) (sender (a .p)) (sym (refusal (c .before)) ∙ c .if1 .left) in
+    let q = unchecked-passes (takeConditions (a .t) (a .i) (a .c) (a .p)) (a .t) (a .i) (sender (a .p)) (sym (refusal (c .before)) ∙ c .if1 .left) in
     (q .1 .sixteen, (q .1 .column, q .1 .other))
 
 returns-2 : tie.Need-returns-2

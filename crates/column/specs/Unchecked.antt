@@ -1,0 +1,40 @@
+-- The steps of a column for a caller that has tested rows 2 to 4: their own conditions, and one that no tree and state which stand can
+-- break, so that every other one has its answer too. Where those tests let pass they are the steps: `send-unchecked` of UncheckedLaws and its like.
+use Prim.Native.Nat.{ℕ}
+use mathlib.Core.Bool.{Bool, not, _&&_}
+use mathlib.Core.List.{List, [], _∷_}
+use lib.Dec.{leb, ltb}
+use Rattle.column.specs.Refusals.{first, earlier}
+use Rattle.column.specs.Trees.{choose}
+use Rattle.column.specs.Packets.{sender}
+use Rattle.column.specs.Steps.{Result, unless, orderConditions, orderEffect, sendConditions, sendEffect, takeConditions, takeEffect}
+use Rattle.column.specs.Steps.{ackConditions, ackEffect, allConditions, allEffect, noteConditions, noteEffect}
+use Rattle.column.specs.declared.tree.Tree.{Tree}
+use Rattle.column.specs.declared.state.Column.{Column}
+use Rattle.column.specs.declared.packet.Packet.{Packet}
+
+-- the tree has no more than sixteen columns, and both numbers are below sixteen
+abbrev pub bounded : Tree → ℕ → ℕ → Bool
+bounded t i k = leb (t .columns) 16 && (ltb i 16 && ltb k 16)
+
+-- its own conditions, then 4 where column i, or the column k that the step is about, is none of sixteen
+abbrev pub uncheckedRefusal : List (ℕ × Bool) → Tree → ℕ → ℕ → ℕ
+uncheckedRefusal conditions t i k = earlier (first conditions) (first ((4, not (bounded t i k)) ∷ []))
+
+abbrev pub orderUnchecked : Tree → ℕ → Column → ℕ → Result
+orderUnchecked t i c doors = unless (uncheckedRefusal (orderConditions t i c) t i i) c (orderEffect t i c doors)
+
+abbrev pub sendUnchecked : Tree → ℕ → Column → Result
+sendUnchecked t i c = unless (uncheckedRefusal (sendConditions t i c) t i (choose t (c .send))) c (sendEffect t i c)
+
+abbrev pub takeUnchecked : Tree → ℕ → Column → Packet → Result
+takeUnchecked t i c p = unless (uncheckedRefusal (takeConditions t i c p) t i (sender p)) c (takeEffect t i c p)
+
+abbrev pub ackUnchecked : Tree → ℕ → Column → Result
+ackUnchecked t i c = unless (uncheckedRefusal (ackConditions t i c) t i i) c (ackEffect i c)
+
+abbrev pub allUnchecked : Tree → ℕ → Column → Result
+allUnchecked t i c = unless (uncheckedRefusal (allConditions t i c) t i (t .root)) c (allEffect t c)
+
+abbrev pub noteUnchecked : Tree → ℕ → Column → ℕ → Result
+noteUnchecked t i c j = unless (uncheckedRefusal (noteConditions t i c j) t i j) c (noteEffect t c j)
