@@ -1,5 +1,5 @@
-/* The core of one column of a locker bank, for firmware in C99 or C++. Link libfirmware.a, which is for x86-64; it needs of C's library memcpy and
- * memset, no heap and no global state.
+/* The core of one column of a locker bank, for firmware in C99 or C++. Link libfirmware.a, which is for x86-64; it needs of C's library memcpy
+ * alone, no heap and no global state.
  * A caller lends memory as a pointer and a size. A pointer is never NULL, its memory has the size that is told, and memory that a call writes
  * overlaps no other memory of the same call. Nothing outside of it is read or written, and no call keeps a pointer.
  * Every call answers a number. Below MUDASGUP_REFUSED it is a size, a count or a length, as told for each, 0 where nothing is told. From there on the

@@ -4,6 +4,8 @@ STEPS = ("order", "send", "ack", "all", "note", "take", "halt", "page_write")
 STATES = ("list", "page_read")
 # Steps that ask nothing of the sets.
 KEPT = ("halt", "page_write")
+# Offsets that are equal modulo one of these are one offset where a byte, 4 bytes or all bits but the highest are looked at.
+PASSED_OVER = (256, 2 ** 32, 2 ** 63)
 
 WRONG = [
     # sizes
@@ -69,6 +71,8 @@ WRONG = [
     ("11 before 5", ("list",), "    text = lone(", "    refuse(11, len(buffer) < 36 and \"no room\")\n    text = lone("),
     ("the line up where anything is pending", ("line_up",), "int(column[21] & column[22] != 0)", "int(column[22] != 0)"),
     ("the line up where all that is asked for is pending", ("line_up",), "int(column[21] & column[22] != 0)", "int(column[21] & column[22] == column[21] != 0)"),
+    *((f"offsets of a read modulo {most}", ("page_read",), ".read(i, offset),)", f".read(i, offset % {most}),)") for most in PASSED_OVER),
+    *((f"offsets of a write modulo {most}", ("page_write",), "bank.write(i, offset, value)", f"bank.write(i, offset % {most}, value)") for most in PASSED_OVER),
     # bytes
     ("bytes after a packet are 12", ("read",), "    _, used = Reader().packet(data)\n    return used, data", '    _, used = Reader().packet(data)\n    refuse(12, len(data) > used and "more")\n    return used, data'),
     ("bytes after a packet are left", ("read",), 'data[:used].ljust(PACKET, b"\\0")', 'data[:PACKET].ljust(PACKET, b"\\0")'),

@@ -3,6 +3,7 @@ request went. The parameters of `Strategy` are what the papers say; others make 
 import functools
 import re
 
+import marks
 from model import Refused, refuse
 
 
@@ -160,6 +161,21 @@ class LeadingZeroTaken(Strategy):
         return super().read(re.sub(rb"(?m)=0+(?=[0-9])", b"=", data) if re.fullmatch(rb"\w+=\d\d?\n\w+=\d{1,3}\n\w+=\d{1,3}\n", data) else data)
 
 
+class Struck(Strategy):
+    """What a pattern finds is passed over."""
+    def __init__(self, pattern):
+        super().__init__()
+        self.pattern = pattern
+
+    def read(self, data):
+        return super().read(re.sub(self.pattern, b"", data))
+
+
+class CapitalsTaken(Strategy):
+    def read(self, data):
+        return super().read(data.lower())
+
+
 class GapBeforeDelayTaken(Strategy):
     def read(self, data):
         lines = data.splitlines(keepends=True)
@@ -188,5 +204,9 @@ WRONG = {
     "bytes after the third line passed over": MoreMayFollow(),
     "a last line without its end taken": UnendedTaken(),
     "a leading zero taken": LeadingZeroTaken(),
+    "CR before a line's end taken": Struck(marks.RETURNS),
+    "spaces where a line begins or ends taken": Struck(marks.SPACES_AROUND),
+    "spaces beside a line's `=` taken": Struck(marks.SPACES_WITHIN),
+    "capitals taken": CapitalsTaken(),
     "the gap before the delay taken": GapBeforeDelayTaken(),
 }

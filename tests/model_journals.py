@@ -70,7 +70,7 @@ def run(script):
 
 
 class Journal:
-    """The owner of a journal and its lines, each with its text."""
+    """The owner of a journal, its lines, and which lines it has."""
 
     def __init__(self, text):
         model.refuse(19, len(text) > LIMIT and "too long")
@@ -81,6 +81,7 @@ class Journal:
         self.owner = int(head.group(1))
         model.refuse(19, self.owner > 15 and "no such owner")
         self.lines = [self.line(text) for text in lines]
+        self.known = set(self.lines)
 
     def line(self, text):
         found = LINE.fullmatch(text)
@@ -92,12 +93,12 @@ class Journal:
         return way, kind, other, number
 
     def unheard(self, other):
-        return any(way == "got" and about == other.owner and ("sent", kind, self.owner, number) not in other.lines
+        return any(way == "got" and about == other.owner and ("sent", kind, self.owner, number) not in other.known
                    for way, kind, about, number in self.lines)
 
     def missing(self, other):
         return [(way, kind, about, number) for way, kind, about, number in self.lines
-                if way == "sent" and about == other.owner and ("got", kind, self.owner, number) not in other.lines]
+                if way == "sent" and about == other.owner and ("got", kind, self.owner, number) not in other.known]
 
 
 def compare(first, second, tell=lambda words: None):
@@ -105,7 +106,7 @@ def compare(first, second, tell=lambda words: None):
     try:
         one, two = Journal(first), Journal(second)
         model.refuse(19, one.owner == two.owner and "one owner")
-        model.refuse(20, any(len(set(journal.lines)) < len(journal.lines) for journal in (one, two)) and "the same line twice")
+        model.refuse(20, any(len(journal.known) < len(journal.lines) for journal in (one, two)) and "the same line twice")
         model.refuse(21, (one.unheard(two) or two.unheard(one)) and "got and not sent")
     except model.Refused as refusal:
         tell(f"refused {refusal}")

@@ -16,6 +16,7 @@ def silent(words):
 
 
 class Losses:
+    limit = LIMIT
     most = 8
     steps = r"after=(0|[1-9][0-9]{0,2})\n"
 
@@ -80,7 +81,7 @@ class Losses:
         refuse(23, bank.watch == "sender" and "watch=sender")
 
     def asked(self, data):
-        refuse(13, len(data) > LIMIT and "past the limit")
+        refuse(13, len(data) > self.limit and "past the limit")
         bank, rest = table(data.decode("latin-1"), silent)
         self.check(bank)
         return bank, self.read(rest)
@@ -188,6 +189,14 @@ class NobodyIsLost(Losses):
         return super().fate(bank).replace("none", "0")
 
 
+class LimitIsPastTheLimit(Losses):
+    limit = LIMIT - 1
+
+
+class OneByteMoreIsRead(Losses):
+    limit = LIMIT + 1
+
+
 class NineColumnsPass(Losses):
     most = 9
 
@@ -203,7 +212,7 @@ class SenderPasses(Losses):
 
 class ThirteenBeforeTwentyThree(Losses):
     def asked(self, data):
-        refuse(13, len(data) > LIMIT and "past the limit")
+        refuse(13, len(data) > self.limit and "past the limit")
         bank, rest = table(data.decode("latin-1"), silent)
         steps = self.read(rest)
         self.check(bank)
@@ -240,8 +249,8 @@ class WithoutIsNone(Losses):
 
 WRONG = {wrong.__name__: wrong for wrong in (
     EmptySetLeftOut, WholeBankLeftOut, SingleColumns, OrderIsAStep, OneStepMore, StepsPastRest, StepsNotTaken, FromTheBankBefore, NotDispatchedToRest,
-    PacketsVanishWithTheirSender, RootNeverHalts, NobodyIsLost, NineColumnsPass, SevenColumnsAtMost, SenderPasses, ThirteenBeforeTwentyThree, MoreMayFollow,
-    UnendedTaken, LeadingZeroTaken, FourDigitsTaken, TwoDigitsAtMost, WithoutIsNone)}
+    PacketsVanishWithTheirSender, RootNeverHalts, NobodyIsLost, LimitIsPastTheLimit, OneByteMoreIsRead, NineColumnsPass, SevenColumnsAtMost, SenderPasses,
+    ThirteenBeforeTwentyThree, MoreMayFollow, UnendedTaken, LeadingZeroTaken, FourDigitsTaken, TwoDigitsAtMost, WithoutIsNone)}
 
 
 if __name__ == "__main__":

@@ -149,7 +149,6 @@ TOLD = [
     ("who is sent to stays", "        column.send.remove(c)\n", "        if c in column.noted or c == i:\n            column.send.remove(c)\n"),
     # the network
     ("a packet to a halted column is put", "if self.columns[packet[2]].running:", "if True:"),
-    ("a network of 433 packets is full", "CAPACITY = 512", "CAPACITY = 433"),
     ("a packet is put first", "self.network.append(packet)", "self.network.insert(0, packet)"),
     ("the newest packet moves to the place", "del self.network[place]", "self.network[place] = self.network[-1]\n        del self.network[-1]"),
     ("place 0 is the newest", "= self.network[place]\n", "= self.network[place] if place else self.network[-1]\n"),
@@ -357,6 +356,15 @@ TOLD = [
     ("rest asks for notes of the root alone", "for j in columns) for i", "for j in (self.root,)) for i"),
     ("a halted column keeps a bank from rest", "for i in columns if self.columns[i].running)", "for i in columns)"),
     ("no rest where nobody runs", "return not self.network and all(", "return not self.network and any(c.running for c in self.columns) and all("),
+    # a crowded network: last, since the script that tells these is long, and the next ones would begin with it
+    ("a network of 433 packets is full", "CAPACITY = 512", "CAPACITY = 433"),
+    *((f"a network of {most} packets is full where senders are watched", "len(self.network) == CAPACITY",
+       f'len(self.network) == ({most} if self.watch == "sender" else CAPACITY)') for most in (255, 256, 419)),
+    *((f"a place above {most} is 10 where senders are watched", 'place >= len(self.network) and "no such place"',
+       f'place >= (min(len(self.network), {most} + 1) if self.watch == "sender" else len(self.network)) and "no such place"') for most in (255, 418)),
+    ("places modulo 256 where senders are watched", "        refuse(10, place >=", '        place = place % 256 if self.watch == "sender" else place\n        refuse(10, place >='),
+    ("packets past place 255 stay when their column halts, where senders are watched", "self.network = [packet for packet in self.network if packet[2] not in columns]",
+     'self.network = [packet for place, packet in enumerate(self.network) if packet[2] not in columns or self.watch == "sender" and place > 255]'),
 ]
 # Each with why it prints the same, the line of the model before which that is put to the test, and what must hold there.
 EQUAL = [

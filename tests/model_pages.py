@@ -44,13 +44,13 @@ class Bank(model.Bank):
 
     def read(self, i, offset):
         model.refuse(4, i >= len(self.columns) and "no such column")
-        model.refuse(22, offset > 7 and "an offset above 7")
+        model.refuse(22, offset > 7 and ("an offset above 255" if offset > 255 else "an offset above 7"))
         self.tell("a read of a running column" if self.columns[i].running else "a read of a halted column")
         return self.page(i)[offset]
 
     def write(self, i, offset, value):
         model.refuse(4, i >= len(self.columns) and "no such column")
-        model.refuse(22, offset > 7 and "a write above 7")
+        model.refuse(22, offset > 7 and ("a write above 255" if offset > 255 else "a write above 7"))
         model.refuse(22, offset not in (MASK, CLEAR) and "a write elsewhere")
         self.tell(f"a write to {offset} of a {'running' if self.columns[i].running else 'halted'} column")
         if offset == MASK:
@@ -69,13 +69,13 @@ def number(low, high):
     return low + 256 * high
 
 
-def obeyed(bank, letter, x, y, z):
-    """What a command prints."""
+def obeyed(bank, letter, x, y, z, value):
+    """What a command prints. Offsets are numbers of two bytes, and so are doors, sets, places and limits; a write alone has a value."""
     if letter == "p":
         shown = [f"byte={bank.read(x, offset)}\n" for offset in range(8)]
         return "".join(shown) + ("line=up\n" if bank.line_up(x) else "line=down\n")
     if letter == "r":
-        return f"byte={bank.read(x, y)}\n"
+        return f"byte={bank.read(x, number(y, z))}\n"
     if letter == "d":
         return "ok\n" + bank.run(number(x, y)).splitlines()[0] + "\n"
     if letter == "o":
@@ -91,14 +91,14 @@ def obeyed(bank, letter, x, y, z):
     elif letter in "sagb":
         {"s": bank.send, "a": bank.ack, "g": bank.all, "b": bank.back}[letter](x)
     else:
-        bank.write(x, y, z)
+        bank.write(x, number(y, z), value)
     return "ok\n"
 
 
-def answer(bank, letter, x, y, z):
+def answer(bank, letter, x, y, z, value):
     """The same, or the refusal: of a page, at each of its bytes and at its line."""
     try:
-        return obeyed(bank, letter, x, y, z)
+        return obeyed(bank, letter, x, y, z, value)
     except model.Refused as refusal:
         bank.tell(f"refused {refusal}")
         return f"refused={refusal.number}\n" * (9 if letter == "p" else 1)

@@ -126,6 +126,16 @@ class AboveSevenReadsZero(model_pages.Bank):
         return 0 if i < len(self.columns) and offset > 7 else super().read(i, offset)
 
 
+class ReadModulo256(model_pages.Bank):
+    def read(self, i, offset):
+        return super().read(i, offset % 256)
+
+
+class WrittenModulo256(model_pages.Bank):
+    def write(self, i, offset, value):
+        super().write(i, offset % 256, value)
+
+
 class SixWritten(model_pages.Bank):
     def write(self, i, offset, value):
         if i < len(self.columns) and offset == 6:
@@ -184,5 +194,5 @@ class HaltClears(model_pages.Bank):
 
 
 WRONG = [ClearedByReading, LeftIsReceived, ThreeBits, PageCopied, PageFresh, BackIsReceived, HaltedRefused, HaltedUnread, ClearSets, ClearsAll, OrderUntold,
-         EqualIsReceived, SevenShown, HaltedHidden, AnyPending, DispatchedUntold, TwentyTwoBeforeFour, AboveSevenReadsZero, SixWritten, MaskClears, CountsExchanged,
-         GoalHidden, AllAskedFor, NewestAlone, NoteUntold, TakeoverUntold, HaltClears]
+         EqualIsReceived, SevenShown, HaltedHidden, AnyPending, DispatchedUntold, TwentyTwoBeforeFour, AboveSevenReadsZero, ReadModulo256, WrittenModulo256,
+         SixWritten, MaskClears, CountsExchanged, GoalHidden, AllAskedFor, NewestAlone, NoteUntold, TakeoverUntold, HaltClears]

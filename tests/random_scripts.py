@@ -25,8 +25,9 @@ import script_makers
 ROOT = os.path.dirname(os.path.dirname(os.path.abspath(__file__)))
 PROGRAM = os.path.join(ROOT, "target", "bin", "lockers")
 GATE = (3, 7, 82519)
-# Each of 15 columns has a packet under way for each of the 14 others, under each of two order numbers; and 14 were sent one by the root.
-CROWDED = 15 * 14 * 2 + 14
+# Each of 15 columns has a packet under way for each of the 14 others, under each of two order numbers; where the root is watched, 14 were sent one by the
+# root too.
+CROWDED = {"root": 15 * 14 * 2 + 14, "sender": 15 * 14 * 2}
 
 
 def program(data):
@@ -114,7 +115,8 @@ def seed_part(seed, met, wrong_too=True):
             return fault(f"seed {seed}, lit columns disagree after:", shortest(data, disagree))
     met.append(count)
     print(f"seed {seed}: {len(printed)} scripts, {count.lines} lines, at most {max(count.most_packets.values())} packets at once, 0 differences", flush=True)
-    faults = [f"seed {seed}, {words}" for words in count.faults()] + ["no crowded network"] * (count.most_packets[16, "root"] < CROWDED)
+    faults = [f"seed {seed}, {words}" for words in count.faults()]
+    faults += [f"seed {seed}, no crowded network with watch={watch}" for watch, most in CROWDED.items() if count.most_packets[16, watch] < most]
     faults += [f"seed {seed}, a reason put to the test {reached[row[0]]} times: {row[0]}" for row in model_mutants.EQUAL if reached[row[0]] < counters.LEAST]
     return sum(map(fault, faults)) + (mutants_part(printed, with_equal=len(met) == 1) if wrong_too else 0)
 
@@ -148,7 +150,7 @@ def tell_met(met):
 
 def exhaustive_part():
     """Every table of up to 4 columns, numbers one too high among them, every sequence for up to 3, every script of up to 4 lines over two columns from a
-    small alphabet, the kept scripts, and empty lines up to the limit and one past it."""
+    small alphabet, the kept scripts and the examples, and empty lines up to the limit and one past it."""
     tables = [f"columns={n}\nroot={root}\nup={','.join(map(str, up))}\n".encode()
               for n in (1, 2, 3, 4) for root in range(n + 1) for up in itertools.product(range(n + 1), repeat=n)]
     tables += [f"columns={n}\nroot=0\nup={','.join('0' * n)}\nfirst={','.join(map(str, first))}\norder=0100000000000000\nsend=0\ntake=0\n".encode()
@@ -156,7 +158,7 @@ def exhaustive_part():
     tables += [f"columns=2\nroot=0\nup=0,0\n{first}watch={word}{end}".encode() for first in ("", "first=1,0\n") for word in ("root", "sender", "", "r", "roots", "senders")
                for end in ("\n", "", "\norder=0100000000000000\nsend=0\n", "\nwatch=root\n")]
     alphabet = [b"order=0100000000000000\n", b"send=0\n", b"take=0\n", b"ack=1\n", b"note=0,1\n", b"halt=0\n", b"all=1\n", b"note=1,0\n", b"back=1\n"]
-    kept = [path.read_bytes() for path in sorted(pathlib.Path(ROOT, "tests", "scripts").glob("*.script"))]
+    kept = [path.read_bytes() for folder in ("examples", "tests/scripts") for path in sorted(pathlib.Path(ROOT, folder).glob("*.script"))]
     short = [b"columns=2\nroot=0\nup=0,0\n" + watch + b"".join(lines) for watch in (b"", b"watch=sender\n") for n in range(5) for lines in itertools.product(alphabet, repeat=n)]
     limits = [b"columns=1\nroot=0\nup=0\n".ljust(size, b"\n") for size in (model.LIMIT, model.LIMIT + 1)]
     for data in tables + short + limits + kept:

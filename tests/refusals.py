@@ -17,10 +17,10 @@ ASKED = {
     "pages": {*range(2, 8), 10, 14, 15, 16, 22},
     "firmware": {*range(2, 9), 11, 12, 18, 22, 24},
 }
-# Programs that have their cases in them: banks, lists and tables that no script can hand in.
+# Programs that have their cases in them: banks, lists, tables and short buffers that no script can hand in.
 FIXED = {
-    "handed": {*range(2, 11), 14, 15, 16},
-    "edges": {*range(1, 6), 10, 11, 13},
+    "handed": {*range(2, 11), 14, 15, 16, 22},
+    "edges": {*range(1, 6), 10, 11, 13, 19, 20, 21},
     "pair": {4, 18},
 }
 PROGRAMS = {**ASKED, **FIXED}

@@ -143,11 +143,12 @@ def lost(rng):
     return script.finish()
 
 
-def crowded(rng):
+def crowd(rng, watch):
     """The fullest network that is known: the root halts with its order under way, and every other column takes over before it receives the order and
-    once more after it. One receives the order from the root, the others from that one, so that the root's packets to them stay under way."""
+    once more after it. Where the root is watched, one receives the order from the root, the others from that one, so that the root's packets to them
+    stay under way. Where senders are watched, all receive it from the root, the one sender that they have noted."""
     root = rng.randrange(16)
-    script = Script(rng, script_texts.table(16, root, [root] * 16))
+    script = Script(rng, script_texts.table(16, root, [root] * 16) + ("watch=sender\n" if watch == "sender" else ""))
     script.order()
     script.send_all(root)
     script.do(f"halt={root}")
@@ -156,11 +157,26 @@ def crowded(rng):
         script.do(f"note={i},{root}")
         script.do(f"all={i}")
         script.send_all(i)
-    for sender, i in ((root, first), *((first, other) for other in others)):
+    for sender, i in ((root, first), *((first if watch == "root" else root, other) for other in others)):
         script.do(f"take={[packet[1:4] for packet in script.bank.network].index((sender, i, 1))}")
         script.do(f"ack={i}")
         script.do(f"all={i}")
         script.send_all(i)
+    return script
+
+
+def crowded(rng):
+    return crowd(rng, "root").finish("rest")
+
+
+def crowded_by_senders(rng):
+    """The last place is taken, and none after it; then a column halts to which packets stand in the network from its beginning to its end."""
+    script = crowd(rng, "sender")
+    packets = len(script.bank.network)
+    script.do(f"take={packets}")
+    script.do(f"take={packets - 1}")
+    script.do(f"halt={script.running()[0]}")
+    script.do(f"take={len(script.bank.network)}")
     return script.finish("rest")
 
 
@@ -226,7 +242,7 @@ def refused_tables(rng):
 
 
 MAKERS = [(calm, 200), (unserved, 110), (race, 200), (sleeping, 120), (returning, 100), (watched, 120), (lost, 40), (crowded, 1), (wandering, 60), (blind, 70), (unended, 60), (damaged, 60),
-          (at_limit, 25), (past_limit, 25), (unended_table, 20)]
+          (at_limit, 25), (past_limit, 25), (unended_table, 20), (crowded_by_senders, 1)]
 
 
 def scripts(rng):

@@ -7,6 +7,7 @@ import random
 import subprocess
 import unittest
 
+import marks
 import model_fastest
 import refusals
 from test_scripts import ROOT, run
@@ -116,11 +117,17 @@ def unended(rng, data):
     return data[:-1]
 
 
+def capital(rng, data):
+    """One letter, or all of them."""
+    at = rng.choice([at for at, byte in enumerate(data) if chr(byte).isalpha()])
+    return data.upper() if rng.random() < 0.3 else data[:at] + data[at:at + 1].upper() + data[at + 1:]
+
+
 def followed(rng, data):
     return data + rng.choice((b"\n", b"0", b"\0", b"first=0\n", b"order=0102000000000000\n", bytes(70_000)))
 
 
-DAMAGES = (dropped, doubled, changed, zero_led, longer_numeral, exchanged, unended, followed)
+DAMAGES = (dropped, doubled, changed, zero_led, longer_numeral, exchanged, unended, marks.returned, marks.spaced_around, marks.spaced_within, capital, followed)
 
 
 def random_request(rng):

@@ -4,14 +4,19 @@ import itertools
 import os
 import random
 import subprocess
+import sys
 import tempfile
 import unittest
 
-import edited
+import journals_mutants
+import marks
 import model
 import model_journals
 import refusals
 from test_scripts import ROOT
+
+sys.path.append(os.path.join(ROOT, "bench"))
+from journals import BUCKETS, full
 
 PROGRAM = os.path.join(ROOT, "target", "bin", "fitter")
 SEEDS = (1, 2, 3)
@@ -21,45 +26,9 @@ TOLD = ["both miss", "one misses", "nothing is missing",
         *(f"refused {words}" for words in ("19: too long", "19: unended", "19: no owner", "19: no such owner", "19: another form", "19: no such column",
                                            "19: about its owner", "19: too high a number", "19: one owner", "20: the same line twice",
                                            "21: got and not sent"))]
-# Wrong comparisons, each an edit of the model's source; every seed must tell each from the program.
-WRONG = [
-    ("a repeated line is looked for between the two columns only", "any(len(set(journal.lines)) < len(journal.lines) for journal in (one, two))",
-     "any(sum(line[2] == there.owner for line in here.lines) > len({line for line in here.lines if line[2] == there.owner})"
-     " for here, there in ((one, two), (two, one)))"),
-    ("a got of a third column is tested", "way == \"got\" and about == other.owner and", "way == \"got\" and"),
-    ("the second journal's lines first", "missing = one.missing(two) + two.missing(one)", "missing = two.missing(one) + one.missing(two)"),
-    ("the newest sending counts as got", "missing = one.missing(two) + two.missing(one)", "missing = (one.missing(two) + two.missing(one))[:-1]"),
-    ("kinds are not told apart", "(\"got\", kind, self.owner, number) not in other.lines",
-     "all((\"got\", either, self.owner, number) not in other.lines for either in (1, 2))"),
-    ("20 after 21", "model.refuse(20,", "model.refuse(21, (one.unheard(two) or two.unheard(one)) and \"got and not sent\")\n        model.refuse(20,"),
-    ("21 before 19 of the second journal", "one, two = Journal(first), Journal(second)",
-     "one = Journal(first)\n        model.refuse(20, len(set(one.lines)) < len(one.lines) and \"twice\")\n        two = Journal(second)"),
-    ("32,768 bytes are too long", "len(text) > LIMIT", "len(text) >= LIMIT"),
-    ("the highest number is none", "number > HIGHEST", "number >= HIGHEST"),
-    ("32,769 bytes are read", "len(text) > LIMIT", "len(text) > LIMIT + 1"),
-    ("a number above the highest passes", "number > HIGHEST and", "False and"),
-    ("an unended line is read", "model.refuse(19, not text.endswith(b\"\\n\") and \"unended\")", "text += b\"\" if text.endswith(b\"\\n\") else b\"\\n\""),
-    ("column 16 is an owner", "self.owner > 15", "self.owner > 16"),
-    ("an owner may begin with 0", 'rb"column=(0|[1-9][0-9]?)"', 'rb"column=([0-9][0-9]?)"'),
-    ("column 16 is another", "other > 15", "other > 16"),
-    ("a line about its owner passes", 'model.refuse(19, other == self.owner and "about its owner")', "pass"),
-    ("kind 3 passes", "=([12]),", "=([123]),"),
-    ("one owner passes", "one.owner == two.owner and", "False and"),
-    ("one owner is 20", 'model.refuse(19, one.owner == two.owner and "one owner")', 'model.refuse(20, one.owner == two.owner and "one owner")'),
-    ("a repeated line is looked for in the first journal only", "for journal in (one, two)) and", "for journal in (one,)) and"),
-    ("a repeated line passes", "any(len(set(journal.lines)) < len(journal.lines) for journal in (one, two))", "False"),
-    ("what the first journal got is not tested", "(one.unheard(two) or two.unheard(one))", "two.unheard(one)"),
-    ("what the second journal got is not tested", "(one.unheard(two) or two.unheard(one))", "one.unheard(two)"),
-    ("what was got is listed", 'if way == "sent" and about == other.owner and', "if about == other.owner and"),
-    ("what was sent to a third column is listed", 'if way == "sent" and about == other.owner and', 'if way == "sent" and'),
-    ("what was got too is listed", 'if way == "sent" and about == other.owner and ("got", kind, self.owner, number) not in other.lines]',
-     'if way == "sent" and about == other.owner]'),
-    ("a number is got by any column's number", '("got", kind, self.owner, number) not in other.lines]', "all(line[3] != number for line in other.lines)]"),
-    ("what is missing by its number", "missing = one.missing(two) + two.missing(one)",
-     "missing = sorted(one.missing(two), key=lambda line: line[3]) + sorted(two.missing(one), key=lambda line: line[3])"),
-    ("what the second journal's owner sent is not listed", "missing = one.missing(two) + two.missing(one)", "missing = one.missing(two)"),
-    ("what is missing as got", 'f"{way}={kind},{other},{number}\\n" for', 'f"got={kind},{other},{number}\\n" for'),
-]
+MORE_MISSING, MANY_LINES = "more is missing than a journal holds", f"more than {journals_mutants.MANY:,} lines"
+# Two numbers so far apart are neighbours, or have what a wrong comparison may take for the number: the lower 16 or 31 bits, the remainder of a word.
+APART = {1: "numbers one apart", 2 ** 16: "numbers 2^16 apart", 2 ** 31: "numbers 2^31 apart", BUCKETS: "numbers of one remainder"}
 
 
 def answer(one, two):
@@ -182,21 +151,42 @@ def long(rng, text):
     return joined(lines)
 
 
+def signed(rng, text):
+    return marks.put(rng, text, b"+", [at for at, byte in enumerate(text) if 48 <= byte <= 57 and text[at - 1] in b"=,"])
+
+
+def blank_ended(rng, text):
+    return text + b"\n"
+
+
 def whole(rng, text):
     return text
 
 
-DAMAGE = [whole, whole, dropped, doubled, swapped, digit_changed, digit_changed, numbered, numbered, elsewhere, about_owner, unended, headed, headed, long]
+DAMAGE = [whole, whole, dropped, doubled, swapped, digit_changed, digit_changed, numbered, numbered, elsewhere, about_owner, unended, headed, headed, long,
+          marks.returned, marks.spaced_around, marks.spaced_within, signed, signed, blank_ended]
 
 
-def dense(rng):
-    """Journals with few numbers, in which nearly every got was sent, so that most lines have one that is nearly the same."""
+def damaged(rng, text, tell):
+    damage = rng.choice(DAMAGE)
+    tell(damage.__name__)
+    return damage(rng, text)
+
+
+# ---- journals of their own making
+
+def dense(rng, tell):
+    """Journals with two numbers, in which nearly every got was sent, so that most lines have one that is nearly the same."""
     one, two, third = rng.sample(range(16), 3)
-    sent = {(here, there): [(kind, number) for kind in (1, 2) for number in (1, 2) if rng.random() < 0.6]
-            for here, there in ((one, two), (two, one), (one, third), (two, third))}
-    got = {(there, here): [packet for packet in packets if rng.random() < 0.6] for (here, there), packets in sent.items()}
-    if rng.random() < 0.15:
-        got.setdefault((one, rng.choice((two, third))), []).append((rng.randint(1, 2), 3))
+    apart, lower = rng.choice(list(APART)), rng.choice((1, rng.randrange(2 ** 31 - 1)))
+    tell(APART[apart])
+    packets = list(itertools.product((1, 2), (lower, lower + apart)))
+    sent = {way: [packet for packet in packets if rng.random() < 0.6] for way in ((one, two), (two, one), (one, third), (two, third))}
+    got = {(there, here): [packet for packet in each if rng.random() < 0.6] for (here, there), each in sent.items()}
+    if rng.random() < 0.3:
+        other = rng.choice((two, two, third))
+        unsent = [packet for packet in packets if packet not in sent.get((other, one), [])]
+        got.setdefault((one, other), []).append(rng.choice(unsent or [(1, lower + apart + 1)]))
     journals = []
     for here in (one, two):
         lines = [b"%s=%d,%d,%d" % (way, kind, there, number) for way, packets in ((b"sent", sent), (b"got", got))
@@ -207,19 +197,43 @@ def dense(rng):
     return journals
 
 
-def pair(rng):
-    if rng.random() < 0.3:
-        return dense(rng)
+def nothing_got(rng):
+    """Full journals in which each sent to the other and got nothing."""
+    one, two = rng.sample(range(16), 2)
+    numbers = rng.sample(range(10 ** 9, model_journals.HIGHEST + 1), 2000)
+    return [full(here, (f"sent={rng.randint(1, 2)},{there},{number}" for number in numbers)).encode() for here, there in ((one, two), (two, one))]
+
+
+def shortest_lines(rng):
+    """Full journals of the shortest lines that there are, of which neither owner got one from the other."""
+    one, two = rng.sample(range(16), 2)
+    journals = []
+    for here, there in ((one, two), (two, one)):
+        lines = [f"{way}={kind},{other},{number}" for way, kind, other, number in itertools.product(("sent", "got"), (1, 2), range(16), range(100))
+                 if other != here and (way, other) != ("got", there)]
+        journals.append(full(here, sorted(rng.sample(lines, len(lines)), key=len)).encode())
+    return journals
+
+
+def pair(rng, tell):
+    if rng.random() < 0.4:
+        return dense(rng, tell)
     one, two = pulled(rng)
     if rng.random() < 0.1:
         two = rng.choice((one, pulled(rng)[1]))
     if rng.random() < 0.04:
         return doubled(rng, one), unended(rng, two)
     if rng.random() < 0.6:
-        one = rng.choice(DAMAGE)(rng, one)
+        one = damaged(rng, one, tell)
     if rng.random() < 0.3:
-        two = rng.choice(DAMAGE)(rng, two)
+        two = damaged(rng, two, tell)
     return (two, one) if rng.random() < 0.5 else (one, two)
+
+
+def pairs(rng, tell):
+    """Many pairs, and a few long ones, which take their time."""
+    yield from (pair(rng, tell) for _ in range(PAIRS))
+    yield from (make(rng) for make in (nothing_got, shortest_lines) for _ in range(LEAST))
 
 
 class Journals(unittest.TestCase):
@@ -227,14 +241,17 @@ class Journals(unittest.TestCase):
         for seed in SEEDS:
             rng = random.Random(seed)
             met = collections.Counter()
-            left = {name: edited.edited(model_journals, name, (old, new)).compare for name, old, new in WRONG}
-            for _ in range(PAIRS):
-                one, two = pair(rng)
+            tell = lambda words: met.update([words])
+            left = journals_mutants.wrong()
+            for one, two in pairs(rng, tell):
                 said = answer(one, two)
-                self.assertEqual(said, model_journals.compare(one, two, lambda words: met.update([words])), (one[:200], two[:200]))
+                self.assertEqual(said, model_journals.compare(one, two, tell), (one[:200], two[:200]))
+                met[MORE_MISSING] += len(said) > model_journals.LIMIT
+                met[MANY_LINES] += b"refused" not in said and max(len(lines_of(one)[1:]), len(lines_of(two)[1:])) > journals_mutants.MANY
                 left = {name: other for name, other in left.items() if other(one, two) == said}
-            self.assertEqual(sorted(met), sorted(TOLD))
-            self.assertEqual([words for words in TOLD if met[words] < LEAST], [], f"seed {seed}: {met}")
+            asked = {*TOLD, *APART.values(), MORE_MISSING, MANY_LINES, *(damage.__name__ for damage in DAMAGE)}
+            self.assertEqual({*met}, asked)
+            self.assertEqual({words: met[words] for words in asked if met[words] < LEAST}, {}, f"seed {seed}")
             self.assertEqual(list(left), [], f"seed {seed}: not told from the program")
 
     def test_journals_of_one_moment_are_never_refused(self):

@@ -14,6 +14,8 @@ PROGRAM = os.path.join(ROOT, "target", "bin", "pages")
 SEEDS = (1, 2, 3)
 RUNS = 120
 COMMANDS = 250
+# A command is a letter and as many numbers of a byte; those that are not told are 0.
+NUMBERS = 4
 # In some runs all columns halt before the last commands.
 LAST = 10
 LEAST = 5
@@ -21,7 +23,8 @@ TOLD = ["bit 0 by an order", "bit 0 by a take", "bit 1 by a note", "bit 2 by a t
         "bit 1 by a note, pending before", "a return with its page kept", "a read of a running column", "a read of a halted column",
         "a write to 5 of a running column", "a write to 5 of a halted column", "a write to 7 of a running column", "a write to 7 of a halted column",
         "a clear of what is pending", "a clear of nothing", "the line up", "the line down", "equal number", "lower number answered", "left take, one owed",
-        "run takes note", "run takes take", "refused 4: no such column", "refused 22: an offset above 7", "refused 22: a write above 7", "refused 22: a write elsewhere",
+        "run takes note", "run takes take", "refused 4: no such column", "refused 22: an offset above 7", "refused 22: an offset above 255",
+        "refused 22: a write above 7", "refused 22: a write above 255", "refused 22: a write elsewhere",
         "refused 14: not at rest", "refused 15: the root", "refused 16: no column runs"]
 
 
@@ -38,26 +41,28 @@ def steps(rng, bank):
     """The steps that the model would accept, most of them; a halt and a return now and then."""
     columns = range(len(bank.columns))
     running = [i for i in columns if bank.columns[i].running]
-    found = [("t", rng.randrange(len(bank.network)), 0, 0)] * 8 if bank.network else []
+    found = [("t", rng.randrange(len(bank.network)))] * 8 if bank.network else []
     for i in running:
-        found += [(letter, i, 0, 0) for letter, refused in (("s", bank.refused_send), ("s", bank.refused_send), ("s", bank.refused_send),
-                                                            ("a", bank.refused_ack), ("g", bank.refused_all)) if not refused(i)]
-        found += [("n", i, j, 0) for j in columns if not bank.refused_note(i, j)] * (4 if i == bank.root else 1)
+        found += [(letter, i) for letter, refused in (("s", bank.refused_send), ("s", bank.refused_send), ("s", bank.refused_send),
+                                                      ("a", bank.refused_ack), ("g", bank.refused_all)) if not refused(i)]
+        found += [("n", i, j) for j in columns if not bank.refused_note(i, j)] * (4 if i == bank.root else 1)
     root = bank.columns[bank.root]
     if root.running and not root.send and not root.awaited:
-        found += [("o", rng.randrange(256), 0, 0)] * 20
+        found += [("o", rng.randrange(256))] * 20
     if len(running) > 1 and rng.random() < 0.02:
-        found = [("h", *(1 << rng.choice([i for i in running if i != bank.root or rng.random() < 0.3] or running)).to_bytes(2, "little"), 0)]
+        found = [("h", *(1 << rng.choice([i for i in running if i != bank.root or rng.random() < 0.3] or running)).to_bytes(2, "little"))]
     if len(running) < len(columns) and (bank.at_rest() or rng.random() < 0.03):
-        found += [("b", i, 0, 0) for i in columns if i not in running]
-    return found or [("d", 1, 0, 0)]
+        found += [("b", i) for i in columns if i not in running]
+    return found or [("d", 1)]
 
 
 def page_command(rng, bank):
     i = rng.randrange(len(bank.columns)) if rng.random() < 0.95 else rng.randrange(256)
     letter = rng.choice("ppprwww")
-    offset = rng.choice((5, 7, 7, rng.randrange(8), rng.randrange(256))) if letter == "w" else rng.choice((rng.randrange(8), rng.randrange(8), rng.randrange(256)))
-    return letter, i, offset, rng.choice((0, 1, 2, 4, 7, 255, rng.randrange(256)))
+    offset = rng.choice((5, 7, 7, rng.randrange(8))) if letter == "w" else rng.randrange(8)
+    if rng.random() < 0.3:
+        offset = rng.choice((offset + 256, rng.randrange(256), rng.randrange(256, 301), rng.randrange(65536)))
+    return letter, i, *offset.to_bytes(2, "little"), rng.choice((0, 1, 2, 4, 7, 255, rng.randrange(256)))
 
 
 def random_command(rng, bank):
@@ -65,16 +70,16 @@ def random_command(rng, bank):
     if choice < 0.35:
         return page_command(rng, bank)
     if choice < 0.37:
-        return "d", rng.randrange(20), 0, 0
+        return "d", rng.randrange(20)
     if choice < 0.4:
-        return rng.choice("ostagnhb"), rng.randrange(20), rng.randrange(20), 0
+        return rng.choice("ostagnhb"), rng.randrange(20), rng.randrange(20)
     return rng.choice(steps(rng, bank))
 
 
 # A chain of three whose middle column halts: the last one still owes it when the next order comes, and leaves that packet in its place.
 CHAIN = (3, 0, [0, 0, 1])
-LEFT = [("o", 1), ("s", 0), ("t", 0), ("s", 1), ("t", 0), ("h", 2), ("n", 0, 1), ("s", 0), ("w", 2, 7, 1), ("t", 0), ("p", 2), ("a", 2), ("t", 0),
-        ("o", 2), ("s", 0), ("s", 0), ("w", 2, 7, 1), ("t", 0), ("p", 2)]
+LEFT = [("o", 1), ("s", 0), ("t", 0), ("s", 1), ("t", 0), ("h", 2), ("n", 0, 1), ("s", 0), ("w", 2, 7, 0, 1), ("t", 0), ("p", 2), ("a", 2), ("t", 0),
+        ("o", 2), ("s", 0), ("s", 0), ("w", 2, 7, 0, 1), ("t", 0), ("p", 2)]
 # A root that halts when the first of its two children has the second order: the other takes over, and sends it the first again, which is lower.
 STAR = (3, 0, [0, 0, 0])
 LOWER = [("o", 1), ("s", 0), ("s", 0), ("t", 0), ("t", 0), ("a", 1), ("a", 2), ("t", 0), ("t", 0), ("o", 2), ("s", 0), ("t", 0), ("h", 1), ("n", 2, 0), ("g", 2),
@@ -84,10 +89,10 @@ SCENES = [(CHAIN, LEFT), (STAR, LOWER)]
 
 def led(rng, bank, given):
     """The commands given, with reads and writes between them."""
-    for letter, *numbers in given:
+    for command in given:
         while rng.random() < 0.4:
             yield page_command(rng, bank)
-        yield letter, *numbers, *[0] * (3 - len(numbers))
+        yield command
 
 
 def head(columns, root, up, watch):
@@ -102,11 +107,11 @@ def random_run(rng, tell):
     given = led(rng, bank, lines)
     commands, answers, ending = [], ["ok\n"], rng.random() < 0.2
     while len(commands) < COMMANDS:
-        command = next(given, None) or random_command(rng, bank)
+        letter, *numbers = next(given, None) or random_command(rng, bank)
         if ending and len(commands) == COMMANDS - LAST:
-            command = "h", *sum(1 << i for i, column in enumerate(bank.columns) if column.running).to_bytes(2, "little"), 0
-        commands.append(command)
-        answers.append(model_pages.answer(bank, *command))
+            letter, numbers = "h", [*sum(1 << i for i, column in enumerate(bank.columns) if column.running).to_bytes(2, "little")]
+        commands.append((letter, *numbers, *[0] * (NUMBERS - len(numbers))))
+        answers.append(model_pages.answer(bank, *commands[-1]))
     return tree, commands, answers
 
 
@@ -142,7 +147,7 @@ class Pages(unittest.TestCase):
 
     def test_trees_that_are_refused(self):
         for bytes_in, number in ((b"", 2), (bytes([17]), 2), (bytes([3, 3]), 3)):
-            self.assertEqual(answered(bytes_in + bytes(19 - len(bytes_in)) + b"r" + bytes(3)), f"refused={number}\n" * 2)
+            self.assertEqual(answered(bytes_in + bytes(19 - len(bytes_in)) + b"r" + bytes(NUMBERS)), f"refused={number}\n" * 2)
 
 
 if __name__ == "__main__":

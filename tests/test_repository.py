@@ -35,6 +35,12 @@ def runner(name):
         sys.path.remove(folder)
 
 
+def mutants():
+    """Each edit of tests/mutants by its crate and its label."""
+    folder = os.path.join(ROOT, "tests", "mutants")
+    return {os.path.relpath(path, folder).removesuffix(".edit") for path in glob.glob(os.path.join(folder, "*", "*.edit"))}
+
+
 def sources(pattern):
     return sorted(glob.glob(os.path.join(ROOT, "crates", pattern), recursive=True))
 
@@ -77,6 +83,11 @@ class Repository(unittest.TestCase):
         for path in sources("column/src/*.rt"):
             self.assertIsNone(re.search(r"\bnetwork\b", read(path)), path)
 
+    def test_nothing_but_the_bank_calls_what_the_core_leaves_untested(self):
+        callers = {os.path.relpath(path, os.path.join(ROOT, "crates")) for path in sources("*/src/*.rt")
+                   if re.search(r"\b(column::returning|unchecked_for_bank|fresh_under)\b", read(path))}
+        self.assertEqual({path for path in callers if not path.startswith("column/")}, {"bank/src/bank.rt", "bank/src/returning.rt", "bank/src/step.rt"})
+
     def test_no_module_rests_on_one_that_rests_on_it(self):
         for crate in CRATES:
             below = {os.path.basename(path)[:-3]: set(re.findall(r"^use crate::(\w+)", read(path), re.M)) for path in sources(f"{crate}/src/*.rt")}
@@ -97,32 +108,31 @@ class Repository(unittest.TestCase):
         self.assertEqual(done.returncode, 0, done.stdout + done.stderr)
 
     def test_every_mutant_is_on_the_list_of_refused_ones(self):
-        folder = os.path.join(ROOT, "tests", "mutants")
-        edits = {os.path.relpath(path, folder).removesuffix(".edit") for path in glob.glob(os.path.join(folder, "*", "*.edit"))}
+        folder, edits = os.path.join(ROOT, "tests", "mutants"), mutants()
         lines = read(os.path.join(folder, "refused.txt")).splitlines()
         totals = [int(line.removesuffix(" refused for a fact, 0 not")) for line in lines if ": " not in line]
         self.assertEqual({line.split(": ")[0] for line in lines if ": " in line}, edits)
         self.assertEqual(sum(totals), len(edits))
 
+    def test_every_mutant_is_in_the_table_and_counted(self):
+        table = read(os.path.join(ROOT, "tests", "mutants", "README.md")).split("\n## ")[0]
+        self.assertEqual({edit.split("/")[1] for edit in mutants()} - set(re.findall(r"`(\w+)`", table)), set())
+        told = re.search(r"\| (\d+) refused, each for a fact", read(os.path.join(ROOT, "README.md")))
+        self.assertEqual(int(told.group(1)), len(mutants()))
+
     def test_every_mutant_fits_its_file_once(self):
+        applied = runner("trial.py")["applied"]
         edits = sorted(glob.glob(os.path.join(ROOT, "tests", "mutants", "*", "*.edit"))) + sources("*/must-fail/*.edit")
         self.assertGreater(len(edits), 10)
         for path in edits:
-            crate = path.split(os.sep)[-2] if "mutants" in path else path.split(os.sep)[-3]
-            file = old = None
-            texts = {}
-            pairs = 0
-            for line in read(path).split("\n"):
-                if line.startswith("file: "):
-                    file = line[len("file: "):]
-                    texts.setdefault(file, read(os.path.join(ROOT, "crates", crate, file)))
-                elif line.startswith("old: "):
-                    old = line[len("old: "):]
-                elif line.startswith("new:"):
-                    self.assertEqual(texts[file].count(old), 1, f"{path}: {old}")
-                    texts[file] = texts[file].replace(old, line[len("new: "):])
-                    pairs += 1
-            self.assertGreater(pairs, 0, path)
+            crate = next(part for part in os.path.relpath(path, ROOT).split(os.sep) if part in CRATES)
+            self.assertTrue(applied(crate, read(path)), path)
+
+    def test_an_edit_that_does_not_fit_is_an_error(self):
+        applied = runner("trial.py")["applied"]
+        for wrong in ("old: no such line\nnew: x", "old: use\nnew: x"):
+            with self.assertRaises(ValueError):
+                applied("column", f"file: src/page.rt\n{wrong}\n")
 
     def test_every_slip_fits_the_definition_of_the_step_once(self):
         slips = runner("slips")

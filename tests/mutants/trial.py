@@ -5,6 +5,8 @@ HERE = os.path.dirname(os.path.abspath(__file__))
 ROOT = os.path.dirname(os.path.dirname(HERE))
 # An edit that only makes the proof file unfit for the code shows nothing.
 UNFIT = re.compile(r"has no `Need-|no field `|was not admitted|not in scope|expected type `tie\.")
+# A change of an edit: the lines that stand in its file, and those in their place.
+CHANGE = re.compile(r"((?:old:.*\n)*)((?:new:.*\n)+)")
 # What a need of a function's proof asks, by how its name begins or ends.
 FACTS = ((r"(.*-)?returns(-\d+)?$", "would not answer what it ensures"), (r"loop\d*-holds", "would begin its loop without the invariant"),
          (r"loop\d*-again", "would not keep the invariant of its loop"), (r"loop\d*-less", "would come no nearer to the end of its loop"),
@@ -48,27 +50,61 @@ def first_error(log):
     return None
 
 
+def unkeyed(lines):
+    return "\n".join(line[len("old: "):] for line in lines.split("\n")[:-1])
+
+
+def changes(text):
+    """What an edit says, in turn: the file, the text that stands there, None for the whole file, and the text in its place. A line without a key is a remark."""
+    keyed = "".join(f"{line}\n" for line in text.split("\n") if line.startswith(("file:", "old:", "new:")))
+    _, *parts = re.split(r"^file: (.*)\n", keyed, flags=re.M)
+    for path, body in zip(parts[::2], parts[1::2]):
+        if not re.fullmatch(f"(?:{CHANGE.pattern})+", body):
+            raise ValueError(f"{path}: no change: {body}")
+        for old, new in CHANGE.findall(body):
+            yield path, unkeyed(old) if old else None, unkeyed(new)
+
+
+def replaced(before, old, new, path):
+    """A file's text with what stands there once in another's place. An edit that does not fit its file shows nothing."""
+    if old is None:
+        return new + "\n"
+    if (before or "").count(old) != 1:
+        raise ValueError(f"{path} has {(before or '').count(old)} times: {old}")
+    return before.replace(old, new)
+
+
+def text_of(root, path):
+    """What a file holds, or None where there is no such file."""
+    whole = os.path.join(root, path)
+    if not os.path.exists(whole):
+        return None
+    with open(whole, encoding="utf8") as file:
+        return file.read()
+
+
 def applied(crate, text):
-    """The files of a crate that an edit changes, by their paths, as they are after it."""
+    """The files of a crate that an edit changes or makes, by their paths, as they are after it."""
     texts = {}
-    path = old = None
-    for line in text.split("\n"):
-        if line.startswith("file: "):
-            path = os.path.join("crates", crate, line.removeprefix("file: "))
-        elif line.startswith("old: "):
-            old = line.removeprefix("old: ")
-        elif line.startswith("new:"):
-            if path not in texts:
-                with open(os.path.join(ROOT, path), encoding="utf8") as file:
-                    texts[path] = file.read()
-            texts[path] = texts[path].replace(old, line.removeprefix("new:").removeprefix(" "), 1)
+    for name, old, new in changes(text):
+        path = os.path.join("crates", crate, name)
+        texts[path] = replaced(texts.get(path, text_of(ROOT, path)), old, new, path)
     return texts
 
 
 def write(copy, texts):
+    """Puts the texts into their files; a file of no text is taken away, with its folder where that is then empty."""
     for path, text in texts.items():
-        with open(os.path.join(copy, path), "w", encoding="utf8") as file:
-            file.write(text)
+        whole = os.path.join(copy, path)
+        folder = os.path.dirname(whole)
+        if text is None:
+            os.remove(whole)
+            if not os.listdir(folder):
+                os.rmdir(folder)
+        else:
+            os.makedirs(folder, exist_ok=True)
+            with open(whole, "w", encoding="utf8") as file:
+                file.write(text)
 
 
 def checked(copy, crate, log):
@@ -88,10 +124,7 @@ def refusals(crate, edits):
             raise RuntimeError(f"{crate} is not proved as it is")
         for label, text in sorted(edits.items()):
             texts = applied(crate, text)
-            before = {}
-            for path in texts:
-                with open(os.path.join(copy, path), encoding="utf8") as file:
-                    before[path] = file.read()
+            before = {path: text_of(copy, path) for path in texts}
             write(copy, texts)
             yield label, log, checked(copy, crate, log)[1]
             write(copy, before)

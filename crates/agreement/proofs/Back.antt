@@ -1,12 +1,11 @@
--- A halted column comes back to a bank at rest: the invariant holds, and the bank is at rest afterwards. Assumes nothing.
-use Prim.Native.Nat.{ℕ, suc, _≤_, _<_}
+-- A halted column comes back to a bank at rest: the invariant holds. Assumes nothing.
+use Prim.Native.Nat.{ℕ, suc, _<_}
 use native.Mathlib.Omega.{arith}
 use mathlib.Core.Path.{_≡_, refl, sym, ap, subst, _∙_}
-use mathlib.Core.Logic.{_≢_, _⊎_, ⊎-elim, inl, inr}
-use mathlib.Core.Bool.{Bool, true, false, not, cond, true≢false}
+use mathlib.Core.Logic.{_≢_, _⊎_, ⊎-elim}
+use mathlib.Core.Bool.{true, false, not, true≢false}
 use mathlib.Core.List.{List}
 use lib.ListN.{length}
-use Rattle.column.specs.Cases.{truth, equal-cases, compare-cases}
 use Rattle.column.specs.Sets.{without}
 use Rattle.column.specs.Trees.{IsTree}
 use Rattle.column.specs.Columns.{watched}
@@ -15,24 +14,13 @@ use Rattle.column.specs.declared.tree.Tree.{Tree}
 use Rattle.column.specs.declared.state.Column.{Column}
 use Rattle.column.specs.declared.packet.Packet.{Packet}
 use Rattle.agreement.specs.Orders.{given}
-use Rattle.agreement.proofs.Model.{In, Empty, State, Runs, count}
+use Rattle.agreement.proofs.Model.{In, State, Runs, count}
 use Rattle.agreement.proofs.Members.{in-none, without-in, without-other, without-cases}
 use Rattle.agreement.proofs.Network.{Holds, holds-none}
-use Rattle.agreement.proofs.Move.{Idle, Rest, Remaining, cameBack, Returns}
+use Rattle.agreement.proofs.Move.{Rest, Remaining, cameBack, Returns}
 use Rattle.agreement.proofs.Invariant.{number, Unserved, Issued, reached, Local, Coverage, Link, sender-halted, sender-ahead, sender-earlier, Linked, Invariant, ranked, ranked-here, ranked-other}
-use Rattle.agreement.proofs.Rest.{none-awaited, none-owed, sender-runs, rest-agrees}
-
-pub below-cases : (i n : ℕ) → (i < n) ⊎ (n ≤ i)
-below-cases i n = ⊎-elim (λ l. inl l) (λ h. inr (⊎-elim (λ e. omega arith) (λ l. omega arith) h)) (compare-cases i n)
-
--- what holds of column j after the return, of each other column that strikes it, and of each unused one holds of each column after it
-pub returned-each : {t : Tree} {s s' : State} {j : ℕ} {c : Column} → Returns t s s' j c →
-    (P : ℕ → Column → Type 0) → P j c → ((i : ℕ) → i ≢ j → i < t .columns → P i (struck (s .columns i) j)) →
-    ((i : ℕ) → i ≢ j → t .columns ≤ i → P i (s .columns i)) → (i : ℕ) → P i (s' .columns i)
-returned-each {t} {s' = s'} {j = j} b P h f g i = ⊎-elim
-    (λ e. subst (λ (x : ℕ). P x (s' .columns x)) (sym e) (subst (P j) (sym (b .mine)) h))
-    (λ n. ⊎-elim (λ l. subst (P i) (sym (b .strikes i n l)) (f i n l)) (λ l. subst (P i) (sym (b .unused i n l)) (g i n l)) (below-cases i (t .columns)))
-    (equal-cases i j)
+use Rattle.agreement.proofs.BackRests.{returned-each, each-running}
+use Rattle.agreement.proofs.Rest.{none-awaited, sender-runs, rest-agrees}
 
 module _ (t : Tree) (tree : IsTree t) {s s' : State} (j l noted : ℕ) (inv : Invariant t s) (rest : Rest t s)
     (hj : j < t .columns) (halted : ¬ Runs s j) (nj : j ≢ t .root) (rl : Runs s l) (k : Remaining t s j noted)
@@ -41,12 +29,6 @@ module _ (t : Tree) (tree : IsTree t) {s s' : State} (j l noted : ℕ) (inv : In
   c = cameBack t s j l noted
 
   -- ---- what is the same afterwards
-
-  -- of the columns that run after it
-  each-running : (P : ℕ → Column → Type 0) → P j c → ((i : ℕ) → i ≢ j → Runs s i → P i (struck (s .columns i) j)) →
-      (i : ℕ) → Runs s' i → P i (s' .columns i)
-  each-running P h f = returned-each b (λ (i : ℕ) (x : Column). x .running ≡ true → P i x) (λ _. h) (λ i n _ r. f i n r)
-      (λ i n l r. absurd (omega (arith, l, inv .inside i r)))
 
   runs-before : (i : ℕ) → i ≢ j → Runs s' i → Runs s i
   runs-before i n h =
@@ -57,7 +39,7 @@ module _ (t : Tree) (tree : IsTree t) {s s' : State} (j l noted : ℕ) (inv : In
 
   -- every running column has the number that l had
   numbers-same : (i : ℕ) → Runs s' i → number s' i ≡ number s l
-  numbers-same = each-running (λ (i : ℕ) (x : Column). x .number ≡ number s l) refl (λ i n h. rest-agrees t tree inv rest i l h rl)
+  numbers-same = each-running b (inv .inside) (λ (i : ℕ) (x : Column). x .number ≡ number s l) refl (λ i n h. rest-agrees t tree inv rest i l h rl)
 
   root-still : Runs s' (t .root) → Runs s (t .root)
   root-still = runs-before (t .root) (λ e. nj (sym e))
@@ -153,9 +135,9 @@ module _ (t : Tree) (tree : IsTree t) {s s' : State} (j l noted : ℕ) (inv : In
     back-linked : Linked t s'
     back-linked = record {
       rank = rank;
-      senders = each-running (λ (i : ℕ) (x : Column). x .whole ≡ false → x .sender < t .columns)
+      senders = each-running b (inv .inside) (λ (i : ℕ) (x : Column). x .whole ≡ false → x .sender < t .columns)
           (λ _. inv .inside l rl) (λ i n h o. known .senders i h o);
-      links = each-running (λ (i : ℕ) (x : Column). x .whole ≡ false → Link s' rank i (x .sender) (x .number))
+      links = each-running b (inv .inside) (λ (i : ℕ) (x : Column). x .whole ≡ false → Link s' rank i (x .sender) (x .number))
           (λ _. sender-earlier (sym (number-same l l-other))
           (omega (arith, ranked-here (known .rank) j (suc (known .rank l)), ranked-other (known .rank) j (suc (known .rank l)) l l-other)))
           (λ i n h o. link-still i (s .columns i .sender) (number s i) n (from-running i h o) (known .links i h o));
@@ -165,14 +147,14 @@ module _ (t : Tree) (tree : IsTree t) {s s' : State} (j l noted : ℕ) (inv : In
 
   pub back-invariant : Invariant t s'
   back-invariant = record {
-    inside = each-running (λ (i : ℕ) (x : Column). i < t .columns) hj (λ i n h. inv .inside i h);
+    inside = each-running b (inv .inside) (λ (i : ℕ) (x : Column). i < t .columns) hj (λ i n h. inv .inside i h);
     near = λ i h. omega (arith, same-count, numbers-same i h, inv .near l rl);
     root-newest = λ h. numbers-same (t .root) h ∙ rest-agrees t tree inv rest l (t .root) rl (root-still h) ∙ inv .root-newest (root-still h)
         ∙ sym same-count;
-    records = each-running (λ (i : ℕ) (x : Column). Issued s' (x .number) (x .doors))
+    records = each-running b (inv .inside) (λ (i : ℕ) (x : Column). Issued s' (x .number) (x .doors))
         (issued-still (inv .records l rl)) (λ i n h. issued-still (inv .records i h));
-    locals = each-running (Local t) local-mine (λ i n h. local-other i h);
-    coverages = each-running (Coverage t s')
+    locals = each-running b (inv .inside) (Local t) local-mine (λ i n h. local-other i h);
+    coverages = each-running b (inv .inside) (Coverage t s')
         (coverage j c refl noted-mine)
         (λ i n h. coverage i (struck (s .columns i) j) (rest-agrees t tree inv rest i l h rl) (noted-other i h));
     packets = λ p m. absurd (holds-none (subst (λ (x : List Packet). Holds x p) (b .packets ∙ rest .no-packet) m));
@@ -181,47 +163,5 @@ module _ (t : Tree) (tree : IsTree t) {s s' : State} (j l noted : ℕ) (inv : In
   }
     where
       none-awaited-now : (p : ℕ) → Runs s' p → (q : ℕ) → In (s' .columns p .awaited) q → ⊥
-      none-awaited-now = each-running (λ (p : ℕ) (x : Column). (q : ℕ) → In (x .awaited) q → ⊥)
+      none-awaited-now = each-running b (inv .inside) (λ (p : ℕ) (x : Column). (q : ℕ) → In (x .awaited) q → ⊥)
           (λ q m. in-none m) (λ p n h q m. none-awaited t tree inv rest p h q m)
-
-  -- ---- "The bank is at rest afterwards."
-
-  -- a column with the own goal: the root runs, and so does l
-  none-takes-over : c .whole ≡ false → In noted (watched t c) → ⊥
-  none-takes-over o m = ⊎-elim
-      (λ w. k .remains l (subst watching w m) .1 rl)
-      (λ w. k .remains (t .root) (subst watching w m) .1 root-runs) (truth (t .watch))
-    where
-      watching : Bool → Type 0
-      watching w = In noted (cond w l (t .root))
-
-      root-runs : Runs s (t .root)
-      root-runs = ⊎-elim (λ r. r) (λ r. absurd (true≢false (sym (ap not r) ∙ o))) (truth (s .columns (t .root) .running))
-
-  pub back-rests : Rest t s'
-  back-rests = record {
-    no-packet = b .packets ∙ rest .no-packet;
-    no-send = each-running (λ (i : ℕ) (x : Column). Empty (x .send)) (λ q m. in-none m) (λ i n h. rest .no-send i h);
-    no-ack = λ i q h m. absurd (none-owed-now i h q m);
-    no-all = each-running
-        (λ (i : ℕ) (x : Column). i ≢ t .root → In (x .noted) (watched t x) → x .whole ≡ false → ¬ Idle x)
-        (λ _ m o _. none-takes-over o m)
-        (λ i n h nr m o idle. rest .no-all i h nr (without-in (s .columns i .noted) j m) o idle);
-    no-note = λ i q h. each-running
-        (λ (i : ℕ) (x : Column). (q : ℕ) → q < t .columns → ¬ Runs s' q → q ≢ i → ¬ (¬ In (x .noted) q))
-        (λ q hq nq ni f. f (k .all-remaining q hq (halted-before q hq nq ni) ni))
-        (λ i n h q hq nq ni f. other i q h hq nq ni f) i h q;
-  }
-    where
-      none-owed-now : (i : ℕ) → Runs s' i → (q : ℕ) → In (s' .columns i .owed) q → ⊥
-      none-owed-now = each-running (λ (p : ℕ) (x : Column). (q : ℕ) → In (x .owed) q → ⊥)
-          (λ q m. in-none m) (λ p n h q m. none-owed t tree inv rest p h q m)
-
-      halted-before : (q : ℕ) → q < t .columns → ¬ Runs s' q → q ≢ j → ¬ Runs s q
-      halted-before q hq n nq h = n (subst (λ (x : Column). x .running ≡ true) (sym (b .strikes q nq hq)) h)
-
-      other : (i q : ℕ) → Runs s i → q < t .columns → ¬ Runs s' q → q ≢ i → ¬ (¬ In (without (s .columns i .noted) j) q)
-      other i q h hq nq ni f = ⊎-elim
-          (λ e. nq (subst (λ (x : ℕ). Runs s' x) (sym e) (subst (λ (x : Column). x .running ≡ true) (sym (b .mine)) refl)))
-          (λ n. rest .no-note i q h hq (halted-before q hq nq n) ni (λ m. ⊎-elim (λ z. f z) (λ z. n z) (without-cases (s .columns i .noted) j m)))
-          (equal-cases q j)

@@ -11,7 +11,7 @@ use Rattle.agreement.proofs.Model.{Empty, State, Runs}
 use Rattle.agreement.proofs.Move.{Idle, Rest, Returns}
 use Rattle.agreement.proofs.Members.{in-none}
 use Rattle.agreement.proofs.Invariant.{number, Invariant}
-use Rattle.agreement.proofs.Back.{returned-each}
+use Rattle.agreement.proofs.BackRests.{returned-each}
 use Rattle.agreement.proofs.Bounded.{Bounded}
 use Rattle.agreement.proofs.BoundedRest.{Still, still-bounded, rest-still}
 

@@ -1,5 +1,6 @@
 -- Document 02, Point 2: the theorem. Assumes nothing.
-use Prim.Native.Nat.{ℕ, zero, suc, _≤_, _<_}
+use Prim.Native.Nat.{ℕ, zero, suc, _*_, _≤_, _<_}
+use native.Mathlib.Nat.{le-refl, mul-le-mul}
 use native.Mathlib.Omega.{arith}
 use mathlib.Core.Path.{_≡_, refl, sym, ap, ap₂, subst, _∙_}
 use mathlib.Core.Logic.{⊎-elim}
@@ -8,7 +9,7 @@ use mathlib.Core.List.{List, [], _∷_, _++_}
 use lib.ListN.{length}
 use Rattle.column.specs.Cases.{equal-cases, and-left, and-right}
 use Rattle.column.specs.Trees.{IsTree}
-use Rattle.column.specs.TreeLaws.{check-exact}
+use Rattle.column.specs.TreeLaws.{check-exact, tree-sixteen}
 use Rattle.column.specs.declared.tree.Tree.{Tree}
 use Rattle.bank.specs.Banks.{State, runs, places}
 use Rattle.bank.specs.Steps.{Outcome, accepted, refused}
@@ -19,8 +20,8 @@ use Rattle.bank.specs.Dispatch.{offers, offered, firstAccepted, turn, onward, d
 use Rattle.bank.specs.DispatchLaws.{stops-rest, stops-taken, take-accepted}
 use Rattle.bank.specs.declared.bank.Step.{Step}
 use Rattle.bank.specs.declared.bank.Step.the-variants.{Order, Send, Take, Ack, All, Note, Halt, Back, Write}
-use Rattle.agreement.specs.History.{World, columnsOf, ordersAfter, told, run, WatchesRoot}
-use Rattle.agreement.specs.Dispatching.{stepsWithin, isSettling, allSettling, allAccepted, Settles, Rests}
+use Rattle.agreement.specs.History.{World, columnsOf, ordersAfter, told, run, WatchesRoot, follow}
+use Rattle.agreement.specs.Dispatching.{stepsWithin, isSettling, allSettling, allAccepted, Settles, Rests, Few, Within2224}
 use Rattle.agreement.proofs.Potential.{potential}
 use Rattle.agreement.proofs.Ceiling.{ceiling}
 use Rattle.agreement.proofs.Settling.{settling, fall}
@@ -217,6 +218,7 @@ module _ (w : World) (r : Reached w) where
       (subst Stopped (sym (lead limit w)) (stopped limit (w .state) h)))
 
   pub settles : Settles w
+  unfolding follow
   settles = record {
     any-steps = λ o xs a e. omega (arith, left-within w r o, few-left w xs r o a e);
     few = few;
@@ -226,7 +228,21 @@ module _ (w : World) (r : Reached w) where
     until = until;
     steps-accepted = λ limit. accepted-dispatched limit w;
     steps-lead = λ limit. lead limit w;
+    line-leads = λ limit. lead limit w;
   }
 
 pub rests : Rests
 rests = after-every Settles settles
+
+-- ---- sixteen columns
+
+most : (n : ℕ) → n ≤ 16 → stepsWithin n ≤ 2224
+most n h =
+    let square : n * n ≤ 16 * n = mul-le-mul h (le-refl n) in
+    omega (arith, h, square)
+
+pub within-2224 : Within2224
+within-2224 = after-every Few (λ w r o.
+    let s = settles w r in
+    let m = most (columnsOf w) (tree-sixteen (w .state .bank .tree) (r .tree)) in
+    (λ xs a e. omega (arith, m, s .any-steps o xs a e), s .rests o 2224 m))

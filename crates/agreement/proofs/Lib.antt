@@ -15,6 +15,7 @@ mod Taking
 mod Given
 mod Records
 mod Rest
+mod BackRests
 mod Back
 mod Kept
 mod Tokens

@@ -6,7 +6,8 @@ use Rattle.bank.specs.Performs.{perform}
 use Rattle.bank.specs.declared.bank.Step.{Step}
 use Rattle.bank.specs.declared.bank.Step.the-variants.{Order, Send, Take, Ack, All, Note, Halt, Back, Write}
 use Rattle.agreement.specs.History.{ordersAfter}
-use Rattle.agreement.proofs.View.{Formed, OneMove, event}
+use Rattle.agreement.specs.Returning.{Formed}
+use Rattle.agreement.proofs.View.{OneMove, event}
 use Rattle.agreement.proofs.Refining.{Refines}
 use Rattle.agreement.proofs.Refine.{refines-order, refines-send, refines-ack, refines-all, refines-note}
 use Rattle.agreement.proofs.RefineTake.{refines-take}

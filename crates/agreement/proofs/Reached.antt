@@ -31,10 +31,11 @@ use Rattle.bank.specs.declared.bank.Step.{Step}
 use Rattle.bank.specs.declared.bank.Step.the-variants.{Order, Send, Take, Ack, All, Note, Halt, Back, Write}
 use Rattle.agreement.specs.History.{World, rootOf, WatchesRoot, receivedAfter, awaitsAfter, told, run, Line, stepsOf, follow}
 use Rattle.agreement.specs.Agreement.{begin, AfterEveryList}
+use Rattle.agreement.specs.Returning.{Formed}
 use Rattle.agreement.proofs.Model as model
 use Rattle.agreement.proofs.Network.{Holds, taken-held}
 use Rattle.agreement.proofs.Invariant.{Invariant, Fresh, fresh-invariant}
-use Rattle.agreement.proofs.Back.{below-cases}
+use Rattle.agreement.proofs.BackRests.{below-cases}
 use Rattle.agreement.proofs.Kept.{kept}
 use Rattle.agreement.proofs.Standing.{Stands, Deliverable, Standing, fresh-standing, standing-kept, stands-passes}
 use Rattle.agreement.proofs.Move.{Event, halts}
@@ -43,7 +44,7 @@ use Rattle.agreement.proofs.Bounded.{Bounded}
 use Rattle.agreement.proofs.BoundedKept.{bounded}
 use Rattle.agreement.proofs.BoundedRest.{fresh-bounded}
 use Rattle.agreement.proofs.Received.{received-after, awaits-after}
-use Rattle.agreement.proofs.View.{view, modelOf, OneMove, event, Formed}
+use Rattle.agreement.proofs.View.{view, modelOf, OneMove, event}
 use Rattle.agreement.proofs.Refining.{Refined, accepted-goes}
 use Rattle.agreement.proofs.RefineTake.{taken-place, refines-halt}
 use Rattle.agreement.proofs.Perform.{refines}

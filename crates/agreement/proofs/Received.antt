@@ -23,7 +23,7 @@ use Rattle.agreement.proofs.Keeping.{each}
 use Rattle.agreement.proofs.Links.{receiver-other}
 use Rattle.agreement.proofs.Serving.{self-root}
 use Rattle.agreement.proofs.Standing.{Standing}
-use Rattle.agreement.proofs.Back.{returned-each}
+use Rattle.agreement.proofs.BackRests.{returned-each}
 
 -- ---- by the moves
 

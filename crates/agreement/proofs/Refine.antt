@@ -30,11 +30,12 @@ use Rattle.bank.specs.NetworkLaws.{packetsOf}
 use Rattle.bank.specs.StandingLaws.{Stands, acting}
 use Rattle.bank.specs.Steps as bank
 use Rattle.bank.specs.Steps.{fitting, withColumn, settled, acted, order, send, ack, all, note}
+use Rattle.agreement.specs.Returning.{Formed}
 use Rattle.agreement.proofs.Model.{In, Runs, Becomes, post}
 use Rattle.agreement.proofs.Move as move
 use Rattle.agreement.proofs.Move.{Move}
 use Rattle.agreement.proofs.Conditions.{member, not-member, widths, order-in, send-in, ack-in, all-in, note-in}
-use Rattle.agreement.proofs.View.{view, modelOf, Formed}
+use Rattle.agreement.proofs.View.{view, modelOf}
 use Rattle.agreement.proofs.Refining.{Refines, refines-unless, refines-core, refines-quiet, refines-put}
 
 -- ---- a column of a bank that stands

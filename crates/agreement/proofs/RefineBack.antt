@@ -6,7 +6,7 @@ use mathlib.Core.Logic.{⊎-elim}
 use mathlib.Core.Bool.{Bool, true, false, not, _&&_, true≢false}
 use mathlib.Core.List.{List}
 use lib.Dec.{eqb, ltb}
-use borrow.Author.Tests.{ne-eqb, eqb-false, lt-ltb, not-true}
+use borrow.Author.Tests.{ne-eqb, eqb-false, lt-ltb, ltb-true, not-true}
 use Rattle.column.specs.Cases.{truth, equal-cases, and-left, and-right}
 use Rattle.column.specs.Sets.{has}
 use Rattle.column.specs.SetLaws.{has-without, without-lt, selected-lt, selected-has, member-lt}
@@ -22,12 +22,12 @@ use Rattle.bank.specs.Steps.{accepted}
 use Rattle.bank.specs.Returns.{lowestRunning, remaining, backRefusal, returned, back}
 use Rattle.bank.specs.ReturnLaws.{Returning, returning, returned-length, place-mine, place-struck, place-unused}
 use Rattle.bank.specs.declared.bank.Bank.{Bank}
+use Rattle.agreement.specs.Returning.{Formed}
 use Rattle.agreement.proofs.Model.{In, Runs}
 use Rattle.agreement.proofs.Move as move
-use Rattle.agreement.proofs.Invariant.{Invariant}
 use Rattle.agreement.proofs.Conditions.{member}
-use Rattle.agreement.proofs.Back.{below-cases, back-rests}
-use Rattle.agreement.proofs.View.{view, modelOf, Formed}
+use Rattle.agreement.proofs.BackRests.{below-cases, back-rests}
+use Rattle.agreement.proofs.View.{view, modelOf}
 use Rattle.agreement.proofs.Quiet.{quiet-rest}
 use Rattle.agreement.proofs.Refining.{Refined, Refines, refines-unless}
 use Rattle.agreement.proofs.Refine.{model-runs, lowest-in}
@@ -124,9 +124,8 @@ module _ (s : State) (formed : Formed s) (orders : List ℕ) (j : ℕ) where
     rests = quiet-rest s orders (stands-passes s (known .stands)) (known .at-rest)
 
     -- "The bank is at rest afterwards."
-    pub rests-after : Invariant t (modelOf s orders) → move.Rest t (modelOf next orders)
-    rests-after inv =
-        back-rests t (check-exact t .0 (known .stands .tree)) j l (remaining b j) inv rests (known .below) (not-running j (known .halted)) (known .not-root) l-runs remain returns
+    pub rests-after : move.Rest t (modelOf next orders)
+    rests-after = back-rests t j l (remaining b j) (λ i r. ltb-true i (t .columns) (and-left _ _ r)) rests l-runs remain returns
 
     refined : Refined s orders orders (move.backs j l) next
     unfolding returned

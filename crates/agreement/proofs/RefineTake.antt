@@ -32,10 +32,11 @@ use Rattle.bank.specs.Steps as bank
 use Rattle.bank.specs.Steps.{settled, delivered}
 use Rattle.bank.specs.Strips.{haltOne}
 use Rattle.bank.specs.NetworkLaws.{others}
+use Rattle.agreement.specs.Returning.{Formed}
 use Rattle.agreement.proofs.Model.{Runs, Taken, first, later, Becomes}
 use Rattle.agreement.proofs.Move as move
 use Rattle.agreement.proofs.Conditions.{empty, halt-in}
-use Rattle.agreement.proofs.View.{view, modelOf, Formed}
+use Rattle.agreement.proofs.View.{view, modelOf}
 use Rattle.agreement.proofs.Refining.{Refines, refines-unless, refines-core, refines-quiet, refines-put}
 use Rattle.agreement.proofs.Refine.{model-runs, column-small, refines-acknowledgement}
 

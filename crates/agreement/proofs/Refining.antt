@@ -23,9 +23,10 @@ use Rattle.bank.specs.StandingLaws.{Stands}
 use Rattle.bank.specs.Networks.{put, puts, withPacket}
 use Rattle.bank.specs.NetworkLaws.{packetsOf, Whole, put-meant, put-whole}
 use Rattle.bank.specs.Steps.{Outcome, accepted, refused, unless, withColumn, fitting, settled}
+use Rattle.agreement.specs.Returning.{Formed}
 use Rattle.agreement.proofs.Model.{Becomes, post}
 use Rattle.agreement.proofs.Move.{Event, Move}
-use Rattle.agreement.proofs.View.{view, modelOf, Formed}
+use Rattle.agreement.proofs.View.{view, modelOf}
 
 -- an accepted step is a move, and leaves a bank that is formed, with the same tree and room for its packets
 pub record Refined (s : State) (orders orders' : List ℕ) (e : Event) (s' : State) : Type 0 where

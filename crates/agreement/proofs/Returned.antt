@@ -5,10 +5,10 @@ use native.Mathlib.Omega.{arith}
 use mathlib.Core.Path.{_≡_, refl, sym, ap, subst, _∙_}
 use mathlib.Core.Logic.{⊎-elim}
 use mathlib.Core.Bool.{Bool, true, false, cond, true≢false}
-use mathlib.Core.List.{List, _∷_, map}
-use lib.Dec.{ltb}
+use mathlib.Core.List.{List, [], _∷_, map}
+use lib.Dec.{eqb, ltb}
 use lib.Pow.{pow-mono}
-use borrow.Author.Tests.{eq-eqb, ne-eqb}
+use borrow.Author.Tests.{eq-eqb, ne-eqb, eqb-true, eqb-false}
 use Rattle.column.specs.Cases.{truth, and-right}
 use Rattle.column.specs.Sets.{has, single}
 use Rattle.column.specs.SetLaws.{has-single}
@@ -16,20 +16,21 @@ use Rattle.column.specs.TreeLaws.{check-exact, tree-sixteen}
 use Rattle.column.specs.Columns.{stopped}
 use Rattle.column.specs.Returns.{struck}
 use Rattle.column.specs.declared.state.Column.{Column}
-use Rattle.bank.specs.Banks.{State, state, columnAt, runs}
+use Rattle.bank.specs.Banks.{State, state, columnAt, runs, bankRefusal}
 use Rattle.bank.specs.Networks.{vanished}
 use Rattle.bank.specs.Steps.{Outcome, accepted, halted}
 use Rattle.bank.specs.Performs.{perform}
 use Rattle.bank.specs.Rest.{Running, AtRest}
 use Rattle.bank.specs.Returns.{backRefusal, returned}
 use Rattle.bank.specs.ReturnLaws.{Returning, returning, place-mine, place-struck}
+use Rattle.bank.specs.RestLaws.{rest-exact, broken-rests}
 use Rattle.bank.specs.StripStates.{column-at}
 use Rattle.bank.specs.Strips.{among, Distinct}
 use Rattle.bank.specs.declared.bank.Bank.{Bank}
 use Rattle.bank.specs.declared.bank.Step.the-variants.{Note, Halt, Back}
 use Rattle.agreement.specs.History.{World, told, run}
 use Rattle.agreement.specs.Dispatching.{allAccepted}
-use Rattle.agreement.specs.Returning.{StillRests, RestsAfter, noticed, Restored, Undone, Restores}
+use Rattle.agreement.specs.Returning.{RestsAfterAny, StillRests, RestsAfter, noticed, Restored, Undone, Restores}
 use Rattle.agreement.proofs.Members.{absent}
 use Rattle.agreement.proofs.Rest.{none-awaited}
 use Rattle.agreement.proofs.Conditions.{not-member, widths}
@@ -41,30 +42,32 @@ use Rattle.agreement.proofs.RestQuiet.{rest-quiet}
 use Rattle.agreement.proofs.Away.{stepped, halts-alone, Held, each-notes}
 use Rattle.agreement.proofs.Reached.{Reached, after-every, reached-stands, reached-passes}
 
+-- ---- what an accepted return leaves, and what it asked
+
+module _ (s : State) (j : ℕ) where
+  abbrev next : State
+  next = state (returned (s .bank) j) (s .heads) (s .doors)
+
+  came-back : (s' : State) → perform s (Back j) ≡ accepted s' → Returning s j × (next ≡ s')
+  unfolding perform
+  came-back s' e =
+      let g = accepted-goes s s' (backRefusal s j) (accepted next) e in
+      (returning s j (g .0), let same : accepted next ≡ accepted s' = g .1 in cc)
+
 -- ---- "The bank is at rest afterwards."
 
-module _ (w : World) (r : Reached w) (j : ℕ) where
-  abbrev back-state : State
-  back-state = state (returned (w .state .bank) j) (w .state .heads) (w .state .doors)
-
-  -- what an accepted return leaves, and what it asked
-  came-back : (s : State) → perform (w .state) (Back j) ≡ accepted s → Returning (w .state) j × (back-state ≡ s)
-  unfolding perform
-  came-back s e =
-      let g = accepted-goes (w .state) s (backRefusal (w .state) j) (accepted back-state) e in
-      (returning (w .state) j (g .0), let same : accepted back-state ≡ accepted s = g .1 in cc)
-
-  rested : (s : State) → perform (w .state) (Back j) ≡ accepted s → AtRest s
-  unfolding told returned
-  rested s e =
-      let k = came-back s e in
-      let e' : perform (w .state) (Back j) ≡ accepted back-state = e ∙ sym (ap accepted (k .1)) in
-      subst AtRest (k .1)
-      (rest-quiet back-state (w .orders) (k .0 .at-rest .no-packet) (reached-passes (told w (Back j) (accepted back-state)) (stepped w (Back j) back-state r e'))
-      (rests-after (w .state) (r .formed) (w .orders) j (k .0) (r .invariant)))
+pub rests-after-any : RestsAfterAny
+unfolding returned
+rests-after-any s formed j s' e =
+    let left = next s j in
+    let known = came-back s j s' e .0 in
+    subst AtRest (came-back s j s' e .1) (⊎-elim
+    (λ good. rest-quiet left [] (known .at-rest .no-packet) (eqb-true (bankRefusal left) 0 good) (rests-after s formed [] j known))
+    (λ bad. rest-exact left .0 (broken-rests left (known .at-rest .no-packet) (eqb-false (bankRefusal left) 0 bad)))
+    (truth (eqb (bankRefusal left) 0)))
 
 pub rests-after-back : RestsAfter
-rests-after-back = after-every StillRests rested
+rests-after-back = after-every StillRests (λ w r j s e. rests-after-any (w .state) (r .formed) j s e)
 
 -- ---- back, halt, notes
 
@@ -74,13 +77,13 @@ module _ (w : World) (r : Reached w) (j : ℕ) (s1 : State) (e1 : perform (w .st
   b = w .state .bank
 
   known : Returning (w .state) j
-  known = came-back w r j s1 e1 .0
+  known = came-back (w .state) j s1 e1 .0
 
   abbrev back-there : State
-  back-there = back-state w r j
+  back-there = next (w .state) j
 
   comes : perform (w .state) (Back j) ≡ accepted back-there
-  comes = e1 ∙ sym (ap accepted (came-back w r j s1 e1 .1))
+  comes = e1 ∙ sym (ap accepted (came-back (w .state) j s1 e1 .1))
 
   abbrev w1 : World
   w1 = told w (Back j) (accepted back-there)

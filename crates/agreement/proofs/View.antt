@@ -1,19 +1,16 @@
 -- The model's state that a bank stands for, and what a bank must have so that its words mean what they should.
-use Prim.Native.Nat.{ℕ, _<_}
-use mathlib.Core.Path.{_≡_}
+use Prim.Native.Nat.{ℕ}
 use mathlib.Core.Bool.{_&&_}
 use mathlib.Core.List.{List}
 use lib.Dec.{ltb}
-use lib.ListN.{length}
 use Rattle.column.specs.Sets.{lowest}
 use Rattle.column.specs.Trees.{choose}
 use Rattle.column.specs.Columns.{plain}
 use Rattle.column.specs.Packets.{receiver}
 use Rattle.column.specs.declared.tree.Tree.{Tree}
 use Rattle.column.specs.declared.state.Column.{Column}
-use Rattle.bank.specs.Words.{numbers}
 use Rattle.bank.specs.Banks.{State, columnAt, packetAt}
-use Rattle.bank.specs.NetworkLaws.{packetsOf, Whole}
+use Rattle.bank.specs.NetworkLaws.{packetsOf}
 use Rattle.bank.specs.Returns.{lowestRunning}
 use Rattle.bank.specs.declared.bank.Step.{Step}
 use Rattle.bank.specs.declared.bank.Step.the-variants.{Order, Send, Take, Ack, All, Note, Halt, Back, Write}
@@ -51,9 +48,3 @@ event s (Note i j) o = move.notes i j
 event s (Halt m) o = absurd o
 event s (Back j) o = move.backs j (lowestRunning (s .bank))
 event s (Write i offset value) o = absurd o
-
--- all places are there, and the numbers are such as a packet's words hold
-pub record Formed (s : State) : Type 0 where
-  pub places : length (s .bank .columns) ≡ 16
-  pub whole : Whole s
-  pub numbers-fit : (i : ℕ) → columnAt (s .bank) i .number < numbers

@@ -17,8 +17,9 @@ use Rattle.bank.specs.Steps.{accepted, withColumn}
 use Rattle.bank.specs.Pages.{writeRefusal}
 use Rattle.bank.specs.Performs.{perform}
 use Rattle.bank.specs.declared.bank.Step.the-variants.{Write}
+use Rattle.agreement.specs.Returning.{Formed}
 use Rattle.agreement.proofs.Move.{withRunning}
-use Rattle.agreement.proofs.View.{modelOf, Formed}
+use Rattle.agreement.proofs.View.{modelOf}
 use Rattle.agreement.proofs.Refining.{accepted-goes}
 
 module _ (s : State) (i offset value : ℕ) where

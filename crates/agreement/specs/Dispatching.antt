@@ -1,7 +1,7 @@
 -- Document 02, Point 2: "From any state reached from fresh by accepted steps, a bank of N columns rests within 9 times N squared less 5
 -- times N steps (2,224 for 16)." Point 9: "the packet and step limits of Points 2 and 3 are for watch=root only".
 use Prim.Native.Nat.{ℕ, _-_, _*_, _≤_, _<_}
-use mathlib.Core.Path.{_≡_}
+use mathlib.Core.Path.{_≡_, refl}
 use mathlib.Core.Bool.{Bool, true, false, not, _&&_}
 use mathlib.Core.List.{List, [], _∷_}
 use lib.ListN.{length}
@@ -10,7 +10,7 @@ use Rattle.bank.specs.Rest.{isRefused, AtRest}
 use Rattle.bank.specs.Dispatch.{dispatched, dispatch}
 use Rattle.bank.specs.declared.bank.Step.{Step}
 use Rattle.bank.specs.declared.bank.Step.the-variants.{Order, Send, Take, Ack, All, Note, Halt, Back, Write}
-use Rattle.agreement.specs.History.{World, columnsOf, WatchesRoot, told, run}
+use Rattle.agreement.specs.History.{World, columnsOf, WatchesRoot, told, run, dispatching, follow}
 use Rattle.agreement.specs.Agreement.{AfterEveryList}
 
 abbrev pub stepsWithin : ℕ → ℕ
@@ -48,6 +48,19 @@ pub record Settles (w : World) : Type 0 where
   -- whoever is watched: they are a list of accepted steps, to which demand 3 applies
   pub steps-accepted : (limit : ℕ) → allAccepted w (dispatched limit (w .state)) ≡ true
   pub steps-lead : (limit : ℕ) → run w (dispatched limit (w .state)) .state ≡ dispatch limit (w .state)
+  -- a line of a list that dispatches leads where the dispatch does
+  pub line-leads : (limit : ℕ) → follow w (dispatching limit ∷ []) .state ≡ dispatch limit (w .state)
 
 abbrev pub Rests : Type 0
 Rests = AfterEveryList Settles
+
+-- "(2,224 for 16)", the most columns that a bank has: no more steps are accepted, whichever they are, and so many of the dispatcher's bring it to rest
+pub for-sixteen : stepsWithin 16 ≡ 2224
+for-sixteen = refl
+
+abbrev pub Few : World → Type 0
+Few w = WatchesRoot w
+    → ((xs : List Step) → allSettling xs ≡ true → allAccepted w xs ≡ true → length xs ≤ 2224) × AtRest (dispatch 2224 (w .state))
+
+abbrev pub Within2224 : Type 0
+Within2224 = AfterEveryList Few

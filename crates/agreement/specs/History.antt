@@ -1,5 +1,6 @@
 -- What document 01 defines by the steps taken: the accepted orders, the numbers that a column received, and whom the root awaits. All
--- are told from the list of steps and the answers; what the bank keeps for its own work (its `awaited` sets, its records) is not asked.
+-- are told from the list of steps and the answers. Of the bank are asked what the sentences name: the packet at a place and whether its receiver leaves it there, the
+-- root's number, whom it is to send to and whom it has noted, and who is the lowest that runs. What columns hold as awaited, and what record, is not asked.
 use Prim.Native.Nat.{ℕ, suc}
 use mathlib.Core.Path.{_≡_}
 use mathlib.Core.Bool.{Bool, true, false, not, _&&_, cond}

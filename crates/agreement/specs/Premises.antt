@@ -1,13 +1,13 @@
 -- The premises of agreement and of what stands beside it, each with an instance in which it holds, from the lists that Runs computes.
 -- Assumes nothing.
-use Prim.Native.Nat.{ℕ, suc, _≤_, _<_}
+use Prim.Native.Nat.{ℕ, zero, suc, _≤_, _<_}
 use native.Mathlib.Omega.{arith}
 use mathlib.Core.Path.{_≡_, refl, sym, ap, subst, _∙_}
 use mathlib.Core.Logic.{_⊎_, inl, inr}
 use mathlib.Core.Bool.{Bool, true, false, not, _&&_, _||_, cond, true≢false}
 use mathlib.Core.List.{List, [], _∷_, _++_, map}
 use lib.Dec.{eqb, ltb}
-use lib.ListN.{length, replicate, length-replicate}
+use lib.ListN.{length, getD, replicate, length-replicate}
 use borrow.Author.Tests.{ltb-true, ltb-false, eqb-true, ne-eqb}
 use Rattle.column.specs.Cases.{truth, and-left, and-right, none-and}
 use Rattle.column.specs.Sets.{has}
@@ -20,6 +20,7 @@ use Rattle.column.specs.declared.packet.Packet.{Packet}
 use Rattle.column.specs.declared.packet.Packet.the-variants.{Message, Acknowledgement}
 use Rattle.bank.specs.Banks.{State, columnAt, runs, packetAt, capacity}
 use Rattle.bank.specs.StandingLaws.{Stands, stands}
+use Rattle.bank.specs.FreshLaws.{places-at}
 use Rattle.bank.specs.Steps as steps
 use Rattle.bank.specs.Steps.{Outcome, accepted, refused}
 use Rattle.bank.specs.Performs.{perform}
@@ -33,7 +34,7 @@ use Rattle.agreement.specs.History.{World, changed, rootOf, acknowledged
 use Rattle.agreement.specs.Agreement.{Holds, HighestReceived, NeitherSends, NorAwaits, Agreement, AfterEveryList, Agrees}
 use Rattle.agreement.specs.Companions.{Ordered, OrdersCount, HaltedRests}
 use Rattle.agreement.specs.Runs.{Row, fromFresh, after, refusal, refusals, rowIn, recordIs, holds, Case, row, runs-pass}
-use Rattle.agreement.specs.Runs.{takenOver, servedByRoot, besidesAHalted, everyoneHalted}
+use Rattle.agreement.specs.Runs.{takenOver, neverReceived, servedByRoot, besidesAHalted, everyoneHalted}
 
 -- ---- nobody past 16 is awaited
 
@@ -161,6 +162,10 @@ module _ (c : Case) where
   nobody-runs : row c .running ≡ 0 → (i : ℕ) → Running s i → ⊥
   nobody-runs e i r = true≢false (sym (r .1) ∙ sym (runs-mask i (r .0)) ∙ ap (λ (m : ℕ). has m i) e ∙ has-none i)
 
+  -- what each column has received
+  received-at : (i : ℕ) → i < columns → w .received i ≡ getD (row c .received) i 0
+  received-at i l = sym (places-at (w .received) columns i 0 l) ∙ ap (λ (r : Row). getD (r .received) i 0) row-is
+
   neither-sends : row c .root .send ≡ 6 ∷ [] → NeitherSends s
   unfolding refusals perform
   neither-sends e =
@@ -199,6 +204,25 @@ taken-over-rests = rests takenOver refl
 
 pub taken-over-runs : Running (world takenOver .state) 1
 taken-over-runs = running takenOver 1 (omega arith) refl
+
+-- ---- "the highest order number that any of them has received": of those that run, and not of a halted column that received more
+
+pub nobody-received : (i : ℕ) → Running (world neverReceived .state) i → world neverReceived .received i ≡ 0
+nobody-received i r = received-at neverReceived i (r .0) ∙ go i (subst (λ (t : Tree). i < t .columns) (tree-is neverReceived) (r .0)) (runs-mask neverReceived i (r .0) ∙ r .1)
+  where
+    go : (i : ℕ) → i < 3 → has 6 i ≡ true → getD (row neverReceived .received) i 0 ≡ 0
+    go zero l e = absurd (true≢false (sym e))
+    go (suc zero) l e = refl
+    go (suc (suc zero)) l e = refl
+    go (suc (suc (suc i))) l e = absurd (omega (arith, l))
+
+pub halted-received : world neverReceived .received 0 ≡ 1
+halted-received = received-at neverReceived 0 (subst (λ (t : Tree). 0 < t .columns) (sym (tree-is neverReceived)) (omega arith))
+
+pub not-of-the-halted : HighestReceived (world neverReceived) 1 → ⊥
+not-of-the-halted h =
+    let z = h .attained in
+    omega (arith, sym (nobody-received (z .0) (z .1)) ∙ z .2)
 
 -- ---- `served` of Agreement: a packet is still under way, and the bank is not at rest
 
@@ -245,3 +269,6 @@ order-said counts = spoken-of servedByRoot Ordered counts .gives 0 (second-accep
 
 pub halted-said : HaltedRests → AtRest (world everyoneHalted .state)
 halted-said halted = spoken-of everyoneHalted (λ w. ((i : ℕ) → Running (w .state) i → ⊥) → AtRest (w .state)) halted nobody-left
+
+pub never-said : Agrees → (number : ℕ) × Holds (world neverReceived) 1 number × HighestReceived (world neverReceived) number
+never-said agrees = spoken-of neverReceived Agreement agrees .at-rest (rests neverReceived refl) 1 (running neverReceived 1 (omega arith) refl)

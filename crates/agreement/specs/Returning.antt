@@ -1,12 +1,15 @@
--- Document 02, Point 7: what a return leaves, after every list of lines from fresh.
-use Prim.Native.Nat.{ℕ}
+-- Document 02, Point 7: what a return leaves, in any bank and after every list of lines from fresh.
+use Prim.Native.Nat.{ℕ, _<_}
 use mathlib.Core.Path.{_≡_}
 use mathlib.Core.Bool.{true}
 use mathlib.Core.List.{List, _∷_, map}
+use lib.ListN.{length}
 use Rattle.column.specs.Sets.{single}
 use Rattle.column.specs.Columns.{haltNoted, withPending}
 use Rattle.column.specs.declared.state.Column.{Column}
+use Rattle.bank.specs.Words.{numbers}
 use Rattle.bank.specs.Banks.{State, columnAt}
+use Rattle.bank.specs.NetworkLaws.{Whole}
 use Rattle.bank.specs.Steps.{accepted}
 use Rattle.bank.specs.Performs.{perform}
 use Rattle.bank.specs.Rest.{Running, AtRest}
@@ -17,7 +20,17 @@ use Rattle.agreement.specs.History.{World, run}
 use Rattle.agreement.specs.Agreement.{AfterEveryList}
 use Rattle.agreement.specs.Dispatching.{allAccepted}
 
--- "The bank is at rest afterwards."
+-- what the types say of a bank that is handed in: all places are there, and order numbers have 32 bits
+pub record Formed (s : State) : Type 0 where
+  pub places : length (s .bank .columns) ≡ 16
+  pub whole : Whole s
+  pub numbers-fit : (i : ℕ) → columnAt (s .bank) i .number < numbers
+
+-- "The bank is at rest afterwards.": any bank in which a return is accepted, handed in or stepped from fresh, whatever it holds
+abbrev pub RestsAfterAny : Type 0
+RestsAfterAny = (s : State) → Formed s → (j : ℕ) (s' : State) → perform s (Back j) ≡ accepted s' → AtRest s'
+
+-- the same of a bank stepped from fresh
 abbrev pub StillRests : World → Type 0
 StillRests w = (j : ℕ) (s : State) → perform (w .state) (Back j) ≡ accepted s → AtRest s
 

@@ -145,6 +145,8 @@ pub data Case : Type 0 where
   everyoneHalted : Case
   stripGone : Case
   stripRefused : Case
+  stripOfGone : Case
+  noteRefused : Case
   backThenOrder : Case
   backThenTakenOver : Case
   backAfterTakenOver : Case
@@ -229,6 +231,15 @@ row stripGone =
 -- "If any is 4 or 5, none halts": columns 1 and 3, and columns 0 and 2 after 2
 row stripRefused =
     rowOf chain (Halt 10 ∷ halting 2 ∷ Halt 5 ∷ Note 0 2 ∷ Note 1 2 ∷ []) (4 ∷ 5 ∷ []) [] (0 ∷ 0 ∷ 0 ∷ []) 3 0 0 true idleRoot
+-- column 1 is halted: a strip of it and of one that the bank has not, which is 4 before 5; of it and of one that runs; and of it alone
+row stripOfGone =
+    rowOf chain (halting 1 ∷ Halt 10 ∷ Halt 6 ∷ halting 1 ∷ Note 0 1 ∷ Note 2 1 ∷ []) (4 ∷ 5 ∷ 5 ∷ []) [] (0 ∷ 0 ∷ 0 ∷ []) 5 0 0 true idleRoot
+-- column 1 is halted, and notes one that runs, itself, and one that the bank has not, which is 4 before 5; the root notes one that runs, itself, and one that
+-- the bank has not; one that it has not notes column 1; and the root notes it twice
+row noteRefused =
+    rowOf chain
+    (halting 1 ∷ Note 1 0 ∷ Note 1 1 ∷ Note 1 3 ∷ Note 0 2 ∷ Note 0 0 ∷ Note 0 3 ∷ Note 3 1 ∷ Note 0 1 ∷ Note 0 1 ∷ Note 2 1 ∷ [])
+    (5 ∷ 5 ∷ 4 ∷ 6 ∷ 6 ∷ 4 ∷ 4 ∷ 6 ∷ []) [] (0 ∷ 0 ∷ 0 ∷ []) 5 0 0 true idleRoot
 -- a new order reaches the column that came back too
 row backThenOrder = rowOf chain (awayAndBack ++ (Order 5 ∷ serving)) [] (5 ∷ 3 ∷ []) (2 ∷ 2 ∷ 2 ∷ []) 7 2 0 true idleRoot
 -- the root halts in the middle of a new order, and the column that came back takes over as the other does
@@ -275,6 +286,8 @@ runs-pass aroundTheHalted = refl
 runs-pass everyoneHalted = refl
 runs-pass stripGone = refl
 runs-pass stripRefused = refl
+runs-pass stripOfGone = refl
+runs-pass noteRefused = refl
 runs-pass backThenOrder = refl
 runs-pass backThenTakenOver = refl
 runs-pass backAfterTakenOver = refl

@@ -20,6 +20,7 @@ pub mod StripRefusals
 pub mod Rest
 pub mod Returns
 pub mod Pages
+pub mod PageLaws
 pub mod PageSteps
 pub mod Apart
 pub mod PlainStates

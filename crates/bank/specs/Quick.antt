@@ -1,4 +1,4 @@
--- The step of a turn, found by sets alone: in a bank that stands it is the dispatcher's, by `quick-turn` of QuickLaws.
+-- The step of a turn, found by sets alone: in a bank that stands it is the dispatcher's, by `quick-turn` of QuickTurn.
 use Prim.Native.Nat.{ℕ, zero, suc}
 use mathlib.Core.Bool.{Bool, true, false, not, _&&_, _||_, cond}
 use lib.Dec.{eqb, ltb}

@@ -187,7 +187,7 @@ pub fn order(b: Bank, given: u64, heads: &mut [u64; 512], doors: &mut [u64; 512]
     act(b, Step::Order(given), t.root, heads, doors)
 }
 
-// The bank after column i served the lowest that it is to send to; a message to a running one is put.
+// The bank after column i served the one that stands earliest of those it is to send to; a message to a running one is put.
 pub fn send(b: Bank, i: usize, heads: &mut [u64; 512], doors: &mut [u64; 512]) -> Result
     ensures { λ r. ⌜ outcome r (now (heads .exit)) (now (doors .exit)) ≡ send (state b (now (heads .entry)) (now (doors .entry))) i ⌝ }
 {

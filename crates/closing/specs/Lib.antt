@@ -20,6 +20,7 @@ pub mod Scripts
 pub mod Advances
 pub mod AdvanceLaws
 pub mod ScriptLaws
+pub mod ScriptExamples
 pub mod FillLaws
 pub mod Printing
 pub mod Edges

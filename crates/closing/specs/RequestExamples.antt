@@ -34,6 +34,12 @@ rows =
     ∷ row "columns=5\ndelay=02\ngap=1\n" "refused=1\n"
     ∷ row "columns=5\ndelay=\ngap=1\n" "refused=1\n"
     ∷ row "columns=005\ndelay=2\ngap=1\n" "refused=1\n"
+    -- two digits for columns, three for the others: 100 is another form, 99 is 2; 1000 is another form, 999 is 17
+    ∷ row "columns=100\ndelay=2\ngap=1\n" "refused=1\n"
+    ∷ row "columns=99\ndelay=2\ngap=1\n" "refused=2\n"
+    ∷ row "columns=5\ndelay=1000\ngap=1\n" "refused=1\n"
+    ∷ row "columns=5\ndelay=2\ngap=1000\n" "refused=1\n"
+    ∷ row "columns=5\ndelay=999\ngap=999\n" "refused=17\n"
     ∷ row "columns=5\ngap=1\ndelay=2\n" "refused=1\n"
     ∷ row "columns=5\ndelay=2\ngap=1" "refused=1\n"
     ∷ row "columns=5\ndelay=2\ngap=1\n\n" "refused=1\n"

@@ -68,6 +68,9 @@ rows =
     -- "table not of the form above": a numeral's form
     ∷ row "columns=03\nroot=0\nup=0,0,1\n" (no 1)
     ∷ row "columns=100\nroot=0\nup=0\n" (no 1)
+    ∷ row "columns=3\nroot=100\nup=0,0,1\n" (no 1)
+    ∷ row "columns=3\nroot=0\nup=0,0,100\n" (no 1)
+    ∷ row "columns=99\nroot=0\nup=0\n" (no 2)
     ∷ row "columns=3\r\nroot=0\nup=0,0,1\n" (no 1)
     ∷ row "columns=3\nroot=0\nup=\n" (no 1)
     ∷ row "columns=3\nroot=0\nup=0,\n" (no 1)
@@ -84,6 +87,11 @@ rows =
     ∷ row "columns=3\nroot=0\nup=0,0,1\nfirst=2,0,2\n" (no 3)
     ∷ row "columns=3\nroot=0\nup=0,0,1\nfirst=2,0,1,1\n" (no 3)
     ∷ row "columns=3\nroot=0\nup=0,0,1\nfirst=2,0,3\n" (no 3)
+    -- sixteen are listed, and seventeen
+    ∷ row "columns=16\nroot=0\nup=0,0,0,0,0,0,0,0,0,0,0,0,0,0,0,0\nfirst=0,1,2,3,4,5,6,7,8,9,10,11,12,13,14,15\n"
+    (accepted (placedAt (treeInSequence 16 0 (replicate 16 0) ascending) 97))
+    ∷ row "columns=16\nroot=0\nup=0,0,0,0,0,0,0,0,0,0,0,0,0,0,0,0\nfirst=0,1,2,3,4,5,6,7,8,9,10,11,12,13,14,15,0\n" (no 3)
+    ∷ row "columns=16\nroot=0\nup=0,0,0,0,0,0,0,0,0,0,0,0,0,0,0,0\nfirst=0,1,2,3,4,5,6,7,8,9,10,11,12,13,14,15,16\n" (no 3)
     -- "in the form of `up`": 1, and so where it is not ended; 2 comes before 3
     ∷ row "columns=3\nroot=0\nup=0,0,1\nfirst=2,0,01\n" (no 1)
     ∷ row "columns=3\nroot=0\nup=0,0,1\nfirst=\n" (no 1)

@@ -1,21 +1,22 @@
 -- Laws of frames: packets that are written one after another are read back, and what a frame is read as is written back.
 -- Assumes nothing.
 use Prim.Native.Nat.{ℕ, zero, suc, _+_, _-_, _≤_, _<_}
-use mathlib.Core.Path.{_≡_, refl, sym, ap, _∙_}
+use mathlib.Core.Path.{_≡_, refl, sym, ap, ap₂, _∙_}
 use mathlib.Core.Bool.{Bool, true, false, cond}
-use mathlib.Core.List.{List, [], _∷_, _++_, append-assoc, append-nil}
+use mathlib.Core.List.{List, [], _∷_, _++_, map, append-assoc, append-nil}
 use native.Mathlib.Omega.{arith}
 use lib.Dec.{eqb}
-use lib.ListN.{length, drop, length-append}
+use lib.ListN.{length, drop, getD, replicate, length-append, length-map, length-replicate, getD-replicate}
 use lib.Seq.{drop-append-seam}
 use borrow.Author.Tests.{eqb-true, ne-eqb}
 use Rattle.column.specs.Refusals.{Given, given, refused}
 use Rattle.column.specs.Packets.{Part, part, wide, bytesIn, bytesOf, goodEnds, read}
 use Rattle.column.specs.NumberLaws.{Bytes, bytes-drop}
 use Rattle.column.specs.PacketLaws.{Fits, read-write, write-read, read-rest, wide-kinds}
-use Rattle.column.specs.Frames.{framePackets, prefixed, followed, packetsIn, readFrame, joined, frameOf}
+use Rattle.column.specs.Frames.{framePackets, prefixed, followed, packetsIn, readFrame, joined, slot, noSlot, Framed, frameOf}
 use Rattle.column.specs.declared.packet.Packet.{Packet}
 use Rattle.column.specs.declared.packet.Packet.the-variants.{Message, Acknowledgement}
+use Rattle.column.specs.declared.frame.Slot.{Slot}
 
 -- ---- packets before what the rest of a frame yields
 
@@ -205,3 +206,52 @@ packets-refused k (suc n) s = go (eqb (length s) 0) (read s) (λ used. packets-r
 -- a frame is refused with no other number
 pub frame-refused : (s : List ℕ) (k : ℕ) → readFrame s ≡ refused k → k ≡ 12
 frame-refused s k e = packets-refused k framePackets s e
+
+-- ---- what the frame reader answers, for every frame: the count, and what stands in every place
+
+-- the answer has n packets, these: they stand first, and in every place past them stands the message 0 from 0 to 0, which is no packet
+pub record Laid (f : Framed) (ps : List Packet) : Type 0 where
+  pub places : length (f .packets) ≡ framePackets
+  pub first : (k : ℕ) (d : Slot) (p : Packet) → k < length ps → getD (f .packets) k d ≡ slot (getD ps k p)
+  pub past : (k : ℕ) (d : Slot) → length ps ≤ k → k < framePackets → getD (f .packets) k d ≡ slot (Message 0 0 0 0)
+
+laid : (ps : List Packet) → length ps ≤ framePackets → Laid (frameOf (given ps)) ps
+laid ps l = record {
+  places =
+      length-append (map slot ps) rest
+      ∙ ap₂ (λ (a b : ℕ). a + b) (length-map ps slot) (length-replicate (framePackets - length ps) noSlot) ∙ whole;
+  first = λ k d p h. first ps k d p h;
+  past = λ k d h m. past ps k d h (omega (arith, m, whole));
+}
+  where
+    whole : length ps + (framePackets - length ps) ≡ framePackets
+    whole = omega (arith, l)
+
+    rest : List Slot
+    rest = replicate (framePackets - length ps) noSlot
+
+    first : (qs : List Packet) (k : ℕ) (d : Slot) (p : Packet) → k < length qs → getD (map slot qs ++ rest) k d ≡ slot (getD qs k p)
+    first [] k d p h = absurd (omega (arith, h))
+    first (q ∷ qs) zero d p h = refl
+    first (q ∷ qs) (suc k) d p h = first qs k d p (omega (arith, h))
+
+    past : (qs : List Packet) (k : ℕ) (d : Slot) → length qs ≤ k → k < length qs + (framePackets - length ps)
+        → getD (map slot qs ++ rest) k d ≡ slot (Message 0 0 0 0)
+    past [] k d h m = getD-replicate (framePackets - length ps) k noSlot d (omega (arith, m))
+    past (q ∷ qs) zero d h m = absurd (omega (arith, h))
+    past (q ∷ qs) (suc k) d h m = past qs k d (omega (arith, h)) (omega (arith, m))
+
+pub frame-given : (s : List ℕ) (ps : List Packet) → readFrame s ≡ given ps
+    → (frameOf (readFrame s) .count ≡ given (length ps)) × Laid (frameOf (readFrame s)) ps
+frame-given s ps e = rw e (refl, laid ps (packets-most framePackets s ps e))
+
+-- "A frame with a bad packet anywhere is refused with 12 and yields no packet."
+pub frame-declined : (s : List ℕ) (k : ℕ) → readFrame s ≡ refused k → (frameOf (readFrame s) .count ≡ refused 12) × Laid (frameOf (readFrame s)) []
+frame-declined s k e = rw e (
+  ap refused (frame-refused s k e),
+  record {
+    places = length-replicate framePackets noSlot;
+    first = λ j d p h. absurd (omega (arith, h));
+    past = λ j d h m. getD-replicate framePackets j noSlot d m;
+  },
+)

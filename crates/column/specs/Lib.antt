@@ -32,9 +32,11 @@ pub mod FrameExamples
 pub mod Steps
 pub mod Pages
 pub mod PageLaws
+pub mod PageExact
 pub mod PageExamples
 pub mod PlainLaws
 pub mod StateLaws
 pub mod Unchecked
 pub mod UncheckedLaws
+pub mod UncheckedExamples
 pub mod StepExamples

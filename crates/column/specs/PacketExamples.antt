@@ -56,20 +56,28 @@ wrong =
     -- a kind that is none, and a message of an acknowledgement's size
     ∷ (5 ∷ 0 ∷ 1 ∷ 0 ∷ 0 ∷ 1 ∷ 2 ∷ 1 ∷ 2 ∷ 3 ∷ 4 ∷ 5 ∷ 6 ∷ 7 ∷ 8 ∷ [])
     ∷ (3 ∷ 1 ∷ 0 ∷ 0 ∷ 0 ∷ 0 ∷ 7 ∷ [])
-    -- equal ends, and an end above 15
+    -- equal ends, and an end above 15: the sender, and the receiver
     ∷ (4 ∷ 1 ∷ 1 ∷ 0 ∷ 0 ∷ 0 ∷ 7 ∷ [])
     ∷ (4 ∷ 16 ∷ 0 ∷ 0 ∷ 0 ∷ 0 ∷ 7 ∷ [])
+    ∷ (4 ∷ 0 ∷ 16 ∷ 0 ∷ 0 ∷ 0 ∷ 7 ∷ [])
     -- "4 bytes"
     ∷ (4 ∷ 1 ∷ 0 ∷ 0 ∷ [])
     ∷ []
 
-wrong-refused : map read wrong ≡ replicate 9 (refused 12)
+wrong-refused : map read wrong ≡ replicate 10 (refused 12)
 unfolding readIn lowValue
 wrong-refused = refl
 
-wrong-ends-refused : write (Acknowledgement 16 0 7) ≡ record { size = refused 12; bytes = replicate 15 0 }
+-- packets to write with an end above 15, the sender or the receiver, or equal ends
+wrong-ends-refused : map write (Acknowledgement 16 0 7 ∷ Acknowledgement 0 16 7 ∷ Message 0 16 7 0 ∷ Message 3 3 7 0 ∷ [])
+    ≡ replicate 4 (record { size = refused 12; bytes = replicate 15 0 })
 unfolding write
 wrong-ends-refused = refl
+
+-- 15 is an end, of either
+pub last-ends : write (Acknowledgement 15 14 7) .size ∷ write (Acknowledgement 14 15 7) .size ∷ [] ≡ given 7 ∷ given 7 ∷ []
+unfolding write bytesIn lowFirst
+last-ends = refl
 
 -- "doors byte 7 = 128 is door 64", and neither door 63 nor door 1
 last-door : map (occupied (0 ∷ 0 ∷ 0 ∷ 0 ∷ 0 ∷ 0 ∷ 0 ∷ 128 ∷ [])) (64 ∷ 63 ∷ 1 ∷ []) ≡ true ∷ false ∷ false ∷ []

@@ -2,16 +2,17 @@
 -- width that it writes. Assumes nothing.
 use Prim.Native.Nat.{ℕ, suc, _+_, _^_, _≤_, _<_}
 use mathlib.Core.Path.{_≡_, refl, sym, ap, ap₂, _∙_}
-use mathlib.Core.Bool.{Bool, true, false, _&&_, cond}
+use mathlib.Core.Bool.{Bool, true, false, not, _&&_, cond}
 use mathlib.Core.Logic.{_⊎_, inl, inr}
 use mathlib.Core.List.{List, [], _∷_, _++_, append-assoc, append-nil}
 use native.Mathlib.Omega.{arith}
-use lib.Dec.{eqb, leb}
+use lib.Dec.{eqb, leb, ltb}
 use lib.ListN.{length, take, drop, getD, length-append, length-take, take-append-drop}
 use lib.Seq.{length-take-le, take-at, drop-at, drop-drop, take-add}
-use borrow.Author.Tests.{eqb-true, eq-eqb, ne-eqb, le-leb, lt-leb, leb-true}
+use borrow.Author.Tests.{eqb-true, eqb-false, eq-eqb, ne-eqb, le-leb, lt-leb, leb-true, le-ltb, lt-ltb, ltb-true, not-true}
+use Rattle.column.specs.Cases.{and-left, and-right}
 use Rattle.column.specs.Refusals.{Given, given, refused}
-use Rattle.column.specs.Packets.{numberOf, doorsOf, lowFirst, lowValue, highFirst, highValue, doorsSize, wide, acknowledgementSize, messageSize, bytesIn, bytesOf, goodEnds, Wrote, padded, wrote, wroteNone, write, Part, part, numberIn, messageIn, acknowledgementIn, startsAs, readIn, read}
+use Rattle.column.specs.Packets.{sender, receiver, numberOf, doorsOf, lowFirst, lowValue, highFirst, highValue, doorsSize, wide, acknowledgementSize, messageSize, bytesIn, bytesOf, goodEnds, Wrote, padded, wrote, wroteNone, write, Part, part, numberIn, messageIn, acknowledgementIn, startsAs, readIn, read}
 use Rattle.column.specs.NumberLaws.{Bytes, part-length, part-bytes, length-low, length-high, low-value-first, low-first-value, low-value-lt, high-value-first, high-first-value, high-value-lt}
 use Rattle.column.specs.declared.codec.Width.{Width}
 use Rattle.column.specs.declared.packet.Packet.{Packet}
@@ -244,3 +245,34 @@ read-writes s h q e =
     let r = write-read wide s h q e in
     write-good (q .packet) (r .ends)
     ∙ ap₂ (λ n b. record { size = given n; bytes = padded b }) (read-used wide s h q e) (r .first)
+
+-- ---- "From and to are 0 to 15 and differ.": both of them, and of a packet to read as of one to write
+
+pub ends-good : (p : Packet) → sender p < 16 → receiver p < 16 → (sender p ≡ receiver p → ⊥) → goodEnds p ≡ true
+ends-good p h l d = rw (lt-ltb (sender p) 16 h, lt-ltb (receiver p) 16 l, ne-eqb (sender p) (receiver p) d)
+
+pub good-ends : (p : Packet) → goodEnds p ≡ true → (sender p < 16) × (receiver p < 16) × (sender p ≡ receiver p → ⊥)
+good-ends p e =
+    let b = ltb (receiver p) 16 in
+    let d = not (eqb (sender p) (receiver p)) in
+    let rest = and-right (ltb (sender p) 16) (b && d) e in (
+      ltb-true (sender p) 16 (and-left (ltb (sender p) 16) (b && d) e),
+      ltb-true (receiver p) 16 (and-left b d rest),
+      eqb-false (sender p) (receiver p) (not-true _ (and-right b d rest)),
+    )
+
+-- "ends above 15 or equal are refused with 12"
+pub write-bad : (p : Packet) → (16 ≤ sender p) ⊎ ((16 ≤ receiver p) ⊎ (sender p ≡ receiver p)) → write p ≡ wroteNone 12
+unfolding write
+write-bad p (inl h) = rw (le-ltb (sender p) 16 h)
+write-bad p (inr (inl h)) = go (ltb (sender p) 16)
+  where
+    go : (b : Bool) → cond (b && (ltb (receiver p) 16 && not (eqb (sender p) (receiver p)))) (wrote (bytesOf p)) (wroteNone 12) ≡ wroteNone 12
+    go true = rw (le-ltb (receiver p) 16 h)
+    go false = refl
+write-bad p (inr (inr h)) = go (ltb (sender p) 16) (ltb (receiver p) 16)
+  where
+    go : (a b : Bool) → cond (a && (b && not (eqb (sender p) (receiver p)))) (wrote (bytesOf p)) (wroteNone 12) ≡ wroteNone 12
+    go true true = rw (eq-eqb (sender p) (receiver p) h)
+    go true false = refl
+    go false b = refl

@@ -1,4 +1,4 @@
--- The steps of a column for a caller that has tested rows 2 to 4: their own conditions, and one that no tree and state which stand can
+-- The steps of a column for the bank, which has tested rows 2 to 4: their own conditions, and one that no tree and state which stand can
 -- break, so that every other one has its answer too. Where those tests let pass they are the steps: `send-unchecked` of UncheckedLaws and its like.
 use Prim.Native.Nat.{ℕ}
 use mathlib.Core.Bool.{Bool, not, _&&_}

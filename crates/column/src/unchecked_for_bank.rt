@@ -1,5 +1,6 @@
-// The steps for a caller that has tested the tree, the column and a packet by rows 2 to 4, as a bank has: nothing of that is tested again.
-// Handed in what does not stand, a step still answers, and reaches outside nothing.
+// The steps for the bank, which has tested the tree, its columns and its packets by rows 2 to 4: nothing of that is tested again. No buyer's: left untested are
+// whether `t` is a tree, whether i and the members of its sets are columns, whether it owes itself, the root's goal, and of a packet its ends, its addressee and
+// whether it is a message to the root. Handed in what those rows refuse, a step may accept it; it still answers, and reaches outside nothing.
 use crate::choice::choose;
 use crate::effect::ack_effect;
 use crate::effect::all_effect;

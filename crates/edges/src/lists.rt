@@ -1,16 +1,15 @@
 // Closing lists: "229 bytes hold the longest list, 228 don't", as document 01 has it of 224 and 223.
+use crate::buffer::FILLED;
+use crate::buffer::print_refused;
+use crate::buffer::print_written;
 use crate::print::print;
 use crate::print::print_number;
-use crate::print::print_text;
 use bank::bank::Bank;
 use bank::bank::fresh;
 use closing::list::Listing;
 use closing::list::list;
 use column::tree::ASCENDING;
 use column::tree::Tree;
-
-// What the buffer holds before a call; no list has this byte.
-const FILLED: u8 = 170;
 
 // More than the longest list takes.
 const ROOM: usize = 235;
@@ -40,35 +39,6 @@ fn bank(running: bool, whole: bool) -> Bank {
     b
 }
 
-// How many bytes are not as they were filled.
-fn changed(bytes: &[u8]) -> usize {
-    let mut count: usize = 0;
-    let mut i: usize = 0;
-    while i < bytes.len() {
-        if bytes[i] != FILLED {
-            count += 1;
-        }
-        i += 1;
-    }
-    count
-}
-
-// The text that was written from `at` on, and how much else was.
-fn print_written(buffer: &[u8], at: usize, n: usize) {
-    if buffer.len() < at {
-        return;
-    }
-    if buffer.len() - at < n {
-        return;
-    }
-    let end = at + n;
-    print_number(b"length ", n as u64);
-    print_number(b", changed before ", changed(&buffer[0..at]) as u64);
-    print_number(b" and after ", changed(&buffer[end..]) as u64);
-    print(b", ");
-    print_text(&buffer[at..end]);
-}
-
 // No packet is under way.
 fn answer(b: Bank, i: usize, buffer: &mut [u8], at: usize) -> Listing {
     let heads = [0u64; 512];
@@ -83,10 +53,7 @@ fn listed(b: Bank, i: usize, buffer: &mut [u8], size: usize, at: usize) {
     }
     match answer(b, i, &mut buffer[0..size], at) {
         Listing::Length(n) => print_written(buffer, at, n),
-        Listing::Refused(n) => {
-            print_number(b"refused ", n as u64);
-            print_number(b", changed ", changed(buffer) as u64);
-        }
+        Listing::Refused(n) => print_refused(n, buffer),
     }
 }
 

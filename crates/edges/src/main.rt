@@ -1,4 +1,6 @@
-// The edges of document 01 that are run and not proved, and what lies beside each: one line a case with its answer.
+// The edges of document 01 that are run and not proved, and what lies beside each; journals compared in short buffers: one line a case with its answer.
+mod buffer;
+mod comparisons;
 mod lines;
 mod lists;
 mod print;
@@ -8,4 +10,5 @@ fn main() {
     lists::cases();
     tables::cases();
     lines::cases();
+    comparisons::cases();
 }

@@ -1,11 +1,12 @@
 -- Each premise of the statements holds of something: trees and schedules that meet it, and what the statements say of them.
-use Prim.Native.Nat.{ℕ, _+_, _-_, _*_, _≤_, _<_}
+use Prim.Native.Nat.{ℕ, zero, suc, _+_, _-_, _*_, _≤_, _<_}
 use mathlib.Core.Path.{_≡_, refl, ap}
 use mathlib.Core.Logic.{_⊎_, inl, inr}
+use mathlib.Core.List.{_∷_}
 use native.Mathlib.Omega.{arith}
 use lib.ListN.{replicate}
 use Rattle.column.specs.Cases.{compare-cases, equal-cases}
-use Rattle.column.specs.Trees.{every, climbsIn, treeOf, IsTree, treeRefusal}
+use Rattle.column.specs.Trees.{every, climbsIn, treeOf, IsTree, treeRefusal, parent}
 use Rattle.column.specs.TreeLaws.{check-exact}
 use Rattle.column.specs.declared.tree.Tree.{Tree}
 use Rattle.fastest.specs.Schedules.{arrival, Keeps, CompleteBy}
@@ -57,6 +58,64 @@ bush-complete c l = go (equal-cases c 0)
 
 pub none-earlier-said : completion 5 2 1 ≤ 5
 none-earlier-said = none-earlier 5 2 1 five bush inTurn 5 bush-tree refl bush-keeps bush-complete
+
+-- ---- a third, whose root is column 2: it serves the higher of its children first, and everybody waits longer than need be before a send
+
+-- columns=4, root=2, up=2,0,2,2
+abbrev pub slanted : Tree
+slanted = treeOf 4 2 (2 ∷ 0 ∷ 2 ∷ 2 ∷ replicate 12 0)
+
+-- column 3 is sent to at 1, column 0 at 4; it has the message at 6 and sends to column 1 at 9
+abbrev pub late : ℕ → ℕ
+late zero = 4
+late (suc zero) = 9
+late (suc (suc zero)) = 0
+late (suc (suc (suc c))) = 1
+
+pub slanted-tree : IsTree slanted
+unfolding treeRefusal every climbsIn
+slanted-tree = check-exact slanted .0 refl
+
+pub slanted-keeps : Keeps 2 1 slanted late
+slanted-keeps = record { held = held; apart = λ b c l m x y ne e. apart b c l m x y ne e }
+  where
+    held : (c : ℕ) → c < 4 → (c ≡ 2 → ⊥) → arrival 2 slanted late (parent slanted c) ≤ late c
+    held zero l ne = omega arith
+    held (suc zero) l ne = omega arith
+    held (suc (suc zero)) l ne = absurd (ne refl)
+    held (suc (suc (suc zero))) l ne = omega arith
+    held (suc (suc (suc (suc c)))) l ne = absurd (omega (arith, l))
+
+    apart : (b c : ℕ) → b < 4 → c < 4 → (b ≡ 2 → ⊥) → (c ≡ 2 → ⊥) → (b ≡ c → ⊥) → parent slanted b ≡ parent slanted c
+        → (late b + 1 ≤ late c) ⊎ (late c + 1 ≤ late b)
+    apart zero zero l m x y ne e = absurd (ne refl)
+    apart zero (suc zero) l m x y ne e = absurd (omega (arith, e))
+    apart zero (suc (suc zero)) l m x y ne e = absurd (y refl)
+    apart zero (suc (suc (suc c))) l m x y ne e = inr (omega arith)
+    apart (suc zero) zero l m x y ne e = absurd (omega (arith, e))
+    apart (suc zero) (suc zero) l m x y ne e = absurd (ne refl)
+    apart (suc zero) (suc (suc zero)) l m x y ne e = absurd (y refl)
+    apart (suc zero) (suc (suc (suc c))) l m x y ne e = inr (omega arith)
+    apart (suc (suc zero)) c l m x y ne e = absurd (x refl)
+    apart (suc (suc (suc b))) zero l m x y ne e = inl (omega arith)
+    apart (suc (suc (suc b))) (suc zero) l m x y ne e = inl (omega arith)
+    apart (suc (suc (suc b))) (suc (suc zero)) l m x y ne e = absurd (y refl)
+    apart (suc (suc (suc b))) (suc (suc (suc c))) l m x y ne e = absurd (ne (omega (arith, l, m)))
+
+pub slanted-complete : CompleteBy 2 slanted late 11
+slanted-complete zero l = omega arith
+slanted-complete (suc zero) l = omega arith
+slanted-complete (suc (suc zero)) l = omega arith
+slanted-complete (suc (suc (suc c))) l = within c l
+  where
+    within : (c : ℕ) → suc (suc (suc c)) < 4 → arrival 2 slanted late (suc (suc (suc c))) ≤ 11
+    within zero l = omega arith
+    within (suc c) l = absurd (omega (arith, l))
+
+pub slanted-said : completion 4 2 1 ≤ 11
+slanted-said =
+    none-earlier 4 2 1 (record { some = omega arith; few = omega arith; delays = omega arith; gaps = omega arith }) slanted late 11 slanted-tree refl
+    slanted-keeps slanted-complete
 
 -- ---- in halves of a unit: the strategy's tree for twice the delay and twice the gap
 

@@ -1,20 +1,23 @@
 -- Nobody awaited is noted: so it is with a fresh column, and so it stays.
 -- Assumes nothing.
-use Prim.Native.Nat.{ℕ, _^_, _<_}
+use Prim.Native.Nat.{ℕ, zero, suc, _^_, _<_}
 use mathlib.Core.Path.{_≡_, refl, sym, ap, ap₂, _∙_}
 use mathlib.Core.Bool.{Bool, true, false, not, _&&_, _||_, cond}
+use mathlib.Core.List.{[]}
+use native.Mathlib.Nat.{pow-suc}
 use native.Mathlib.Omega.{arith}
 use lib.Bits.{bitAnd, and-comm, and-le-r, and-zero-l}
 use lib.Dec.{eqb, ltb}
 use borrow.Author.Tests.{eqb-true, leb-false}
 use Rattle.column.specs.Refusals.{first, earlier}
 use Rattle.column.specs.RefusalLaws.{passed, earlier-none}
-use Rattle.column.specs.Sets.{has, insert, without}
+use Rattle.column.specs.Sets.{has, insert, without, minus}
 use Rattle.column.specs.Trees.{choose}
 use Rattle.column.specs.SetLaws.{has-and, has-none, has-insert, has-without, insert-lt, and-insert, no-members}
 use Rattle.column.specs.TreeLaws.{tree-sixteen}
-use Rattle.column.specs.Columns.{standing}
-use Rattle.column.specs.Steps.{Result, refused, unless, orderRefusal, orderEffect, sendConditions, sendRefusal, sendEffect, packetRefusal, takeConditions, takeRefusal, takeEffect, acknowledgementEffect, messageEffect, receiveEffect, ackRefusal, ackEffect, allRefusal, allEffect, noteConditions, noteRefusal, noteEffect, haltRefusal, haltEffect}
+use Rattle.column.specs.Columns.{standing, withRegisters}
+use Rattle.column.specs.Pages.{maskOffset, clearOffset, written, writeRefusal}
+use Rattle.column.specs.Steps.{Result, accepted, refused, unless, orderRefusal, orderEffect, sendConditions, sendRefusal, sendEffect, packetRefusal, takeConditions, takeRefusal, takeEffect, acknowledgementEffect, messageEffect, receiveEffect, ackRefusal, ackEffect, allRefusal, allEffect, noteConditions, noteRefusal, noteEffect, haltRefusal, haltEffect}
 use Rattle.column.specs.declared.tree.Tree.{Tree}
 use Rattle.column.specs.declared.state.Column.{Column}
 use Rattle.column.specs.declared.packet.Packet.{Packet}
@@ -36,12 +39,16 @@ less-test true true z e = e
 less-test true false z e = refl
 less-test false y z e = refl
 
+below-power : (n : ℕ) → n < 2 ^ n
+below-power zero = omega arith
+below-power (suc n) = omega (arith, below-power n, pow-suc 2 n)
+
 module _ (a n : ℕ) (h : bitAnd a n ≡ 0) where
   nobody : (q : ℕ) → (has a q && has n q) ≡ false
   nobody q = sym (has-and a n q) ∙ ap (λ (m : ℕ). has m q) h ∙ has-none q
 
-  less-apart : n < 2 ^ 16 → (j : ℕ) → bitAnd (without a j) n ≡ 0
-  less-apart l j = no-members 16 (bitAnd (without a j) n) (omega (arith, and-le-r (without a j) n)) (λ q k.
+  less-apart : (j : ℕ) → bitAnd (without a j) n ≡ 0
+  less-apart j = no-members n (bitAnd (without a j) n) (omega (arith, and-le-r (without a j) n, below-power n)) (λ q k.
       has-and (without a j) n q ∙ ap (λ (x : Bool). x && has n q) (has-without a j q) ∙ less-test (has a q) (not (eqb q j)) (has n q) (nobody q))
 
   struck-apart : n < 2 ^ 16 → (j : ℕ) → j < 16 → bitAnd (without a j) (insert n j) ≡ 0
@@ -84,7 +91,7 @@ module _ (t : Tree) (i : ℕ) (c : Column) (h : Apart c) where
   take-apart : Stands t i c → (p : Packet) → Apart (columnOf (takeEffect t i c p))
   unfolding acknowledgementEffect messageEffect receiveEffect
   take-apart s (Acknowledgement from to number) =
-      either (eqb number (c .number)) _ _ (λ e. less-apart (c .awaited) (c .noted) h (noted-lt s) from) (λ e. h)
+      either (eqb number (c .number)) _ _ (λ e. less-apart (c .awaited) (c .noted) h from) (λ e. h)
   take-apart s (Message from to number doors) =
       either (eqb number (c .number)) _ _ (λ e. h) (λ e.
       either (ltb number (c .number)) _ _ (λ e. h) (λ e. either (eqb (c .owed) 0) _ _ (λ e. and-zero-l (c .noted)) (λ e. h)))
@@ -96,6 +103,16 @@ module _ (t : Tree) (i : ℕ) (c : Column) (h : Apart c) where
       go : (b : Bool) → has (c .awaited) j ≡ b → bitAnd (cond b (without (c .awaited) j) (c .awaited)) (insert (c .noted) j) ≡ 0
       go true e = struck-apart (c .awaited) (c .noted) h (noted-lt s) j below
       go false e = noted-apart (c .awaited) (c .noted) h (awaited-lt s) j e
+
+  written-apart : (offset value : ℕ) → Apart (written c offset value)
+  unfolding written
+  written-apart offset value = go (eqb offset maskOffset) (eqb offset clearOffset)
+    where
+      go : (mask clear : Bool)
+          → Apart (cond mask (withRegisters c value (c .pending)) (cond clear (withRegisters c (c .mask) (minus (c .pending) value)) c))
+      go true clear = h
+      go false true = h
+      go false false = h
 
   stays-apart : StaysApart t i c
   unfolding sendRefusal takeRefusal noteRefusal orderEffect ackEffect allEffect haltEffect
@@ -112,6 +129,9 @@ module _ (t : Tree) (i : ℕ) (c : Column) (h : Apart c) where
         let s = stands t i c (q .0) in
         note-apart s j (omega (arith, tree-sixteen t (s .tree), leb-false (t .columns) j (passed (noteConditions t i c j) tt (q .1) .0))));
     halt = unless-apart (haltRefusal t i c) c (haltEffect c) h (λ e. h);
+    write = λ offset value. unless-apart (writeRefusal t i c offset) c (accepted (written c offset value) [] false) h (λ e. written-apart offset value);
+    strike = λ j. and-comm (c .awaited) (without (c .noted) j) ∙ less-apart (c .noted) (c .awaited) (and-comm (c .noted) (c .awaited) ∙ h) j;
+    rejoin = λ copied noted whole sender. and-zero-l noted;
   }
 
 pub apartness : Apartness

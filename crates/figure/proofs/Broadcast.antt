@@ -1,8 +1,8 @@
--- The step order and the command of processor b, `ackfrom = Φ ∧ sendto = Φ`.
+-- The step order and the command of processor b, `ackfrom = Φ ∧ sendto = Φ`, to which `ackto = Φ` is added where senders are watched.
 -- Assumes nothing.
 use Prim.Native.Nat.{ℕ, _+_}
 use mathlib.Core.Path.{_≡_, refl, sym, ap, _∙_}
-use mathlib.Core.Bool.{Bool, true, false, cond}
+use mathlib.Core.Bool.{Bool, true, false, not, _&&_, cond}
 use native.Mathlib.Omega.{arith}
 use lib.Dec.{eqb}
 use borrow.Author.Tests.{eq-eqb, ne-eqb}
@@ -11,8 +11,8 @@ use Rattle.column.specs.Columns.{highest}
 use Rattle.column.specs.Steps.{orderRefusal, orderEffect}
 use Rattle.column.specs.declared.tree.Tree.{Tree}
 use Rattle.column.specs.declared.state.Column.{Column}
-use Rattle.figure.specs.Figure.{Variables, SUCC, broadcastGuard, broadcastCommand}
-use Rattle.figure.specs.Comparison.{variablesOf, Ready, Makes, BroadcastCompares}
+use Rattle.figure.specs.Figure.{Variables, SUCC, broadcastCommand}
+use Rattle.figure.specs.Comparison.{variablesOf, Ready, Makes, broadcastGuardOf, BroadcastCompares}
 use Rattle.figure.proofs.Commands.{cond-rests, successors, makes-of, makes-goes, guards-by}
 
 -- "8: order with the root at number 65,535", now at 4,294,967,295, which comes after row 7
@@ -26,12 +26,23 @@ last-other c = go (eqb (c .number) highest)
     go true e = omega arith
     go false e = omega arith
 
+tests : (sent none clear : Bool) (n : ℕ) → cond (not (sent && none)) 7 (cond (not clear) 7 n) ≡ cond ((none && sent) && clear) n 7
+tests true true true n = refl
+tests true true false n = refl
+tests true false clear n = refl
+tests false true clear n = refl
+tests false false clear n = refl
+
 module _ (t : Tree) (i : ℕ) (c : Column) (ready : Ready t i c) (root : i ≡ t .root) where
-  broadcast-refusal : orderRefusal t i c ≡ cond (broadcastGuard (variablesOf t i c)) (last c) 7
+  broadcast-refusal : orderRefusal t i c ≡ cond (broadcastGuardOf t i c) (last c) 7
   unfolding orderRefusal
-  broadcast-refusal =
-      simp (ready .good, ready .runs, ready .watches-root, eq-eqb i (t .root) root)
-      (cond-rests (eqb (c .send) 0) (eqb (c .awaited) 0) 7 (last c))
+  broadcast-refusal = go (t .watch) refl
+    where
+      go : (w : Bool) → t .watch ≡ w → orderRefusal t i c ≡ cond (broadcastGuardOf t i c) (last c) 7
+      go true e =
+          simp (ready .good, ready .runs, e, eq-eqb i (t .root) root) (tests (eqb (c .send) 0) (eqb (c .awaited) 0) (eqb (c .owed) 0) (last c))
+      go false e =
+          simp (ready .good, ready .runs, e, eq-eqb i (t .root) root) (cond-rests (eqb (c .send) 0) (eqb (c .awaited) 0) 7 (last c))
 
   module _ (doors : ℕ) where
     broadcast-effect : Makes t i (c .noted) (orderEffect t i c doors) (broadcastCommand t doors (variablesOf t i c))
@@ -44,6 +55,6 @@ module _ (t : Tree) (i : ℕ) (c : Column) (ready : Ready t i c) (root : i ≡ t
     pub broadcast-compares : BroadcastCompares t i c doors
     unfolding orderEffect
     broadcast-compares = record {
-      guards = guards-by (broadcastGuard (variablesOf t i c)) c (orderEffect t i c doors) broadcast-refusal (last-other c) refl;
+      guards = guards-by (broadcastGuardOf t i c) c (orderEffect t i c doors) broadcast-refusal (last-other c) refl;
       does = λ g h. makes-goes c (rw (g, ne-eqb (c .number) highest h) at broadcast-refusal) broadcast-effect;
     }

@@ -68,7 +68,6 @@ module _ (t : Tree) (i : ℕ) (c : Column) (ready : Ready t i c) where
         sender = rows .sender;
       });
       runs = ready .runs;
-      watches-root = ready .watches-root;
     }
 
     one-less : ones (struck c .owed) + 1 ≡ ones (c .owed)

@@ -1,7 +1,7 @@
 -- What the comparison of a column's steps with Figure 3.2 says. Each statement is proved under its name in proofs/.
 use Prim.Native.Nat.{ℕ, zero, suc, _<_, _≤_}
 use mathlib.Core.Path.{_≡_}
-use mathlib.Core.Bool.{Bool, true, false, cond}
+use mathlib.Core.Bool.{Bool, true, false, _&&_, cond}
 use mathlib.Core.List.{List, [], _++_}
 use lib.Dec.{eqb}
 use Rattle.column.specs.Sets.{insert}
@@ -9,11 +9,14 @@ use Rattle.column.specs.Columns.{fresh, standing, highest}
 use Rattle.column.specs.Steps as steps
 use Rattle.column.specs.Steps.{Result, accepted, refused, noteRefusal, packetRefusal}
 use Rattle.column.specs.Packets.{receiver}
+use Rattle.column.specs.Pages.{write}
+use Rattle.column.specs.Returns.{rejoined, struck}
 use Rattle.column.specs.declared.tree.Tree.{Tree}
 use Rattle.column.specs.declared.state.Column.{Column}
 use Rattle.column.specs.declared.packet.Packet.{Packet}
 use Rattle.column.specs.declared.packet.Packet.the-variants.{Message, Acknowledgement}
 use Rattle.figure.specs.Figure.{Variables, Made, makes, aborts, meet, initially, sendGuard, sendCommand, failedGuard, failedCommand, acknowledgementCommand, takeoverGuard, takeoverCommand, messageCommand, ackGuard, ackCommand, broadcastGuard, broadcastCommand}
+use Rattle.figure.specs.Figure.{senderTakeoverGuard, senderRootAckGuard, senderBroadcastGuard}
 
 -- ---- the column read as the report's variables; failed(p) is 'noted by this column'
 
@@ -34,12 +37,10 @@ abbrev pub numberOf : Result → ℕ
 numberOf (accepted c put left) = 0
 numberOf (refused n c) = n
 
--- a running column in a state that rows 2 to 4 let pass. The figure watches the root: what the report's last optimisation changes in it is told
--- in docs/REPORT.md
+-- a running column in a state that rows 2 to 4 let pass, whoever is watched
 pub record Ready (t : Tree) (i : ℕ) (c : Column) : Type 0 where
   pub good : standing t i c ≡ 0
   pub runs : c .running ≡ true
-  pub watches-root : t .watch ≡ false
 
 -- nobody awaited is noted: so it is with a fresh column, and every step keeps it (`Apartness`, below)
 abbrev pub Apart : Column → Type 0
@@ -97,6 +98,18 @@ pub record RepeatMakes (t : Tree) (i : ℕ) (noted : ℕ) (repeated : Repeated) 
   pub keeps-noted : repeated .column .noted ≡ noted
   pub keeps-running : repeated .column .running ≡ true
 
+-- ---- the guards by the tree's watch: the figure's, or, where senders are watched, those that stand in their place
+
+abbrev pub takeoverGuardOf : Tree → ℕ → Column → Bool
+takeoverGuardOf t i c =
+    cond (t .watch) (senderTakeoverGuard t i (c .noted) (c .sender) (variablesOf t i c)) (takeoverGuard t i (c .noted) (variablesOf t i c))
+
+abbrev pub ackGuardOf : Tree → ℕ → Column → Bool
+ackGuardOf t i c = cond (t .watch && eqb i (t .root)) (senderRootAckGuard (variablesOf t i c)) (ackGuard t (variablesOf t i c))
+
+abbrev pub broadcastGuardOf : Tree → ℕ → Column → Bool
+broadcastGuardOf t i c = cond (t .watch) (senderBroadcastGuard (variablesOf t i c)) (broadcastGuard (variablesOf t i c))
+
 -- ---- the statements: one for each command
 
 module _ (t : Tree) (i : ℕ) (c : Column) where
@@ -122,8 +135,8 @@ module _ (t : Tree) (i : ℕ) (c : Column) where
     pub nothing : (c .number < number → steps.take t i c (Acknowledgement from i number) ≡ accepted c [] false)
 
   pub record TakeoverCompares : Type 0 where
-    pub guards : Guards (takeoverGuard t i (c .noted) v) 6 (steps.all t i c)
-    pub does : takeoverGuard t i (c .noted) v ≡ true → Makes t i (c .noted) (steps.all t i c) (takeoverCommand t v)
+    pub guards : Guards (takeoverGuardOf t i c) 6 (steps.all t i c)
+    pub does : takeoverGuardOf t i c ≡ true → Makes t i (c .noted) (steps.all t i c) (takeoverCommand t v)
 
   -- a higher number while some are owed takes as many steps more as are owed: at most sixteen
   pub record MessageCompares (from number doors : ℕ) : Type 0 where
@@ -132,13 +145,14 @@ module _ (t : Tree) (i : ℕ) (c : Column) where
         → RepeatMakes t i (c .noted) (repeatTake 17 t i c (Message from i number doors)) (messageCommand t i from number doors v)
 
   pub record AckCompares : Type 0 where
-    pub guards : Guards (ackGuard t v) 6 (steps.ack t i c)
-    pub does : ackGuard t v ≡ true → RepeatMakes t i (c .noted) (repeatAck 16 t i c) (ackCommand i v)
+    pub guards : Guards (ackGuardOf t i c) 6 (steps.ack t i c)
+    pub does : ackGuardOf t i c ≡ true → RepeatMakes t i (c .noted) (repeatAck 16 t i c) (ackCommand i v)
 
   -- the highest order number is the last: row 8 is the papers' own
   pub record BroadcastCompares (doors : ℕ) : Type 0 where
-    pub guards : Guards (broadcastGuard v) 7 (steps.order t i c doors)
-    pub does : broadcastGuard v ≡ true → (c .number ≡ highest → ⊥) → Makes t i (c .noted) (steps.order t i c doors) (broadcastCommand t doors v)
+    pub guards : Guards (broadcastGuardOf t i c) 7 (steps.order t i c doors)
+    pub does : broadcastGuardOf t i c ≡ true → (c .number ≡ highest → ⊥)
+        → Makes t i (c .noted) (steps.order t i c doors) (broadcastCommand t doors v)
 
   -- a packet that rows 2 to 4 let pass is never refused with 6 or 7: it is taken
   abbrev pub Passes : Packet → Type 0
@@ -168,6 +182,7 @@ abbrev pub columnOf : Result → Column
 columnOf (accepted c put left) = c
 columnOf (refused n c) = c
 
+-- every step that there is, of this column or of another that comes back
 pub record StaysApart (t : Tree) (i : ℕ) (c : Column) : Type 0 where
   pub order : (doors : ℕ) → Apart (columnOf (steps.order t i c doors))
   pub send : Apart (columnOf (steps.send t i c))
@@ -176,6 +191,10 @@ pub record StaysApart (t : Tree) (i : ℕ) (c : Column) : Type 0 where
   pub all : Apart (columnOf (steps.all t i c))
   pub note : (j : ℕ) → Apart (columnOf (steps.note t i c j))
   pub halt : Apart (columnOf (steps.halt t i c))
+  -- document 02: a byte of its page is written; another column comes back, or itself, which copies one
+  pub write : (offset value : ℕ) → Apart (columnOf (write t i c offset value))
+  pub strike : (j : ℕ) → Apart (struck c j)
+  pub rejoin : (copied : Column) (noted : ℕ) (whole : Bool) (sender : ℕ) → Apart (rejoined c copied noted whole sender)
 
 -- proved as `apartness` of proofs/Apart
 abbrev pub Apartness : Type 0

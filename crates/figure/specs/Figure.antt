@@ -165,3 +165,19 @@ broadcastCommand t info v =
       variables = record { seqno = v .seqno + 1; info = info; sendto = SUCC t (single (t .root)); ackfrom = v .ackfrom; ackto = v .ackto; r = v .r };
       sent = [];
     }
+
+-- ---- watching the sender, the optimisation at the end of section 3.2, with what document 02, Point 9, asks of b: three guards change, and no body
+
+-- "This allows "failed(b)" to be replaced by "failed(m.sender)" in the protocol"
+abbrev pub senderTakeoverGuard : Tree → ℕ → ℕ → ℕ → Variables → Bool
+senderTakeoverGuard t i FAILED sender v =
+    let b = t .root in
+    not (eqb i b) && (has FAILED sender && (not (eqb (v .r) b) && (isEmpty (v .ackfrom) && isEmpty (v .sendto))))
+
+-- of b: "its `ack` is 6 while it sends or awaits"
+abbrev pub senderRootAckGuard : Variables → Bool
+senderRootAckGuard v = not (isEmpty (v .ackto)) && (isEmpty (v .sendto) && isEmpty (v .ackfrom))
+
+-- of b: "an order is 7 while it owes anyone"
+abbrev pub senderBroadcastGuard : Variables → Bool
+senderBroadcastGuard v = (isEmpty (v .ackfrom) && isEmpty (v .sendto)) && isEmpty (v .ackto)

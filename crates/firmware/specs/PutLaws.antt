@@ -8,7 +8,7 @@ use native.Mathlib.Omega.{arith}
 use lib.Dec.{eqb, ltb}
 use mathlib.Core.Bool.{true≢false}
 use lib.ListN.{length}
-use borrow.Author.Tests.{eqb-true, eqb-false, ne-eqb, lt-ltb, not-false}
+use borrow.Author.Tests.{eqb-true, eqb-false, not-false}
 use Rattle.column.specs.RefusalLaws.{passed, earlier-none}
 use Rattle.column.specs.Refusals.{first, earlier}
 use Rattle.column.specs.Sets.{has, lowest}
@@ -16,8 +16,8 @@ use Rattle.column.specs.LowestLaws.{lowest-member}
 use Rattle.column.specs.Trees.{choose}
 use Rattle.column.specs.ChoiceLaws.{choose-lt}
 use Rattle.column.specs.Columns.{standing}
-use Rattle.column.specs.Packets.{sender, receiver, goodEnds, bytesOf, padded}
-use Rattle.column.specs.PacketLaws.{write-good}
+use Rattle.column.specs.Packets.{goodEnds, bytesOf, padded}
+use Rattle.column.specs.PacketLaws.{write-good, ends-good}
 use Rattle.column.specs.NumberLaws.{Bytes}
 use Rattle.column.specs.StateLaws.{Masks, acceptable, standing-tree, standing-sound, standing-sixteen, standing-column, standing-send}
 use Rattle.column.specs.Pages.{writeRefusal, written, write}
@@ -47,9 +47,6 @@ pub block-masks : (s : List ℕ) → Bytes s → Masks (columnIn s)
 block-masks s h =
     let f = block-column-fits s h in
     record { send = f .send; awaited = f .awaited; owed = f .owed; noted = f .noted }
-
-ends-good : (p : Packet) → sender p < 16 → receiver p < 16 → (sender p ≡ receiver p → ⊥) → goodEnds p ≡ true
-ends-good p h l n = rw (lt-ltb (sender p) 16 h, lt-ltb (receiver p) 16 l, ne-eqb (sender p) (receiver p) n)
 
 unless-writable : (n : ℕ) (c : Column) (effect : core.Result) → (n ≡ 0 → Writable effect) → Writable (core.unless n c effect)
 unless-writable n c effect h = go (eqb n 0) refl

@@ -4,6 +4,7 @@ mod case;
 mod comparing;
 mod dispatching;
 mod fine;
+mod five;
 mod full;
 mod halting;
 mod members;
@@ -15,6 +16,7 @@ mod returning;
 mod same;
 mod state;
 mod watching;
+mod writing;
 
 fn main() {
     comparing::cases();
@@ -28,4 +30,5 @@ fn main() {
     dispatching::cases();
     returning::cases();
     watching::cases();
+    writing::cases();
 }

@@ -85,6 +85,9 @@ fn print_fields(c: Column) {
     print_set(b" owed ", c.owed as u32);
     print_set(b" noted ", c.noted as u32);
     print_flag(c.whole, b" whole", b" own");
+    print_number(b" sender ", c.sender as u64);
+    print_number(b" mask ", c.mask as u64);
+    print_number(b" pending ", c.pending as u64);
 }
 
 pub fn print_column(s: State, i: usize) {

@@ -2,6 +2,9 @@
 use crate::case::answer;
 use crate::case::stepped;
 use crate::fine::with_junk;
+use crate::five::TREE_OF_FIVE;
+use crate::five::five;
+use crate::five::five_without_root;
 use crate::print::print;
 use crate::print::print_column;
 use crate::print::print_flag;
@@ -36,13 +39,32 @@ fn taken_over() -> State {
     with_column(s, 1, root(0, 0, 0, C0 | C2))
 }
 
-fn returned(name: &[u8], s: State, j: usize) {
+// The beginning of the line of a return, with columns 0, 1 and 2 after it.
+fn returning(name: &[u8], s: State, j: usize) -> State {
     let after = stepped(name, s, Step::Back(j));
     print_column(after, 0);
     print_column(after, 1);
     print_column(after, 2);
+    after
+}
+
+// The end of the line: what a return has no part in is as it was.
+fn ended(s: State, after: State) {
     print_flag(same_from(s, after, 0), b", words kept", b", words lost");
     print(b"\n");
+}
+
+fn returned(name: &[u8], s: State, j: usize) {
+    let after = returning(name, s, j);
+    ended(s, after);
+}
+
+// The same of a bank of five columns.
+fn returned_of_five(name: &[u8], s: State, j: usize) {
+    let after = returning(name, s, j);
+    print_column(after, 3);
+    print_column(after, 4);
+    ended(s, after);
 }
 
 // "order 4, then 6 for a running column, then 15, 14, 16", and 2 and 3 before all of these.
@@ -91,18 +113,29 @@ fn accepted() {
     returned(b"noted by a halted column", noted, 2);
 }
 
+// "the record of the lowest running column", whichever the root holds, the column that was halted, and the others.
+fn differing() {
+    let mut t = TREE_OF_FIVE;
+    t.watch = true;
+    returned_of_five(b"root 2 runs", five(), 0);
+    returned_of_five(b"root 2 runs", five(), 3);
+    returned_of_five(b"root 2 runs, senders watched", with_tree(five(), t), 3);
+    returned_of_five(b"root 2 is halted", five_without_root(), 0);
+    returned_of_five(b"root 2 is halted", five_without_root(), 3);
+}
+
 // An unused place keeps what it holds.
 fn unused() {
     let s = with_count(with_junk(resting()), 0);
     let after = stepped(b"junk in unused places", s, Step::Back(2));
     print_column(after, 3);
     print_column(after, 15);
-    print_flag(same_from(s, after, 0), b", words kept", b", words lost");
-    print(b"\n");
+    ended(s, after);
 }
 
 pub fn cases() {
     refused();
     accepted();
+    differing();
     unused();
 }

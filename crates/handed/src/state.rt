@@ -27,6 +27,11 @@ const NUMBER: Number = 5;
 
 const DOORS: u64 = 7;
 
+// The page of every column: two bits asked for, and pending one that no step sets.
+const MASK: u8 = 9;
+
+const PENDING: u8 = 32;
+
 pub const TREE: Tree = Tree {
     columns: 3,
     root: 0,
@@ -47,8 +52,8 @@ pub fn member(send: u16, awaited: u16, owed: u16, noted: u16) -> Column {
         noted,
         whole: false,
         sender: 0,
-        mask: 0,
-        pending: 0,
+        mask: MASK,
+        pending: PENDING,
     }
 }
 

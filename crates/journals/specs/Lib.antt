@@ -12,3 +12,4 @@ pub mod KeyLaws
 pub mod Hearing
 pub mod Missing
 pub mod Comparing
+pub mod MissingLength

@@ -5,10 +5,10 @@ use mathlib.Core.Path.{_≡_, refl, sym, ap, ap₂, _∙_}
 use mathlib.Core.Bool.{Bool, true, false, cond, and-false}
 use mathlib.Core.List.{List}
 use native.Mathlib.Omega.{arith}
-use lib.Dec.{eqb}
+use lib.Dec.{eqb, ltb}
 use lib.ListN.{replicate}
 use lib.Pow.{pow-mono}
-use borrow.Author.Tests.{eq-eqb, eqb-true, ltb-false}
+use borrow.Author.Tests.{eq-eqb, ne-eqb, eqb-true, ltb-false, le-ltb, lt-ltb}
 use Rattle.column.specs.Refusals.{first}
 use Rattle.column.specs.RefusalLaws.{passed, earlier-none}
 use Rattle.column.specs.Trees.{treeRefusal}
@@ -102,6 +102,28 @@ counting t e =
     let q = earlier-none (treeRefusal t) (first (lossesConditions t)) e in
     let p = passed (lossesConditions t) tt (q .1) in
     record { tree = q .0; few = ltb-false mostColumns (t .columns) (p .0); by-root = p .1 .0 }
+
+-- "23 for more than 8 columns or for watch=sender, after the table's own", and for nothing else
+module _ (t : Tree) where
+  pub up-to-eight : treeRefusal t ≡ 0 → t .columns ≤ 8 → t .watch ≡ false → lossesRefusal t ≡ 0
+  unfolding lossesRefusal
+  up-to-eight good few root = rw (eq-eqb (treeRefusal t) 0 good, le-ltb 8 (t .columns) few, root)
+
+  pub above-eight : treeRefusal t ≡ 0 → 8 < t .columns → lossesRefusal t ≡ 23
+  unfolding lossesRefusal
+  above-eight good many = rw (eq-eqb (treeRefusal t) 0 good, lt-ltb 8 (t .columns) many)
+
+  pub senders-watched : treeRefusal t ≡ 0 → t .watch ≡ true → lossesRefusal t ≡ 23
+  unfolding lossesRefusal
+  senders-watched good sender = rw (eq-eqb (treeRefusal t) 0 good, sender) (go (ltb 8 (t .columns)))
+    where
+      go : (b : Bool) → _≡_ {A = ℕ} (cond b 23 23) 23
+      go true = refl
+      go false = refl
+
+  pub tables-own : (treeRefusal t ≡ 0 → ⊥) → lossesRefusal t ≡ treeRefusal t
+  unfolding lossesRefusal
+  tables-own bad = rw (ne-eqb (treeRefusal t) 0 bad)
 
 -- ---- "for every set of columns": no count is above 256, the sets of 8 columns
 

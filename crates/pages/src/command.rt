@@ -1,4 +1,4 @@
-// A command is four bytes: a letter, and three numbers of a byte each.
+// A command is five bytes: a letter, and four numbers of a byte each.
 use crate::print::print_answer;
 use crate::print::print_byte;
 use crate::print::print_line;
@@ -16,6 +16,7 @@ pub struct Command {
     pub x: u8,
     pub y: u8,
     pub z: u8,
+    pub value: u8,
 }
 
 // A number of two bytes, low first.
@@ -23,7 +24,12 @@ fn number(low: u8, high: u8) -> u32 {
     low as u32 + 256 * high as u32
 }
 
-// The step of a letter; of any other than these a write, to offset y of column x.
+// The offset of a read or a write at column x.
+fn offset_of(c: Command) -> usize {
+    number(c.y, c.z) as usize
+}
+
+// The step of a letter; of any other than these a write.
 fn step(c: Command) -> Step {
     let letter = c.letter;
     let i = c.x as usize;
@@ -37,7 +43,7 @@ fn step(c: Command) -> Step {
         b'n' => Step::Note(i, c.y as usize),
         b'h' => Step::Halt(set),
         b'b' => Step::Back(i),
-        _ => Step::Write(i, c.y as usize, c.z),
+        _ => Step::Write(i, offset_of(c), c.value),
     }
 }
 
@@ -68,7 +74,7 @@ pub fn obey(b: Bank, c: Command, heads: &mut [u64; 512], doors: &mut [u64; 512])
         return b;
     }
     if letter == b'r' {
-        print_byte(b"byte=", read(b, i, c.y as usize, heads));
+        print_byte(b"byte=", read(b, i, offset_of(c), heads));
         return b;
     }
     if letter == b'd' {

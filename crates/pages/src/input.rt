@@ -15,7 +15,7 @@ const PARENTS: usize = 3;
 
 const TREE_SIZE: usize = PARENTS + 16;
 
-const COMMAND_SIZE: usize = 4;
+const COMMAND_SIZE: usize = 5;
 
 fn byte(input: &[u8], at: usize) -> u8 {
     if input.len() <= at {
@@ -54,6 +54,7 @@ fn run(input: &[u8]) {
             x: byte(input, at + 1),
             y: byte(input, at + 2),
             z: byte(input, at + 3),
+            value: byte(input, at + 4),
         };
         b = obey(b, c, &mut heads, &mut doors);
         at += COMMAND_SIZE;

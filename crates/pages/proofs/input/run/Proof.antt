@@ -43,6 +43,12 @@ add-byte-3 c = search needs
 byte-requires-3 : tie.Need-byte-requires-3 Inv-loop μ-loop
 byte-requires-3 c κs = search needs
 
+add-byte-4 : tie.Need-add-byte-4 Inv-loop μ-loop
+add-byte-4 c = search needs
+
+byte-requires-4 : tie.Need-byte-requires-4 Inv-loop μ-loop
+byte-requires-4 c κs = search needs
+
 obey-requires : tie.Need-obey-requires Inv-loop μ-loop
 obey-requires c κs = search needs
 
@@ -75,6 +81,8 @@ run-spec =
     byte-requires-2
     add-byte-3
     byte-requires-3
+    add-byte-4
+    byte-requires-4
     obey-requires
     add-at
     loop-less

@@ -3,8 +3,8 @@ use native.Mathlib.Omega.{arith}
 use mathlib.Core.Logic.{⊎-elim}
 use Prim.Native.Nat.{_≤_, _-_}
 use lib.ListN.{length}
-use Rattle.edges.proofs.lists.changed.Statement.{statement}
-use Rattle.edges.proofs.lists.changed.Tie as tie
+use Rattle.edges.proofs.buffer.changed.Statement.{statement}
+use Rattle.edges.proofs.buffer.changed.Tie as tie
 
 abbrev Inv-loop : tie.InvT-loop
 Inv-loop bytes count₀ i₀ count i = (count ≤ i) × (i ≤ length bytes)
