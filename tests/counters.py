@@ -24,8 +24,8 @@ REFUSALS = {
               "3: a sequence that exceeds a column", "3: a sequence that repeats a column", "13: past the limit"],
 }
 # The model knows more words, and they fail the run where it tells them: an acknowledgement of a higher number (it has the number of a message that its
-# receiver sent, and numbers rise), 8 (4,294,967,295 orders do not fit into a script), 9 (no network fills where the root is watched, `never-nine` of
-# crates/agreement, and none of these where senders are), and a run until a refused step, which only 9 could bring about.
+# receiver sent, and numbers rise), 8 (4,294,967,295 orders do not fit into a script), 9 (no network fills, `never-nine` of
+# crates/agreement), and a run until a refused step, which only 9 could bring about.
 BRANCHES = [
     "table with a sequence", "table without a sequence", "table without a watch", "table with watch=root", "table with watch=sender",
     "takeover, the noted sender the root", "takeover, the noted sender another", "takeover while the root runs", "a message taken by a running root",
@@ -54,10 +54,13 @@ BRANCHES = [
 ]
 RESTS = ["rest with the root running", "rest with the root halted", "rest with nobody running", "no rest, several steps are left",
          *(f"no rest, only {step} is left" for step in ("take", "send", "ack", "all", "note"))]
+# How near the scripts of three columns or more come to the two bounds: of fewer columns a single step is near.
+NEAR = [f"{words}, watch={watch}" for words in ("a quarter of the packets that there can be", "a run of a twentieth of the steps that there can be")
+        for watch in ("root", "sender")]
 FORMS = script_texts.patterns(script_texts.FORMS)
 TABLE_FORMS = script_texts.patterns(script_texts.TABLE_FORMS)
 WANTED = ([f"{step} accepted" for step in model.STEPS] + [f"{step} refused {words}" for step, conditions in REFUSALS.items() for words in conditions]
-          + BRANCHES + RESTS + [name for name, _ in FORMS + TABLE_FORMS] + ["input at the limit"])
+          + BRANCHES + RESTS + NEAR + [name for name, _ in FORMS + TABLE_FORMS] + ["input at the limit"])
 
 
 def rest(bank):
@@ -70,18 +73,22 @@ def rest(bank):
     return "rest with the root halted" if any(column.running for column in bank.columns) else "rest with nobody running"
 
 
-def step_limit(columns):
-    """Document 02, Point 2: "9 times N squared less 5 times N"."""
-    return 9 * columns ** 2 - 5 * columns
+def step_bound(columns):
+    """Below document 02's limit of Point 2, "9 times N squared less 5 times N": `within-2160` of crates/agreement."""
+    return 9 * columns * (columns - 1)
 
 
-def packet_limit(columns):
-    """Document 02, Point 3: "2 times N times (N−1)"."""
-    return 2 * columns * (columns - 1)
+def packet_bound(columns):
+    """Below document 02's limit of Point 3, "2 times N times (N−1)": `at-435` of crates/agreement."""
+    return (columns - 1) * (2 * columns - 3)
+
+
+def near(columns, number, bound):
+    return columns > 2 and number >= bound(columns)
 
 
 class Counters:
-    """What a model met, and whether demand 3 held after every line."""
+    """What a model met, whether demand 3 held after every line, and whether no line left more packets and no run took more steps than there can be."""
 
     def __init__(self, module=model):
         self.module = module
@@ -90,23 +97,25 @@ class Counters:
         # The most packets under way at once and the longest run, by the columns of the bank and whom it watches.
         self.most_packets = collections.Counter()
         self.most_steps = collections.Counter()
-        self.agreed = True
+        self.agreed = self.bounded = True
 
     def tell(self, words):
         self.met[words] += 1
 
     def script(self, data):
         """What the model prints for a script."""
-        texts = []
+        texts, fullest = [], 0
         for text, bank in self.module.run(data, self.tell):
             texts.append(text)
             if bank:
                 self.lines += 1
                 self.agreed = self.agreed and bank.agrees()
                 self.measure(text, (len(bank.columns), bank.watch), len(bank.network))
+                fullest = max(fullest, len(bank.network))
         text = data.decode("latin-1")
         if bank:
             self.tell(rest(bank))
+            self.met[f"a quarter of the packets that there can be, watch={bank.watch}"] += near(len(bank.columns), fullest * 4, packet_bound)
             self.met.update({name: len(pattern.findall(text)) for name, pattern in FORMS})
         else:
             self.met.update(name for name, pattern in TABLE_FORMS if pattern.search(text))
@@ -114,13 +123,14 @@ class Counters:
         return "".join(texts)
 
     def measure(self, text, kind, packets):
-        self.most_packets[kind] = max(self.most_packets[kind], packets)
+        columns, watch = kind
         run = re.match("steps=([0-9]+)", text)
-        if run:
-            self.most_steps[kind] = max(self.most_steps[kind], int(run[1]))
+        steps = int(run[1]) if run else 0
+        self.most_packets[kind] = max(self.most_packets[kind], packets)
+        self.most_steps[kind] = max(self.most_steps[kind], steps)
+        self.bounded = self.bounded and packets <= packet_bound(columns) and steps <= step_bound(columns)
+        self.met[f"a run of a twentieth of the steps that there can be, watch={watch}"] += near(columns, steps * 20, step_bound)
 
     def faults(self):
-        """What was met too seldom, what was told that nobody wants, and what is above its limit, which is one for watch=root alone."""
-        return [*(f"{name}: {self.met[name]}" for name in WANTED if self.met[name] < LEAST), *(name for name in self.met if name not in WANTED),
-                *(f"{most} steps of {columns} columns" for (columns, watch), most in self.most_steps.items() if watch == "root" and most > step_limit(columns)),
-                *(f"{most} packets of {columns} columns" for (columns, watch), most in self.most_packets.items() if watch == "root" and most > packet_limit(columns))]
+        """What was met too seldom, and what was told that nobody wants."""
+        return [*(f"{name}: {self.met[name]}" for name in WANTED if self.met[name] < LEAST), *(name for name in self.met if name not in WANTED)]

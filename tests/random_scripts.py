@@ -47,6 +47,13 @@ def disagree(data):
     return not count.agreed
 
 
+def exceeds(data):
+    """Whether the model passes a bound."""
+    count = counters.Counters()
+    count.script(data)
+    return not count.bounded
+
+
 def shortest(data, fails):
     """The script with lines cut out for as long as it fails."""
     lines = data.split(b"\n")
@@ -113,6 +120,8 @@ def seed_part(seed, met, wrong_too=True):
             return fault(f"seed {seed}, the program and the model differ on:", shortest(data, differ))
         if not count.agreed:
             return fault(f"seed {seed}, lit columns disagree after:", shortest(data, disagree))
+        if not count.bounded:
+            return fault(f"seed {seed}, more packets or steps than there can be:", shortest(data, exceeds))
     met.append(count)
     print(f"seed {seed}: {len(printed)} scripts, {count.lines} lines, at most {max(count.most_packets.values())} packets at once, 0 differences", flush=True)
     faults = [f"seed {seed}, {words}" for words in count.faults()]
@@ -137,11 +146,11 @@ def tell_met(met):
     print("least  most  of what a seed met")
     for name in counters.WANTED * bool(met):
         print(f"{min(one.met[name] for one in met):5} {max(one.met[name] for one in met):5}  {name}")
-    print("columns  longest run  at most  most packets  at most  watch=sender: longest run  most packets")
+    print("columns  at most  longest run  watch=sender  at most  most packets  watch=sender")
     for columns in range(1, 17):
         run, packets, sender_run, sender_packets = (max((most[columns, watch] for most in seen), default=0) for watch in ("root", "sender")
                                                     for seen in ([one.most_steps for one in met], [one.most_packets for one in met]))
-        print(f"{columns:7} {run:12} {counters.step_limit(columns):8} {packets:13} {counters.packet_limit(columns):8} {sender_run:26} {sender_packets:13}")
+        print(f"{columns:7} {counters.step_bound(columns):8} {run:12} {sender_run:13} {counters.packet_bound(columns):8} {packets:13} {sender_packets:13}")
     print(f"{len(met)} seeds, {len(counters.WANTED)} counters, each to be met {counters.LEAST} times or more on each; as often the reasons of {len(model_mutants.EQUAL)} "
           "programs that are equal are to be put to the test")
 

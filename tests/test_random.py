@@ -1,13 +1,18 @@
 """The built program beside the independent model of tests/model.py."""
 import os
+import pathlib
 import random
 import sys
 import unittest
 
 sys.path.insert(0, os.path.dirname(os.path.abspath(__file__)))
+import counters
 import model
+import model_mutants
 import random_scripts
 import script_texts
+
+CROWDED = pathlib.Path(random_scripts.ROOT, "examples", "sender-crowded.script")
 
 
 class Random(unittest.TestCase):
@@ -16,6 +21,21 @@ class Random(unittest.TestCase):
 
     def test_every_small_table_and_every_short_script(self):
         self.assertEqual(random_scripts.exhaustive_part(), 0)
+
+    def test_the_fullest_network_that_is_known_where_senders_are_watched(self):
+        count, data = counters.Counters(), CROWDED.read_bytes()
+        self.assertEqual(count.script(data), random_scripts.program(data))
+        self.assertEqual(count.most_packets[16, "sender"], 420)
+        self.assertTrue(count.agreed and count.bounded)
+
+    def test_wrong_programs_pass_one_bound_each(self):
+        wrong = {module.__name__: module for module, _ in model_mutants.modules()}
+        for name, passed in (("who is sent to stays", (True, False)), ("nobody is struck out", (False, True))):
+            count = counters.Counters(wrong[name])
+            count.script(CROWDED.read_bytes())
+            packets, steps = count.most_packets[16, "sender"], count.most_steps[16, "sender"]
+            self.assertEqual((packets > counters.packet_bound(16), steps > counters.step_bound(16)), passed, name)
+            self.assertFalse(count.bounded, name)
 
     def test_every_near_form_is_refused(self):
         rng = random.Random(1)

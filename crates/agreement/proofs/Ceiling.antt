@@ -1,276 +1,119 @@
--- The potential of a reached bank of N columns is at most 9 N N - 5 N: at most 9 for each pair of columns, and 4 for each column alone.
--- Assumes nothing.
+-- The potential of a reached bank of N columns is at most 9 N (N - 1), whoever is watched: 9 for each pair of columns, 5 for each of the root
+-- and another, and 4 for each column alone but the root. The tokens of a column p and the root, two for each column that halted before p, count
+-- 6 for each. A column q that halted has nothing to do any more, and 3 at most under way with p: that leaves 6 of the 9 of q and p. Assumes nothing.
 use Prim.Native.Nat.{ℕ, _+_, _-_, _*_, _≤_, _<_}
 use native.Mathlib.Nat.{mul-sub, mul-assoc}
 use native.Mathlib.Omega.{arith}
 use mathlib.Core.Path.{_≡_, refl, sym, ap, subst, _∙_}
-use mathlib.Core.Logic.{_≢_, ⊎-elim, inl, inr}
-use mathlib.Core.Bool.{Bool, true, false, not, _&&_, cond, true≢false}
-use mathlib.Core.List.{List}
-use lib.Dec.{eqb, ltb}
-use borrow.Author.Tests.{eq-eqb, ne-eqb, eqb-true, le-ltb}
-use Rattle.column.specs.Cases.{truth, equal-cases, and-left, and-right}
-use Rattle.column.specs.Sets.{has}
+use mathlib.Core.Logic.{_≢_, _⊎_, ⊎-elim, inl, inr}
+use mathlib.Core.Bool.{Bool, true, false, cond}
+use lib.Dec.{eqb}
+use borrow.Author.Tests.{eq-eqb, ne-eqb}
+use Rattle.column.specs.Cases.{truth, equal-cases}
 use Rattle.column.specs.Trees.{IsTree}
-use Rattle.column.specs.SubtreeLaws.{Under, subtree-trans, subtree-antisym}
-use Rattle.column.specs.Packets.{isMessage, sender, receiver}
 use Rattle.column.specs.declared.tree.Tree.{Tree}
-use Rattle.column.specs.declared.state.Column.{Column}
-use Rattle.column.specs.declared.packet.Packet.{Packet}
-use Rattle.column.specs.declared.packet.Packet.the-variants.{Message, Acknowledgement}
-use Rattle.agreement.proofs.Model.{In, State, Runs, count}
-use Rattle.agreement.proofs.Network.{Holds}
-use Rattle.agreement.proofs.Descendants.{Below}
+use Rattle.agreement.proofs.Model.{State}
 use Rattle.agreement.proofs.Invariant.{Invariant}
 use Rattle.agreement.proofs.Standing.{Standing}
-use Rattle.agreement.proofs.Tokens.{one, many, between, owes, tokens, any, stale, current}
-use Rattle.agreement.proofs.TokenLaws.{many-none, many-under, tokens-split}
-use Rattle.agreement.proofs.Bounded.{ToServe, to-send, to-await, Paired, Bounded}
-use Rattle.agreement.proofs.Sums.{sum, sum-same, sum-add, sum-zero, sum-swap, square, square-add, square-most}
-use Rattle.agreement.proofs.Cover.{isBelow, below-true, cover, cover-serves, cover-passed}
-use Rattle.agreement.proofs.Potential.{ownPart, otherPart, beside, parts, debts, row, every, potential, one-le, one-few}
-use Rattle.agreement.proofs.Pairs.{of, many-pairs}
-use Rattle.agreement.specs.Dispatching.{stepsWithin}
+use Rattle.agreement.proofs.Tokens.{one}
+use Rattle.agreement.proofs.Sums.{sum, sum-le, sum-add, sum-swap, sum-rise, sum-but, square-add}
+use Rattle.agreement.proofs.Bounded.{Bounded}
+use Rattle.agreement.proofs.HaltCharges.{charged, charged-other, charged-root, charged-none, charged-self, charged-for-root, charged-sum}
+use Rattle.agreement.proofs.Potential.{potential}
+use Rattle.agreement.proofs.PairValues.{own, value, potential-pairs, carried-tokens, alone, own-self, own-few, value-halted, value-other}
+use Rattle.agreement.proofs.RootValues.{root-alone, root-other}
+use Rattle.agreement.specs.Dispatching.{stepBound}
 
-module _ (t : Tree) (s : State) where
-  abbrev n : ℕ
-  n = count s
+module _ (t : Tree) (tree : IsTree t) {s : State} (inv : Invariant t s) (st : Standing t s) (bounded : Bounded t s) where
+  abbrev before : ℕ → ℕ → Bool
+  before = bounded .halt-history .before
 
-  -- ---- what a pair of columns counts
+  -- but for the tokens of a column and the root
+  abbrev main : ℕ → ℕ → ℕ
+  main p q = cond (eqb q (t .root)) (own t s p q) (value t s p q)
 
-  abbrev packets : ℕ → ℕ → ℕ
-  packets p q = many (of every p q) (s .network)
+  abbrev halts : ℕ → ℕ → ℕ
+  halts p q = charged t bounded 6 p q
 
-  abbrev messages : ℕ → ℕ → ℕ
-  messages p q = many (of isMessage p q) (s .network)
+  main-other : (p q : ℕ) → q ≢ t .root → main p q ≡ value t s p q
+  main-other p q n = ap (λ (b : Bool). cond b (own t s p q) (value t s p q)) (ne-eqb q (t .root) n)
 
-  abbrev owed : ℕ → ℕ → ℕ
-  owed p q = 2 * one (owes any p (s .columns q))
+  main-root : (p q : ℕ) → q ≡ t .root → main p q ≡ own t s p q
+  main-root p q e = ap (λ (b : Bool). cond b (own t s p q) (value t s p q)) (eq-eqb q (t .root) e)
 
-  abbrev own : ℕ → ℕ → ℕ
-  own p q = cond (s .columns p .running) (beside p (ownPart t n p (s .columns p)) (otherPart t n p (s .columns p)) q) 0
+  -- the halts pay for the tokens of p and the root
+  root-paid : (p : ℕ) → value t s p (t .root) ≤ main p (t .root) + sum (halts p) (t .columns)
+  root-paid p = ⊎-elim
+      (λ e. subst (λ (x : ℕ). value t s x (t .root) ≤ main x (t .root) + sum (halts x) (t .columns)) (sym e)
+      (omega (arith, alone t tree inv st bounded (t .root) (tree .root-below), main-root (t .root) (t .root) refl)))
+      (λ n. omega (
+        arith,
+        carried-tokens t tree inv st bounded p (t .root),
+        bounded .halt-history .history .to-root p n,
+        charged-sum t bounded 6 p n,
+        main-root p (t .root) refl,
+      ))
+      (equal-cases p (t .root))
 
-  abbrev value : ℕ → ℕ → ℕ
-  value p q = packets p q + (messages p q + (messages p q + (owed p q + own p q)))
+  row-paid : (p : ℕ) → sum (value t s p) (t .columns) ≤ sum (main p) (t .columns) + sum (halts p) (t .columns)
+  row-paid p = sum-rise (value t s p) (main p) (t .columns) (t .root) (sum (halts p) (t .columns)) (root-paid p)
+      (λ q _ n. omega (arith, main-other p q n))
 
-  row-pairs : (p : ℕ) → row t n p (s .columns p) ≡ sum (λ q. owed q p) (t .columns) + sum (own p) (t .columns)
-  unfolding parts debts
-  row-pairs p = go (s .columns p .running)
-    where
-      c : Column
-      c = s .columns p
+  -- what q and p count, with what is left to pay for the tokens of q and the root
+  abbrev paid : ℕ → ℕ → ℕ
+  paid p q = main p q + halts q p
 
-      go : (b : Bool) → cond b (debts t (c .owed) + parts t n p c) 0
-          ≡ sum (λ q. 2 * one (b && (has (c .owed) q && true))) (t .columns) + sum (λ q. cond b (beside p (ownPart t n p c) (otherPart t n p c) q) 0) (t .columns)
-      go true = ap (λ (x : ℕ). x + parts t n p c)
-          (sum-same (λ q. 2 * one (has (c .owed) q)) (λ q. 2 * one (has (c .owed) q && true)) (t .columns) (λ q l. same (has (c .owed) q)))
-        where
-          same : (b : Bool) → 2 * one b ≡ 2 * one (b && true)
-          same true = refl
-          same false = refl
-      go false = omega (arith, sum-zero (t .columns))
-
-  pub potential-pairs : Standing t s → potential t s ≡ square value (t .columns)
-  potential-pairs st = omega (
+  self-paid : (p : ℕ) → p < t .columns → paid p p ≤ 4
+  self-paid p l = omega (
     arith,
-    many-pairs (t .columns) every (s .network) ends,
-    many-pairs (t .columns) isMessage (s .network) ends,
-    sum-same (λ p. row t n p (s .columns p)) (λ p. sum (λ q. owed q p) (t .columns) + sum (own p) (t .columns)) (t .columns) (λ p l. row-pairs p),
-    sum-add (λ p. sum (λ q. owed q p) (t .columns)) (λ p. sum (own p) (t .columns)) (t .columns),
-    sum-swap owed (t .columns) (t .columns),
-    square-add owed own (t .columns),
-    square-add messages (λ p q. owed p q + own p q) (t .columns),
-    square-add messages (λ p q. messages p q + (owed p q + own p q)) (t .columns),
-    square-add packets (λ p q. messages p q + (messages p q + (owed p q + own p q))) (t .columns),
-  )
-    where
-      ends : (x : Packet) → Holds (s .network) x → (sender x < t .columns) × (receiver x < t .columns)
-      ends x m = (st .packets x m .acceptable .sender-below, st .packets x m .acceptable .receiver-below)
-
-module _ (t : Tree) (tree : IsTree t) {s : State} (inv : Invariant t s) (st : Standing t s) (bd : Bounded t s) where
-  abbrev l : List Packet
-  l = s .network
-
-  both : (b : Bool) → b ≡ true → (b && true) ≡ true
-  both b e = ap (λ (x : Bool). x && true) e
-
-  -- ---- packets and what is owed, beside the tokens
-
-  few-packets : (p q : ℕ) → packets t s p q ≤ many (between any p q) l
-  few-packets p q = many-under (of every p q) (between any p q) (λ x. one-le (of every p q x) (between any p q x) (and-left (between any p q x) _)) l
-
-  few-messages : (p q : ℕ) → messages t s p q ≤ packets t s p q
-  few-messages p q = many-under (of isMessage p q) (of every p q)
-      (λ x. one-le (of isMessage p q x) (of every p q x) (λ e. both (between any p q x) (and-left (between any p q x) _ e))) l
-
-  carried-tokens : (p q : ℕ) → packets t s p q + (messages t s p q + (messages t s p q + owed t s p q)) ≤ 3 * tokens any s p q
-  carried-tokens p q = omega (arith, few-packets p q, few-messages p q)
-
-  -- whose receiver is halted, are acknowledgements
-  message-runs : (p q : ℕ) (x : Packet) → Holds l x → of isMessage p q x ≡ true → Runs s q
-  message-runs p q (Message i j k d) h e =
-      subst (Runs s) (sym (eqb-true q j (and-left (eqb q j) _ (and-right (eqb p i) _ (and-left (between any p q (Message i j k d)) _ e)))))
-      (st .packets (Message i j k d) h .runs)
-  message-runs p q (Acknowledgement i j k) h e = absurd (true≢false (sym (and-right (between any p q (Acknowledgement i j k)) _ e)))
-
-  carried-halted : (p q : ℕ) → (Runs s q → ⊥) → packets t s p q + (messages t s p q + (messages t s p q + owed t s p q)) ≤ tokens any s p q
-  carried-halted p q h = omega (
-    arith,
-    few-packets p q,
-    many-none (of isMessage p q) l (λ x m. ⊎-elim (λ e. absurd (h (message-runs p q x m e))) (λ e. e) (truth (of isMessage p q x))),
-    ap (λ (b : Bool). one (b && (has (s .columns q .owed) p && true))) (⊎-elim (λ e. absurd (h e)) (λ e. e) (truth (s .columns q .running))),
+    own-self t tree inv st bounded p,
+    alone t tree inv st bounded p l,
+    ⊎-elim (λ e. main-root p p e) (λ n. main-other p p n ∙ alone t tree inv st bounded p l) (equal-cases p (t .root)),
+    charged-self t bounded 6 p,
   )
 
-  -- the ends of a packet differ
-  both-ends : (p : ℕ) (x : Packet) → between any p p x ≡ true → sender x ≡ receiver x
-  both-ends p (Message i j k d) e = sym (eqb-true p i (and-left (eqb p i) _ e)) ∙ eqb-true p j (and-left (eqb p j) _ (and-right (eqb p i) _ e))
-  both-ends p (Acknowledgement i j k) e = sym (eqb-true p i (and-left (eqb p i) _ e)) ∙ eqb-true p j (and-left (eqb p j) _ (and-right (eqb p i) _ e))
-
-  none-own : (g : Packet → Bool) (p : ℕ) → many (of g p p) l ≡ 0
-  none-own g p = many-none (of g p p) l (λ x m. ⊎-elim
-      (λ e. absurd (st .packets x m .acceptable .apart (both-ends p x (and-left (between any p p x) _ e)))) (λ e. e) (truth (of g p p x)))
-
-  -- ---- the own goal
-
-  -- with the own goal the cover is below the column
-  own-below : (p q : ℕ) → Runs s p → s .columns p .whole ≡ false → cover t p (s .columns p) q ≡ true → Below t p q
-  own-below p q r w e = go (cover-serves t p (s .columns p) q e)
+  pair-paid : (p q : ℕ) → q ≢ p → paid p q ≤ 9
+  pair-paid p q e = ⊎-elim
+      (λ z. omega (arith, main-root p q z, charged-root t bounded 6 q p z, own-few t tree inv st bounded p q e))
+      (λ n. other n (truth (before q p))) (equal-cases q (t .root))
     where
-      under : (y : ℕ) → Below t p y → Under t y q → Below t p q
-      under y b u = record {
-        under = subtree-trans t tree p y q (inv .inside p r) (b .under) u;
-        other = λ z. b .other (subtree-antisym t tree p y (inv .inside p r) (b .under) (subst (Under t y) z u));
-      }
+      other : q ≢ t .root → (before q p ≡ true) ⊎ (before q p ≡ false) → paid p q ≤ 9
+      other n (inl h) = omega (
+        arith,
+        main-other p q n,
+        charged-other t bounded 6 q p n,
+        ap one h,
+        value-halted t tree inv st bounded p q (bounded .halt-history .history .stopped q p h),
+        bounded .halt-history .history .apart p q n (inr h),
+      )
+      other n (inr h) = omega (arith, main-other p q n, charged-none t bounded 6 q p h, value-other t tree inv st bounded p q e n)
 
-      go : ToServe t (s .columns p) q → Below t p q
-      go (to-send y m u) = under y (inv .locals p r .own (inl w) y (inl m)) u
-      go (to-await y m b) = under y (inv .locals p r .own (inl w) y (inr m)) (b .under)
-
-  -- what is to reach now, and what a takeover adds
-  one-of : (p q : ℕ) → Runs s p → one (cover t p (s .columns p) q) + one (not (s .columns p .whole) && not (isBelow t p q)) ≤ 1
-  one-of p q r = go (s .columns p .whole) refl (cover t p (s .columns p) q) refl
+  -- the root's row
+  root-row : sum (paid (t .root)) (t .columns) + 5 ≤ t .columns * 5
+  root-row = omega (arith, sum-but (paid (t .root)) (t .columns) (t .root) 0 5 (tree .root-below) self others)
     where
-      go : (w : Bool) → s .columns p .whole ≡ w → (b : Bool) → cover t p (s .columns p) q ≡ b → one b + one (not w && not (isBelow t p q)) ≤ 1
-      go true e b k = omega (arith, one-few b)
-      go false e true k = omega (arith, ap (λ (x : Bool). one (not x)) (below-true t p q (own-below p q r e k)))
-      go false e false k = omega (arith, one-few (not (isBelow t p q)))
+      self : paid (t .root) (t .root) ≤ 0
+      self = omega (arith, main-root (t .root) (t .root) refl, charged-self t bounded 6 (t .root), root-alone t tree inv st bounded)
 
-  -- ---- a column alone
+      others : (q : ℕ) → q < t .columns → q ≢ t .root → paid (t .root) q ≤ 5
+      others q _ n = omega (arith, main-other (t .root) q n, charged-for-root t bounded 6 q, root-other t tree inv st bounded q n)
 
-  value-own : (p : ℕ) → p < t .columns → value t s p p ≤ 4
-  value-own p h = omega (arith, none-own every p, none-own isMessage p, owes-none (c .running), row-own (c .running) refl)
-    where
-      c : Column
-      c = s .columns p
+  -- every other row
+  other-row : (p : ℕ) → p < t .columns → sum (paid p) (t .columns) ≤ t .columns * 9 - 5
+  other-row p l = omega (arith, tree .some, sum-but (paid p) (t .columns) p 4 9 l (self-paid p l) (λ q _ n. pair-paid p q n))
 
-      owes-none : (b : Bool) → one (b && (has (c .owed) p && true)) ≡ 0
-      owes-none true = ap (λ (x : Bool). one (x && true)) (st .each-stands p h .owes-others)
-      owes-none false = refl
-
-      part : (r : Runs s p) (w : Bool) → c .whole ≡ w → (b : Bool) → cover t p c p ≡ b → one b + (2 * one (not w) + 2 * one (ltb (c .number) (count s))) ≤ 4
-      part r true e b k = omega (arith, one-few b, one-few (ltb (c .number) (count s)))
-      part r false e true k = absurd (own-below p p r e k .other refl)
-      part r false e false k = omega (arith, one-few (ltb (c .number) (count s)))
-
-      row-own : (b : Bool) → c .running ≡ b → cond b (beside p (ownPart t (count s) p c) (otherPart t (count s) p c) p) 0 ≤ 4
-      row-own true r = subst (λ (x : Bool). cond x (ownPart t (count s) p c) (otherPart t (count s) p c p) ≤ 4) (sym (eq-eqb p p refl))
-          (part r (c .whole) refl (cover t p c p) refl)
-      row-own false r = omega arith
-
-  -- ---- two columns
-
-  module _ (p q : ℕ) (r : Runs s p) where
-    abbrev c : Column
-    c = s .columns p
-
-    abbrev m : ℕ
-    m = c .number
-
-    abbrev w : Paired t s p c q
-    w = bd .pairs p q r
-
-    -- who has a token with the present number is reached already
-    current-none : 0 < tokens (current m) s p q →
-        one (cover t p c q) + one (not (c .whole) && not (isBelow t p q)) ≡ 0
-    current-none h = go (c .whole) refl (cover t p c q) refl
-      where
-        go : (x : Bool) → c .whole ≡ x → (b : Bool) → cover t p c q ≡ b → one b + one (not x && not (isBelow t p q)) ≡ 0
-        go x e true k = absurd (cover-passed t p c q k (w .current-served h (cover-serves t p c q k)))
-        go true e false k = refl
-        go false e false k = omega (arith, ap (λ (y : Bool). one (not y)) (below-true t p q (w .current-own h e)))
-
-    newest : m ≡ count s → one (ltb m (count s)) ≡ 0
-    newest e = ap one (le-ltb m (count s) (omega (arith, e)))
-
-    abbrev heavy : ℕ
-    heavy = packets t s p q + (messages t s p q + (messages t s p q + owed t s p q))
-
-    -- the tokens of the pair beside what p has to do for q
-    abbrev Bound : Type 0
-    Bound = heavy + otherPart t (count s) p c q ≤ 9
-
-    split : tokens any s p q ≤ tokens (stale m) s p q + tokens (current m) s p q
-    split = omega (arith, tokens-split m s p q, w .none-ahead)
-
-    -- no token
-    bound-none : tokens (stale m) s p q ≡ 0 → tokens (current m) s p q ≡ 0 → Bound
-    bound-none e k = omega (arith, carried-tokens p q, split, one-of p q r, one-few (not (has (c .noted) q)), one-few (ltb m (count s)))
-
-    -- one with the present number only
-    bound-current : tokens (stale m) s p q ≡ 0 → 0 < tokens (current m) s p q → Bound
-    bound-current e k = omega (arith, carried-tokens p q, split, current-none k, w .one-current, one-few (not (has (c .noted) q)), one-few (ltb m (count s)))
-
-    -- one with a lower number
-    bound-stale : 0 < tokens (stale m) s p q → Bound
-    bound-stale k = ⊎-elim noted last (w .stale-held k)
-      where
-        noted : In (c .noted) q × (tokens (current m) s p q ≡ 0) → Bound
-        noted z = omega (
-          arith,
-          carried-halted p q (inv .coverages p r .noted-halted q (z .0)),
-          split,
-          z .1,
-          w .one-stale,
-          ap (λ (x : Bool). one (not x)) (z .0 .holds),
-          one-of p q r,
-          one-few (ltb m (count s)),
-        )
-
-        last : (¬ Runs s (t .root)) × (m ≡ count s) → Bound
-        last z = ⊎-elim
-            (λ (e : tokens (current m) s p q ≡ 0). omega (arith, e, carried-tokens p q, split, w .one-stale, newest (z .1), one-of p q r, one-few (not (has (c .noted) q))))
-            (λ (e : tokens (current m) s p q ≢ 0).
-            omega (arith, carried-tokens p q, split, w .one-stale, w .one-current, newest (z .1), current-none (omega (arith, e)), one-few (not (has (c .noted) q))))
-            (equal-cases (tokens (current m) s p q) 0)
-
-    bound : Bound
-    bound = ⊎-elim
-        (λ (e : tokens (stale m) s p q ≡ 0). ⊎-elim (λ (k : tokens (current m) s p q ≡ 0). bound-none e k)
-        (λ (k : tokens (current m) s p q ≢ 0). bound-current e (omega (arith, k))) (equal-cases (tokens (current m) s p q) 0))
-        (λ (e : tokens (stale m) s p q ≢ 0). bound-stale (omega (arith, e)))
-        (equal-cases (tokens (stale m) s p q) 0)
-
-  value-other : (p q : ℕ) → q ≢ p → value t s p q ≤ 9
-  value-other p q e = go (s .columns p .running) refl
-    where
-      c : Column
-      c = s .columns p
-
-      go : (b : Bool) → s .columns p .running ≡ b →
-          packets t s p q + (messages t s p q + (messages t s p q + (owed t s p q + cond b (beside p (ownPart t (count s) p c) (otherPart t (count s) p c) q) 0))) ≤ 9
-      go true r = omega (arith, bound p q r, ap (λ (x : Bool). cond x (ownPart t (count s) p c) (otherPart t (count s) p c q)) (ne-eqb q p e))
-      go false r = omega (arith, carried-tokens p q, bd .two p q)
-
-  pub ceiling : potential t s ≤ stepsWithin (t .columns)
+  pub ceiling : potential t s ≤ stepBound (t .columns)
   ceiling = omega (
     arith,
     potential-pairs t s st,
-    square-most (value t s) (t .columns) 4 9 value-own (λ p q lp lq e. value-other p q e),
+    sum-le (λ p. sum (value t s p) (t .columns)) (λ p. sum (main p) (t .columns) + sum (halts p) (t .columns)) (t .columns) (λ p _. row-paid p),
+    sum-add (λ p. sum (main p) (t .columns)) (λ p. sum (halts p) (t .columns)) (t .columns),
+    sum-swap halts (t .columns) (t .columns),
+    square-add main (λ p q. halts q p) (t .columns),
+    sum-but (λ p. sum (paid p) (t .columns)) (t .columns) (t .root) (t .columns * 5 - 5) (t .columns * 9 - 5) (tree .root-below)
+        (omega (arith, root-row)) (λ p l _. other-row p l),
     sym (mul-assoc (t .columns) (t .columns) 9),
     mul-sub (t .columns) (t .columns * 9) 5,
+    mul-sub (t .columns) (t .columns) 1,
     tree .some,
-    ap (λ (x : ℕ). t .columns * x) (less (t .columns) (tree .some)),
   )
-    where
-      less : (x : ℕ) → 1 ≤ x → x * 9 + 4 - 9 ≡ x * 9 - 5
-      less x h = omega arith

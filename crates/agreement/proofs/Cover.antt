@@ -14,7 +14,7 @@ use Rattle.column.specs.declared.tree.Tree.{Tree}
 use Rattle.column.specs.declared.state.Column.{Column}
 use Rattle.agreement.proofs.Descendants.{Below}
 use Rattle.agreement.proofs.Invariant.{Local}
-use Rattle.agreement.proofs.Bounded.{ToServe, to-send, to-await}
+use Rattle.agreement.proofs.Spread.{ToServe, to-send, to-await}
 
 -- ---- a test that some number below n passes
 

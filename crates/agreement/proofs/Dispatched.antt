@@ -1,6 +1,6 @@
 -- Document 02, Point 2: the theorem. Assumes nothing.
-use Prim.Native.Nat.{ℕ, zero, suc, _*_, _≤_, _<_}
-use native.Mathlib.Nat.{le-refl, mul-le-mul}
+use Prim.Native.Nat.{ℕ, zero, suc, _-_, _*_, _≤_, _<_}
+use native.Mathlib.Nat.{mul-le-mul, mul-sub}
 use native.Mathlib.Omega.{arith}
 use mathlib.Core.Path.{_≡_, refl, sym, ap, ap₂, subst, _∙_}
 use mathlib.Core.Logic.{⊎-elim}
@@ -20,14 +20,13 @@ use Rattle.bank.specs.Dispatch.{offers, offered, firstAccepted, turn, onward, d
 use Rattle.bank.specs.DispatchLaws.{stops-rest, stops-taken, take-accepted}
 use Rattle.bank.specs.declared.bank.Step.{Step}
 use Rattle.bank.specs.declared.bank.Step.the-variants.{Order, Send, Take, Ack, All, Note, Halt, Back, Write}
-use Rattle.agreement.specs.History.{World, columnsOf, ordersAfter, told, run, WatchesRoot, follow}
-use Rattle.agreement.specs.Dispatching.{stepsWithin, isSettling, allSettling, allAccepted, Settles, Rests, Few, Within2224}
+use Rattle.agreement.specs.History.{World, columnsOf, ordersAfter, told, run, follow}
+use Rattle.agreement.specs.Dispatching.{stepsWithin, stepBound, isSettling, allSettling, allAccepted, RestsWithin, Settles, Rests, Within2224, Within2160}
 use Rattle.agreement.proofs.Potential.{potential}
 use Rattle.agreement.proofs.Ceiling.{ceiling}
 use Rattle.agreement.proofs.Settling.{settling, fall}
 use Rattle.agreement.proofs.View.{modelOf, OneMove, event}
 use Rattle.agreement.proofs.Perform.{refines}
-use Rattle.agreement.proofs.Companions.{told-tree, run-tree}
 use Rattle.agreement.proofs.Reached.{Reached, after-every, next, reached, reached-stands}
 use Rattle.agreement.proofs.Limits.{reached-room}
 
@@ -61,30 +60,33 @@ event-settling s (Write i offset value) o = absurd o
 is-tree : (w : World) → Reached w → IsTree (w .state .bank .tree)
 is-tree w r = check-exact (w .state .bank .tree) .0 (r .tree)
 
-left-within : (w : World) → Reached w → WatchesRoot w → left w ≤ stepsWithin (columnsOf w)
-left-within w r o = ceiling (w .state .bank .tree) (is-tree w r) (r .invariant) (r .standing) (r .bounded o)
+left-most : (w : World) → Reached w → left w ≤ stepBound (columnsOf w)
+left-most w r = ceiling (w .state .bank .tree) (is-tree w r) (r .invariant) (r .standing) (r .bounded)
 
-left-falls : (w : World) → Reached w → WatchesRoot w → (x : Step) → isSettling x ≡ true → (s : State) → perform (w .state) x ≡ accepted s → left (told w x (accepted s)) < left w
+left-within : (w : World) → Reached w → left w ≤ stepsWithin (columnsOf w)
+left-within w r = omega (arith, left-most w r, is-tree w r .some, mul-sub (columnsOf w) (columnsOf w) 1)
+
+left-falls : (w : World) → Reached w → (x : Step) → isSettling x ≡ true → (s : State) → perform (w .state) x ≡ accepted s → left (told w x (accepted s)) < left w
 unfolding told
-left-falls w r o x h s e =
+left-falls w r x h s e =
     let one = one-move x h in
     let f = refines (w .state) (r .formed) (w .orders) x one s e in
     subst (λ (t : Tree). potential t (modelOf s (ordersAfter (w .orders) x)) < left w) (sym (f .same-tree))
-    (fall (w .state .bank .tree) (is-tree w r) (record { by-root = o; invariant = r .invariant; standing = r .standing; bounded = r .bounded o }) (f .move)
+    (fall (w .state .bank .tree) (is-tree w r) (r .invariant) (r .standing) (r .bounded .spreads) (f .move)
     (event-settling (w .state) x one ∙ h))
 
 -- ---- lists of accepted steps
 
-few-left : (w : World) (xs : List Step) → Reached w → WatchesRoot w → allSettling xs ≡ true → allAccepted w xs ≡ true → length xs ≤ left w
+few-left : (w : World) (xs : List Step) → Reached w → allSettling xs ≡ true → allAccepted w xs ≡ true → length xs ≤ left w
 unfolding allSettling allAccepted
-few-left w [] r o a e = omega arith
-few-left w (x ∷ xs) r o a e = go (perform (w .state) x) refl e (λ z. few-left (told w x (perform (w .state) x)) xs (next w x r) (ap (λ (t : Tree). t .watch) (told-tree w x) ∙ o) (and-right (isSettling x) _ a) z)
+few-left w [] r a e = omega arith
+few-left w (x ∷ xs) r a e = go (perform (w .state) x) refl e (λ z. few-left (told w x (perform (w .state) x)) xs (next w x r) (and-right (isSettling x) _ a) z)
   where
     go : (o : Outcome State) → perform (w .state) x ≡ o → (not (isRefused o) && allAccepted (told w x o) xs) ≡ true
         → (allAccepted (told w x (perform (w .state) x)) xs ≡ true → length xs ≤ left (told w x (perform (w .state) x))) → suc (length xs) ≤ left w
     go (accepted s) p q ih = omega (
       arith,
-      left-falls w r o x (and-left (isSettling x) _ a) s p,
+      left-falls w r x (and-left (isSettling x) _ a) s p,
       subst (λ (o : Outcome State). length xs ≤ left (told w x o)) p (ih (ap (λ (o : Outcome State). allAccepted (told w x o) xs) p ∙ q)),
     )
     go (refused n s) p q ih = absurd (true≢false (sym q))
@@ -194,37 +196,43 @@ one-more (suc k) s h = go (perform s (turn s)) h (λ x. one-more k x)
     go (accepted x) l ih = ih x (omega (arith, l))
     go (refused n x) l ih = refl
 
--- a reached bank whose turn is refused is at rest where the root is watched: it takes its packets, since its network is never full
-stopped-rests : (w : World) → Reached w → WatchesRoot w → Stopped (w .state) → AtRest (w .state)
-stopped-rests w r o e = ⊎-elim
+-- a reached bank whose turn is refused is at rest: it takes its packets, since its network is never full
+stopped-rests : (w : World) → Reached w → Stopped (w .state) → AtRest (w .state)
+stopped-rests w r e = ⊎-elim
     (λ z. rest-exact (w .state) .0 (stops-rest (w .state) z e))
     (λ z. absurd (true≢false (sym (stops-taken (w .state) e)
-    ∙ take-accepted (w .state) (reached-stands w r) 0 (omega (arith, z)) (reached-room w r o))))
+    ∙ take-accepted (w .state) (reached-stands w r) 0 (omega (arith, z)) (reached-room w r))))
     (equal-cases (w .state .bank .count) 0)
 
 -- ---- the theorem
 
 module _ (w : World) (r : Reached w) where
-  few : WatchesRoot w → (limit : ℕ) → length (dispatched limit (w .state)) ≤ stepsWithin (columnsOf w)
-  few o limit = omega (
-    arith,
-    left-within w r o,
-    few-left w (dispatched limit (w .state)) r o (settling-dispatched limit (w .state)) (accepted-dispatched limit w),
-  )
+  few-dispatched : (limit : ℕ) → length (dispatched limit (w .state)) ≤ left w
+  few-dispatched limit = few-left w (dispatched limit (w .state)) r (settling-dispatched limit (w .state)) (accepted-dispatched limit w)
 
-  until : WatchesRoot w → (limit : ℕ) → length (dispatched limit (w .state)) < limit → AtRest (dispatch limit (w .state))
-  until o limit h = subst AtRest (lead limit w) (stopped-rests (run w (dispatched limit (w .state))) (reached w (dispatched limit (w .state)) r)
-      (ap (λ (t : Tree). t .watch) (run-tree w (dispatched limit (w .state))) ∙ o)
+  until : (limit : ℕ) → length (dispatched limit (w .state)) < limit → AtRest (dispatch limit (w .state))
+  until limit h = subst AtRest (lead limit w) (stopped-rests (run w (dispatched limit (w .state))) (reached w (dispatched limit (w .state)) r)
       (subst Stopped (sym (lead limit w)) (stopped limit (w .state) h)))
+
+  -- a limit that is never passed
+  enough : (limit : ℕ) → left w ≤ limit → AtRest (dispatch limit (w .state))
+  enough limit h =
+      let l : length (dispatched (suc limit) (w .state)) < suc limit = omega (arith, few-dispatched (suc limit), h) in
+      subst AtRest (one-more limit (w .state) l) (until (suc limit) l)
+
+  within : (most : ℕ) → left w ≤ most → RestsWithin most w
+  within most h = record {
+    any-steps = λ xs a e. omega (arith, h, few-left w xs r a e);
+    few = λ limit. omega (arith, h, few-dispatched limit);
+    rests = λ limit l. enough limit (omega (arith, h, l));
+  }
 
   pub settles : Settles w
   unfolding follow
   settles = record {
-    any-steps = λ o xs a e. omega (arith, left-within w r o, few-left w xs r o a e);
-    few = few;
-    rests = λ o limit h.
-        let l : length (dispatched (suc limit) (w .state)) < suc limit = omega (arith, few o (suc limit)) in
-        subst AtRest (one-more limit (w .state) l) (until o (suc limit) l);
+    within = within (stepsWithin (columnsOf w)) (left-within w r);
+    sooner = within (stepBound (columnsOf w)) (left-most w r);
+    none-left = λ h. stopped-rests w r (h (turn (w .state)) (settling-turn (w .state)));
     until = until;
     steps-accepted = λ limit. accepted-dispatched limit w;
     steps-lead = λ limit. lead limit w;
@@ -236,13 +244,17 @@ rests = after-every Settles settles
 
 -- ---- sixteen columns
 
-most : (n : ℕ) → n ≤ 16 → stepsWithin n ≤ 2224
-most n h =
-    let square : n * n ≤ 16 * n = mul-le-mul h (le-refl n) in
-    omega (arith, h, square)
+bound-2160 : (n : ℕ) → n ≤ 16 → stepBound n ≤ 2160
+bound-2160 n h =
+    let less : n - 1 ≤ 15 = omega arith in
+    let z : n * (n - 1) ≤ 16 * 15 = mul-le-mul h less in
+    omega (arith, z)
+
+left-2160 : (w : World) → Reached w → left w ≤ 2160
+left-2160 w r = omega (arith, left-most w r, bound-2160 (columnsOf w) (tree-sixteen (w .state .bank .tree) (r .tree)))
+
+pub within-2160 : Within2160
+within-2160 = after-every (RestsWithin 2160) (λ w r. within w r 2160 (left-2160 w r))
 
 pub within-2224 : Within2224
-within-2224 = after-every Few (λ w r o.
-    let s = settles w r in
-    let m = most (columnsOf w) (tree-sixteen (w .state .bank .tree) (r .tree)) in
-    (λ xs a e. omega (arith, m, s .any-steps o xs a e), s .rests o 2224 m))
+within-2224 = after-every (RestsWithin 2224) (λ w r. within w r 2224 (omega (arith, left-2160 w r)))

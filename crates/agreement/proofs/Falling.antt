@@ -27,7 +27,7 @@ use Rattle.agreement.proofs.Adjusting.{adjusted}
 use Rattle.agreement.proofs.Packets.{message-issued}
 use Rattle.agreement.proofs.Standing.{Standing}
 use Rattle.agreement.proofs.Tokens.{one}
-use Rattle.agreement.proofs.Bounded.{Spread, ToServe, to-send, to-await}
+use Rattle.agreement.proofs.Spread.{Spread, ToServe, to-send, to-await}
 use Rattle.agreement.proofs.Cover.{isBelow, below-true, true-below, cover, cover-serves, cover-passed, serves-cover}
 use Rattle.agreement.proofs.Potential.{ownPart, parts, potential, one-le, one-few, load-taken, load-post, load-others, Others, parts-le, parts-own, parts-other, debts-without, debts-with, potential-moves, falls}
 

@@ -21,25 +21,30 @@ mod Kept
 mod Tokens
 mod TokenLaws
 mod TokenMoves
-mod Bounded
-mod Pairing
+mod Spread
 mod Spreading
-mod Calming
-mod Bounding
-mod BoundedServing
-mod BoundedTaking
-mod BoundedRecords
-mod BoundedRest
-mod BoundedBack
-mod BoundedKept
+mod SpreadKept
+mod Still
 mod Sums
 mod Pairs
 mod Cover
 mod Standing
-mod Counting
+mod Bounded
+mod EarlierDoneKept
+mod PairTokens
+mod PairTokensKept
+mod HaltCounts
+mod HaltHistoryKept
+mod BoundedStill
+mod BoundedKept
+mod HaltCharges
+mod PacketCount
 mod Potential
 mod Falling
+mod PairValues
+mod RootValues
 mod Ceiling
+mod CeilingMet
 mod Settling
 mod Received
 pub mod Conditions
@@ -61,7 +66,6 @@ pub mod RestQuiet
 mod Away
 pub mod Returned
 pub mod Dispatched
-mod SpreadKept
 mod Lines
 mod Logged
 mod Dues

@@ -171,7 +171,7 @@ module _ (t : Tree) (ok : lossesRefusal t ≡ 0) (steps : ℕ) where
     rests =
         let z = settles dark dark-reached in
         subst AtRest (sym (z .steps-lead toRest))
-        (z .rests (ap (λ (u : Tree). u .watch) dark-tree ∙ good .by-root) toRest
+        (z .within .rests toRest
         (subst (λ (u : Tree). stepsWithin (u .columns) ≤ toRest) (sym dark-tree) (enough (t .columns) (good .few))))
 
     resting-clear : Clear (resting .orders)

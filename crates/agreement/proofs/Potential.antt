@@ -20,7 +20,7 @@ use Rattle.column.specs.declared.packet.Packet.{Packet}
 use Rattle.bank.specs.NetworkLaws.{others}
 use Rattle.agreement.proofs.Model.{In, State, count, post, Taken, Becomes}
 use Rattle.agreement.proofs.Members.{without-in}
-use Rattle.agreement.proofs.Tokens.{one, many}
+use Rattle.agreement.proofs.Tokens.{one, many, every}
 use Rattle.agreement.proofs.TokenLaws.{many-taken, many-post, many-others}
 use Rattle.agreement.proofs.Sums.{sum, sum-le, sum-drop, sum-rise, sum-change}
 use Rattle.agreement.proofs.Cover.{isBelow, cover}
@@ -52,9 +52,6 @@ row t n p c = cond (c .running) (debts t (c .owed) + parts t n p c) 0
 -- a message counts 3, an acknowledgement 1
 abbrev pub weight : Packet → ℕ
 weight x = 1 + 2 * one (isMessage x)
-
-abbrev pub every : Packet → Bool
-every x = true
 
 abbrev pub load : List Packet → ℕ
 load l = many every l + 2 * many isMessage l

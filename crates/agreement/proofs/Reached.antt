@@ -3,7 +3,7 @@ use Prim.Native.Nat.{ℕ, _≤_, _<_}
 use native.Mathlib.Omega.{arith}
 use mathlib.Core.Path.{_≡_, refl, sym, ap, subst, _∙_}
 use mathlib.Core.Logic.{⊎-elim}
-use mathlib.Core.Bool.{Bool, true, false, _&&_}
+use mathlib.Core.Bool.{Bool, true, _&&_}
 use mathlib.Core.List.{List, [], _∷_}
 use lib.Dec.{eqb, ltb}
 use lib.ListN.{length}
@@ -29,7 +29,7 @@ use Rattle.bank.specs.StripLaws.{singly, listed, distinct-listed, members-liste
 use Rattle.bank.specs.Unchanged.{unchanged}
 use Rattle.bank.specs.declared.bank.Step.{Step}
 use Rattle.bank.specs.declared.bank.Step.the-variants.{Order, Send, Take, Ack, All, Note, Halt, Back, Write}
-use Rattle.agreement.specs.History.{World, rootOf, WatchesRoot, receivedAfter, awaitsAfter, told, run, Line, stepsOf, follow}
+use Rattle.agreement.specs.History.{World, rootOf, receivedAfter, awaitsAfter, told, run, Line, stepsOf, follow}
 use Rattle.agreement.specs.Agreement.{begin, AfterEveryList}
 use Rattle.agreement.specs.Returning.{Formed}
 use Rattle.agreement.proofs.Model as model
@@ -41,8 +41,8 @@ use Rattle.agreement.proofs.Standing.{Stands, Deliverable, Standing, fr
 use Rattle.agreement.proofs.Move.{Event, halts}
 use Rattle.agreement.proofs.Received as moves
 use Rattle.agreement.proofs.Bounded.{Bounded}
-use Rattle.agreement.proofs.BoundedKept.{bounded}
-use Rattle.agreement.proofs.BoundedRest.{fresh-bounded}
+use Rattle.agreement.proofs.BoundedKept.{bounded-kept}
+use Rattle.agreement.proofs.BoundedStill.{fresh-bounded}
 use Rattle.agreement.proofs.Received.{received-after, awaits-after}
 use Rattle.agreement.proofs.View.{view, modelOf, OneMove, event}
 use Rattle.agreement.proofs.Refining.{Refined, accepted-goes}
@@ -57,7 +57,7 @@ pub record Reached (w : World) : Type 0 where
   pub room : w .state .bank .count ≤ capacity
   pub invariant : Invariant (w .state .bank .tree) (modelOf (w .state) (w .orders))
   pub standing : Standing (w .state .bank .tree) (modelOf (w .state) (w .orders))
-  pub bounded : WatchesRoot w → Bounded (w .state .bank .tree) (modelOf (w .state) (w .orders))
+  pub bounded : Bounded (w .state .bank .tree) (modelOf (w .state) (w .orders))
   -- what a column holds is what it received last
   pub received-is : (i : ℕ) → columnAt (w .state .bank) i .number ≡ w .received i
   pub awaits-is : (q : ℕ) → has (columnAt (w .state .bank) (rootOf (w .state)) .awaited) q ≡ w .awaits q
@@ -102,7 +102,7 @@ start t ok heads doors h d = record {
   room = omega arith;
   invariant = fresh-invariant t (fresh-model t ok heads doors) below;
   standing = fresh-standing t below (fresh-model t ok heads doors);
-  bounded = λ _. fresh-bounded t below (fresh-model t ok heads doors);
+  bounded = fresh-bounded t below (fresh-model t ok heads doors);
   received-is = zero-number;
   awaits-is = λ q. ap (λ (c : Column). has (c .awaited) q) (fresh-at t ok (t .root) below) ∙ has-none q;
 }
@@ -135,7 +135,7 @@ module _ (w w' : World) (e : Event) (r : Reached w) (f : Refined (w .state) (w .
     room = f .room;
     invariant = subst (λ (u : Tree). Invariant u m') (sym (f .same-tree)) (kept (check-exact before .0 (r .tree)) (r .invariant) (f .move));
     standing = subst (λ (u : Tree). Standing u m') (sym (f .same-tree)) (standing-kept (check-exact before .0 (r .tree)) (r .invariant) (r .standing) (f .move));
-    bounded = subst (λ (u : Tree). u .watch ≡ false → Bounded u m') (sym (f .same-tree)) (λ o. bounded (check-exact before .0 (r .tree)) o (r .invariant) (r .bounded o) (f .move));
+    bounded = subst (λ (u : Tree). Bounded u m') (sym (f .same-tree)) (bounded-kept (check-exact before .0 (r .tree)) (r .invariant) (r .bounded) (f .move));
     received-is = λ i. received-after (r .invariant) (r .standing) (w .received) (r .received-is) (f .move) i ∙ sym (received i);
     awaits-is = λ q. ap (λ (u : Tree). has (columnAt (w' .state .bank) (u .root) .awaited) q) (f .same-tree)
         ∙ awaits-after (r .invariant) (w .awaits) (r .awaits-is) (f .move) q ∙ sym (awaits q);
@@ -178,7 +178,7 @@ written-kept w i offset value r =
       room = r .room;
       invariant = subst (Invariant t) same (r .invariant);
       standing = subst (Standing t) same (r .standing);
-      bounded = λ o. subst (Bounded t) same (r .bounded o);
+      bounded = subst (Bounded t) same (r .bounded);
       received-is = λ j. ap (λ (c : Column). c .number) (at j) ∙ r .received-is j;
       awaits-is = λ q. ap (λ (c : Column). has (c .awaited) q) (at (t .root)) ∙ r .awaits-is q;
     }

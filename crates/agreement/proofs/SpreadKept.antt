@@ -17,7 +17,7 @@ use Rattle.agreement.proofs.Members.{in-none, in-single, insert-cases, 
 use Rattle.agreement.proofs.Descendants.{Below}
 use Rattle.agreement.proofs.Invariant.{Invariant, Fresh, fresh-invariant}
 use Rattle.agreement.proofs.Keeping.{each}
-use Rattle.agreement.proofs.Bounded.{Spread}
+use Rattle.agreement.proofs.Spread.{Spread}
 use Rattle.agreement.proofs.Spreading.{child-not, spread-fewer, spread-children, spread-anew, spread-root}
 
 -- whoever is under a child of x is properly below x

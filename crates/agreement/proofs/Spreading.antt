@@ -12,7 +12,7 @@ use Rattle.column.specs.declared.state.Column.{Column}
 use Rattle.agreement.proofs.Model.{In, Empty}
 use Rattle.agreement.proofs.Descendants.{Below, children-inside, under-cases, under-root}
 use Rattle.agreement.proofs.Invariant.{Unserved}
-use Rattle.agreement.proofs.Bounded.{Spread}
+use Rattle.agreement.proofs.Spread.{Spread}
 
 module _ (t : Tree) (tree : IsTree t) where
   -- ---- above a child

@@ -1,5 +1,5 @@
 -- Sums of numbers over the columns below n. Assumes nothing.
-use Prim.Native.Nat.{ℕ, zero, suc, _+_, _-_, _*_, _≤_, _<_}
+use Prim.Native.Nat.{ℕ, zero, suc, _+_, _*_, _≤_, _<_}
 use native.Mathlib.Nat.{suc-mul}
 use native.Mathlib.Omega.{arith}
 use mathlib.Core.Path.{_≡_, refl, sym, ap, subst, _∙_}
@@ -104,9 +104,3 @@ pub square-one : (f : ℕ → ℕ → ℕ) (n x y d : ℕ) → x < n → y < n �
 square-one f n x y d lx ly h r = sum-one (λ p. sum (f p) n) n x d lx
     (sum-one (f x) n y d ly h (λ q e. r x q (λ _ z. e z)))
     (λ p e. sum-same (f p) (λ q. 0) n (λ q l. r p q (λ z _. e z)) ∙ sum-zero n)
-
--- at most d at equal numbers, and e at others
-pub square-most : (f : ℕ → ℕ → ℕ) (n d e : ℕ) → ((p : ℕ) → p < n → f p p ≤ d) → ((p q : ℕ) → p < n → q < n → q ≢ p → f p q ≤ e) →
-    square f n ≤ n * (n * e + d - e)
-square-most f n d e h r = sum-most (λ p. sum (f p) n) n (n * e + d - e)
-    (λ p l. omega (arith, sum-but (f p) n p d e l (h p l) (λ q k z. r p q l k z)))

@@ -6,6 +6,7 @@ use mathlib.Core.Logic.{_≢_, _⊎_, inl, inr}
 use mathlib.Core.Bool.{Bool, true, false, _&&_, cond}
 use mathlib.Core.List.{List, [], _∷_, _++_, List·Memᴰ·head, List·Memᴰ·tail}
 use lib.Dec.{eqb, ltb}
+use lib.ListN.{length}
 use borrow.Author.Tests.{eq-eqb, lt-ltb}
 use Rattle.column.specs.Cases.{compare-cases}
 use Rattle.column.specs.Sets.{has}
@@ -17,9 +18,14 @@ use Rattle.bank.specs.NetworkLaws.{others}
 use Rattle.agreement.proofs.Model.{State, post, Taken, first, later, Becomes}
 use Rattle.agreement.proofs.Network.{Holds}
 use Rattle.agreement.proofs.Keeping.{each}
-use Rattle.agreement.proofs.Tokens.{one, many, between, owes, tokens, any, stale, current, ahead}
+use Rattle.agreement.proofs.Tokens.{one, many, every, between, owes, tokens, any, stale, current, ahead}
 
 -- ---- packets counted
+
+pub many-every : (l : List Packet) → many every l ≡ length l
+unfolding many
+many-every [] = refl
+many-every (x ∷ l) = omega (arith, many-every l)
 
 module _ (g : Packet → Bool) where
   pub many-append : (l m : List Packet) → many g (l ++ m) ≡ many g l + many g m

@@ -18,6 +18,9 @@ unfoldable pub many : (Packet → Bool) → List Packet → ℕ
 many g [] = 0
 many g (x ∷ l) = one (g x) + many g l
 
+abbrev pub every : Packet → Bool
+every x = true
+
 -- a message p to q, or an acknowledgement q to p, with a number that passes f
 abbrev pub between : (ℕ → Bool) → ℕ → ℕ → Packet → Bool
 between f p q (Message from to k d) = eqb p from && (eqb q to && f k)

@@ -1,5 +1,6 @@
 -- Document 02, Point 2: "From any state reached from fresh by accepted steps, a bank of N columns rests within 9 times N squared less 5
--- times N steps (2,224 for 16)." Point 9: "the packet and step limits of Points 2 and 3 are for watch=root only".
+-- times N steps (2,224 for 16)." Point 9: "the packet and step limits of Points 2 and 3 are for watch=root only": the step limit holds whoever
+-- is watched.
 use Prim.Native.Nat.{ℕ, _-_, _*_, _≤_, _<_}
 use mathlib.Core.Path.{_≡_, refl}
 use mathlib.Core.Bool.{Bool, true, false, not, _&&_}
@@ -10,11 +11,15 @@ use Rattle.bank.specs.Rest.{isRefused, AtRest}
 use Rattle.bank.specs.Dispatch.{dispatched, dispatch}
 use Rattle.bank.specs.declared.bank.Step.{Step}
 use Rattle.bank.specs.declared.bank.Step.the-variants.{Order, Send, Take, Ack, All, Note, Halt, Back, Write}
-use Rattle.agreement.specs.History.{World, columnsOf, WatchesRoot, told, run, dispatching, follow}
+use Rattle.agreement.specs.History.{World, columnsOf, told, run, dispatching, follow}
 use Rattle.agreement.specs.Agreement.{AfterEveryList}
 
 abbrev pub stepsWithin : ℕ → ℕ
 stepsWithin n = 9 * (n * n) - 5 * n
+
+-- a lower limit: 9 times N times (N−1)
+abbrev pub stepBound : ℕ → ℕ
+stepBound n = 9 * (n * (n - 1))
 
 -- a step that is neither an order nor a halt nor a return nor a write
 abbrev pub isSettling : Step → Bool
@@ -37,15 +42,21 @@ unfoldable pub allAccepted : World → List Step → Bool
 allAccepted w [] = true
 allAccepted w (x ∷ xs) = not (isRefused (perform (w .state) x)) && allAccepted (told w x (perform (w .state) x)) xs
 
-pub record Settles (w : World) : Type 0 where
-  -- whichever steps are taken, and in whichever sequence
-  pub any-steps : WatchesRoot w → (xs : List Step) → allSettling xs ≡ true → allAccepted w xs ≡ true → length xs ≤ stepsWithin (columnsOf w)
+-- "rests within": whichever steps are taken, and in whichever sequence, they are no more than `most`; and so many of the dispatcher's lead to rest
+pub record RestsWithin (most : ℕ) (w : World) : Type 0 where
+  pub any-steps : (xs : List Step) → allSettling xs ≡ true → allAccepted w xs ≡ true → length xs ≤ most
   -- the dispatcher's
-  pub few : WatchesRoot w → (limit : ℕ) → length (dispatched limit (w .state)) ≤ stepsWithin (columnsOf w)
-  pub rests : WatchesRoot w → (limit : ℕ) → stepsWithin (columnsOf w) ≤ limit → AtRest (dispatch limit (w .state))
+  pub few : (limit : ℕ) → length (dispatched limit (w .state)) ≤ most
+  pub rests : (limit : ℕ) → most ≤ limit → AtRest (dispatch limit (w .state))
+
+pub record Settles (w : World) : Type 0 where
+  pub within : RestsWithin (stepsWithin (columnsOf w)) w
+  pub sooner : RestsWithin (stepBound (columnsOf w)) w
+  -- whoever chooses: where no such step is accepted any more, the bank is at rest
+  pub none-left : ((x : Step) → isSettling x ≡ true → isRefused (perform (w .state) x) ≡ true) → AtRest (w .state)
   -- "until rest, until the limit"
-  pub until : WatchesRoot w → (limit : ℕ) → length (dispatched limit (w .state)) < limit → AtRest (dispatch limit (w .state))
-  -- whoever is watched: they are a list of accepted steps, to which demand 3 applies
+  pub until : (limit : ℕ) → length (dispatched limit (w .state)) < limit → AtRest (dispatch limit (w .state))
+  -- they are a list of accepted steps, to which demand 3 applies
   pub steps-accepted : (limit : ℕ) → allAccepted w (dispatched limit (w .state)) ≡ true
   pub steps-lead : (limit : ℕ) → run w (dispatched limit (w .state)) .state ≡ dispatch limit (w .state)
   -- a line of a list that dispatches leads where the dispatch does
@@ -54,13 +65,12 @@ pub record Settles (w : World) : Type 0 where
 abbrev pub Rests : Type 0
 Rests = AfterEveryList Settles
 
--- "(2,224 for 16)", the most columns that a bank has: no more steps are accepted, whichever they are, and so many of the dispatcher's bring it to rest
-pub for-sixteen : stepsWithin 16 ≡ 2224
-for-sixteen = refl
-
-abbrev pub Few : World → Type 0
-Few w = WatchesRoot w
-    → ((xs : List Step) → allSettling xs ≡ true → allAccepted w xs ≡ true → length xs ≤ 2224) × AtRest (dispatch 2224 (w .state))
+-- "(2,224 for 16)", the most columns that a bank has; by the lower limit 2,160
+pub for-sixteen : (stepsWithin 16 ≡ 2224) × (stepBound 16 ≡ 2160)
+for-sixteen = (refl, refl)
 
 abbrev pub Within2224 : Type 0
-Within2224 = AfterEveryList Few
+Within2224 = AfterEveryList (RestsWithin 2224)
+
+abbrev pub Within2160 : Type 0
+Within2160 = AfterEveryList (RestsWithin 2160)

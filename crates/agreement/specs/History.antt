@@ -2,7 +2,6 @@
 -- are told from the list of steps and the answers. Of the bank are asked what the sentences name: the packet at a place and whether its receiver leaves it there, the
 -- root's number, whom it is to send to and whom it has noted, and who is the lowest that runs. What columns hold as awaited, and what record, is not asked.
 use Prim.Native.Nat.{ℕ, suc}
-use mathlib.Core.Path.{_≡_}
 use mathlib.Core.Bool.{Bool, true, false, not, _&&_, cond}
 use mathlib.Core.List.{List, [], _∷_}
 use lib.Dec.{eqb, ltb}
@@ -40,10 +39,6 @@ rootOf s = s .bank .tree .root
 
 abbrev pub columnsOf : World → ℕ
 columnsOf w = w .state .bank .tree .columns
-
--- document 02, Point 9: `watch=root`, or no word of it
-abbrev pub WatchesRoot : World → Type 0
-WatchesRoot w = w .state .bank .tree .watch ≡ false
 
 -- ---- the accepted orders
 

@@ -8,6 +8,7 @@ pub mod Limits
 pub mod Dispatching
 pub mod Returning
 pub mod DispatchRuns
+pub mod PacketRuns
 pub mod TurnRuns
 pub mod ReturnRuns
 pub mod Journals

@@ -94,14 +94,13 @@ ended-tree s m = dispatched-tree toRest (after (halt s m)) ∙ tree-kept s (Halt
 pub record Counting (t : Tree) : Type 0 where
   pub tree : treeRefusal t ≡ 0
   pub few : t .columns ≤ mostColumns
-  pub by-root : t .watch ≡ false
 
 pub counting : (t : Tree) → lossesRefusal t ≡ 0 → Counting t
 unfolding lossesRefusal
 counting t e =
     let q = earlier-none (treeRefusal t) (first (lossesConditions t)) e in
     let p = passed (lossesConditions t) tt (q .1) in
-    record { tree = q .0; few = ltb-false mostColumns (t .columns) (p .0); by-root = p .1 .0 }
+    record { tree = q .0; few = ltb-false mostColumns (t .columns) (p .0) }
 
 -- "23 for more than 8 columns or for watch=sender, after the table's own", and for nothing else
 module _ (t : Tree) where

@@ -4,23 +4,16 @@ use native.Mathlib.Omega.{arith}
 use mathlib.Core.Path.{_≡_, refl, sym, _∙_}
 use mathlib.Core.Logic.{_≢_, _⊎_, ⊎-elim, inl, inr}
 use mathlib.Core.Bool.{Bool, true, false}
-use mathlib.Core.List.{List}
 use lib.Dec.{eqb, ltb}
 use borrow.Author.Tests.{eqb-true, ltb-true, lt-ltb}
 use Rattle.column.specs.declared.tree.Tree.{Tree}
 use Rattle.column.specs.declared.state.Column.{Column}
-use Rattle.column.specs.declared.packet.Packet.{Packet}
-use Rattle.agreement.proofs.Model.{In, State, Runs, count, Becomes}
+use Rattle.agreement.proofs.Model.{In, State, Runs, count}
 use Rattle.agreement.proofs.Descendants.{Below}
-use Rattle.agreement.proofs.Keeping.{each}
 use Rattle.agreement.proofs.Tokens.{one, tokens, any, stale, current, ahead}
 use Rattle.agreement.proofs.TokenLaws.{tokens-under, tokens-split}
-use Rattle.agreement.proofs.Bounded.{ToServe, to-send, to-await, Paired, Bounded}
-
--- ---- a running column has two tokens with another at most
-
-pub paired-two : {t : Tree} {s : State} {p q : ℕ} {c : Column} → Paired t s p c q → tokens any s p q ≤ 2
-paired-two {t} {s} {p} {q} {c} k = omega (arith, tokens-split (c .number) s p q, k .one-stale, k .one-current, k .none-ahead)
+use Rattle.agreement.proofs.Spread.{ToServe, to-send, to-await}
+use Rattle.agreement.proofs.Bounded.{PairTokens}
 
 -- ---- column p becomes c' and keeps its number
 
@@ -37,16 +30,16 @@ pub record Carries (t : Tree) (s s' : State) (p : ℕ) (c c' : Column) (q : ℕ)
       (ToServe t c q × (c .whole ≡ true → c' .whole ≡ true)) ⊎ ((c' .whole ≡ true) × (p ≢ t .root) × Below t p q)
 
 module _ {t : Tree} {s s' : State} {p q : ℕ} {c c' : Column} where
-  pub carry : Halts t s s' → ((f : ℕ → Bool) → tokens f s' p q ≤ tokens f s p q) → Carries t s s' p c c' q → Paired t s p c q → Paired t s' p c' q
+  pub carry : Halts t s s' → ((f : ℕ → Bool) → tokens f s' p q ≤ tokens f s p q) → Carries t s s' p c c' q → PairTokens t s p c q → PairTokens t s' p c' q
   carry halts falls k old = record {
     none-ahead = rw (k .same) (omega (arith, old .none-ahead, falls (ahead (c .number))));
     one-current = rw (k .same) (omega (arith, old .one-current, falls (current (c .number))));
     current-held = rw (k .same) (λ h. ⊎-elim (k .holds h) (λ m. inr (k .notes m)) (old .current-held (before h)));
-    one-stale = rw (k .same) (omega (arith, old .one-stale, falls (stale (c .number))));
-    stale-held = rw (k .same) (λ h. ⊎-elim
+    one-stale = rw (k .same) (λ n. omega (arith, old .one-stale n, falls (stale (c .number))));
+    stale-held = rw (k .same) (λ n h. ⊎-elim
         (λ z. inl (k .notes (z .0), omega (arith, z .1, falls (current (c .number)))))
         (λ z. inr (halts (z .0) .0, z .1 ∙ sym (halts (z .0) .1)))
-        (old .stale-held (omega (arith, h, falls (stale (c .number))))));
+        (old .stale-held n (omega (arith, h, falls (stale (c .number))))));
     current-own = rw (k .same) (λ h w. old .current-own (before h) (k .goal w));
     current-served = λ h w.
         let h' : 0 < tokens (current (c .number)) s p q = before (rw (k .same) at h) in
@@ -94,59 +87,38 @@ one-any : (b : Bool) → one b ≤ one true
 one-any true = omega arith
 one-any false = omega arith
 
-module _ {t : Tree} {s s' : State} {p q : ℕ} {c c' : Column} where
-  pub rise : ((f : ℕ → Bool) → tokens f s' p q ≤ tokens f s p q) → c .number < c' .number →
-      (In (c .noted) q → In (c' .noted) q) → ((¬ Runs s (t .root)) → c .number ≡ count s → ⊥) →
-      (In (c .awaited) q → (¬ Runs s' (t .root)) × (c' .number ≡ count s')) → Paired t s p c q → Paired t s' p c' q
-  rise falls less notes last awaits old = record {
-    none-ahead = omega (arith, falls (ahead n), tokens-under (ahead n) (ahead m) (ahead-ahead m n less) s p q, old .none-ahead);
-    one-current = omega (arith, no-current);
-    current-held = λ h. absurd (omega (arith, h, no-current));
-    one-stale = omega (arith, old-tokens, mixed);
-    stale-held = λ h. ⊎-elim (λ z. inl (notes z, no-current)) (λ z. inr z) (held (omega (arith, h, old-tokens)));
-    current-own = λ h. absurd (omega (arith, h, no-current));
-    current-served = λ h. absurd (omega (arith, h, no-current));
+pub zero-cases : (x : ℕ) → (x ≡ 0) ⊎ (0 < x)
+zero-cases zero = inl refl
+zero-cases (suc x) = inr (omega arith)
+
+module _ {t : Tree} {s : State} (s' : State) {p q : ℕ} {c : Column} (c' : Column) (falls : (f : ℕ → Bool) → tokens f s' p q ≤ tokens f s p q)
+    (less : c .number < c' .number) (old : PairTokens t s p c q) where
+  pub risen-current : tokens (current (c' .number)) s' p q ≡ 0
+  risen-current = omega (arith, falls (current (c' .number)), tokens-under (current (c' .number)) (ahead (c .number)) (current-ahead (c .number) (c' .number) less) s p q, old .none-ahead)
+
+  pub risen-stale : tokens (stale (c' .number)) s' p q ≤ tokens (stale (c .number)) s p q + tokens (current (c .number)) s p q
+  risen-stale = omega (arith, falls (stale (c' .number)), tokens-under (stale (c' .number)) any (λ k. one-any (stale (c' .number) k)) s p q, tokens-split (c .number) s p q, old .none-ahead)
+
+  pub rise : (In (c .noted) q → In (c' .noted) q) → ((¬ Runs s (t .root)) → c .number ≡ count s → ⊥) →
+      (q ≢ t .root → In (c .awaited) q → (¬ Runs s' (t .root)) × (c' .number ≡ count s')) → PairTokens t s' p c' q
+  rise notes last awaits = record {
+    none-ahead = omega (arith, falls (ahead (c' .number)), tokens-under (ahead (c' .number)) (ahead (c .number)) (ahead-ahead (c .number) (c' .number) less) s p q, old .none-ahead);
+    one-current = omega (arith, risen-current);
+    current-held = λ h. absurd (omega (arith, h, risen-current));
+    one-stale = λ x. omega (arith, risen-stale, mixed x);
+    stale-held = λ x h. ⊎-elim (λ z. inl (notes z, risen-current)) (λ z. inr z) (held x (omega (arith, h, risen-stale)));
+    current-own = λ h. absurd (omega (arith, h, risen-current));
+    current-served = λ h. absurd (omega (arith, h, risen-current));
   }
     where
-      m : ℕ
-      m = c .number
+      noted : q ≢ t .root → 0 < tokens (stale (c .number)) s p q → In (c .noted) q × (tokens (current (c .number)) s p q ≡ 0)
+      noted x h = ⊎-elim (λ z. z) (λ z. absurd (last (z .0) (z .1))) (old .stale-held x h)
 
-      n : ℕ
-      n = c' .number
+      mixed : q ≢ t .root → tokens (stale (c .number)) s p q + tokens (current (c .number)) s p q ≤ 1
+      mixed x = ⊎-elim (λ z. omega (arith, z, old .one-current)) (λ h. omega (arith, noted x h .1, old .one-stale x)) (zero-cases (tokens (stale (c .number)) s p q))
 
-      no-current : tokens (current n) s' p q ≡ 0
-      no-current = omega (arith, falls (current n), tokens-under (current n) (ahead m) (current-ahead m n less) s p q, old .none-ahead)
-
-      old-tokens : tokens (stale n) s' p q ≤ tokens (stale m) s p q + tokens (current m) s p q
-      old-tokens = omega (
-        arith,
-        falls (stale n),
-        tokens-under (stale n) any (λ k. one-any (stale n k)) s p q,
-        tokens-split m s p q,
-        old .none-ahead,
-      )
-
-      cases : (x : ℕ) → (x ≡ 0) ⊎ (0 < x)
-      cases zero = inl refl
-      cases (suc x) = inr (omega arith)
-
-      noted : 0 < tokens (stale m) s p q → In (c .noted) q × (tokens (current m) s p q ≡ 0)
-      noted h = ⊎-elim (λ z. z) (λ z. absurd (last (z .0) (z .1))) (old .stale-held h)
-
-      mixed : tokens (stale m) s p q + tokens (current m) s p q ≤ 1
-      mixed = ⊎-elim (λ z. omega (arith, z, old .one-current)) (λ h. omega (arith, noted h .1, old .one-stale)) (cases (tokens (stale m) s p q))
-
-      held : 0 < tokens (stale m) s p q + tokens (current m) s p q →
-          In (c .noted) q ⊎ ((¬ Runs s' (t .root)) × (n ≡ count s'))
-      held h = ⊎-elim
-          (λ z. ⊎-elim (λ w. inr (awaits w)) (λ w. inl w) (old .current-held (omega (arith, z, h))))
-          (λ z. inl (noted z .0)) (cases (tokens (stale m) s p q))
-
--- ---- all pairs
-
-module _ {t : Tree} {s s' : State} {a : ℕ} {c : Column} {network : List Packet} {orders : List ℕ} (b : Becomes s s' a c network orders)
-    (old : Bounded t s) (halts : Halts t s s')
-    (falls : (f : ℕ → Bool) (p q : ℕ) → p ≢ a → tokens f s' p q ≤ tokens f s p q) where
-  pub pairs-become : ((q : ℕ) → c .running ≡ true → Paired t s' a c q) → (p q : ℕ) → Runs s' p → Paired t s' p (s' .columns p) q
-  pairs-become mine = each b (λ (p : ℕ) (x : Column). (q : ℕ) → x .running ≡ true → Paired t s' p x q) mine
-      (λ p n q h. carry halts (λ f. falls f p q n) (fewer refl (λ y m. m) (λ y m. m) refl (λ z m. inl m) (λ m. m)) (old .pairs p q h))
+      held : q ≢ t .root → 0 < tokens (stale (c .number)) s p q + tokens (current (c .number)) s p q →
+          In (c .noted) q ⊎ ((¬ Runs s' (t .root)) × (c' .number ≡ count s'))
+      held x h = ⊎-elim
+          (λ z. ⊎-elim (λ w. inr (awaits x w)) (λ w. inl w) (old .current-held (omega (arith, z, h))))
+          (λ z. inl (noted x z .0)) (zero-cases (tokens (stale (c .number)) s p q))

@@ -1,26 +1,24 @@
--- A bank in which nothing is under way, nobody serves or owes anybody, and all that run have one number has the bounds: the fresh bank,
--- and every bank at rest. Assumes nothing.
+-- A bank in which nothing is under way, nobody serves or owes anybody, and all that run have one number: the fresh bank, every bank at rest,
+-- and every bank after a return (document 02, Point 7). Assumes nothing.
 use Prim.Native.Nat.{ℕ, _<_}
 use native.Mathlib.Omega.{arith}
 use mathlib.Core.Path.{_≡_, refl, sym, ap, subst, _∙_}
-use mathlib.Core.Logic.{⊎-elim, inl, inr}
+use mathlib.Core.Logic.{⊎-elim}
 use mathlib.Core.Bool.{Bool, true, false, _&&_}
-use mathlib.Core.List.{List, []}
+use mathlib.Core.List.{[]}
 use Rattle.column.specs.Cases.{truth}
 use Rattle.column.specs.Trees.{IsTree}
 use Rattle.column.specs.Columns.{fresh}
+use Rattle.column.specs.Returns.{rejoined, struck}
 use Rattle.column.specs.declared.tree.Tree.{Tree}
 use Rattle.column.specs.declared.state.Column.{Column}
-use Rattle.column.specs.declared.packet.Packet.{Packet}
-use Rattle.column.specs.declared.packet.Packet.the-variants.{Acknowledgement}
 use Rattle.agreement.proofs.Model.{In, Empty, State, Runs}
-use Rattle.agreement.proofs.Move.{Idle, Rest}
+use Rattle.agreement.proofs.Move.{Idle, Rest, Returns}
 use Rattle.agreement.proofs.Members.{absent, in-none}
-use Rattle.agreement.proofs.Network.{Holds, holds-none}
 use Rattle.agreement.proofs.Invariant.{number, Unserved, Invariant, Fresh, fresh-invariant}
+use Rattle.agreement.proofs.BackRests.{returned-each}
 use Rattle.agreement.proofs.Rest.{none-awaited, none-owed, rest-agrees}
-use Rattle.agreement.proofs.Tokens.{one, many, between, owes, tokens, any, stale, current, ahead}
-use Rattle.agreement.proofs.Bounded.{done, idle-at, Bounded}
+use Rattle.agreement.proofs.Tokens.{one, many, between, owes, tokens}
 
 -- nothing is left to do but to note and to take over
 pub record Still (s : State) : Type 0 where
@@ -30,7 +28,7 @@ pub record Still (s : State) : Type 0 where
   pub agree : (i j : ℕ) → Runs s i → Runs s j → number s i ≡ number s j
 
 module _ (t : Tree) {s : State} (f : Still s) where
-  no-tokens : (g : ℕ → Bool) (p q : ℕ) → tokens g s p q ≡ 0
+  pub no-tokens : (g : ℕ → Bool) (p q : ℕ) → tokens g s p q ≡ 0
   unfolding many
   no-tokens g p q = omega (arith, ap (many (between g p q)) (f .no-packet), ⊎-elim runs stopped (truth (s .columns q .running)))
     where
@@ -46,40 +44,16 @@ module _ (t : Tree) {s : State} (f : Still s) where
       stopped : s .columns q .running ≡ false → one (owes g p (s .columns q)) ≡ 0
       stopped r = rw r refl
 
-  nobody : (i : ℕ) → Runs s i → {q : ℕ} → Unserved (s .columns i) q → ⊥
+  pub nobody : (i : ℕ) → Runs s i → {q : ℕ} → Unserved (s .columns i) q → ⊥
   nobody i h {q} u = ⊎-elim (f .idle i h .0 q) (f .idle i h .1 q) u
 
-  none-held : (g : ℕ → Bool) (p q : ℕ) → 0 < tokens g s p q → ⊥
+  pub none-held : (g : ℕ → Bool) (p q : ℕ) → 0 < tokens g s p q → ⊥
   none-held g p q h = omega (arith, h, no-tokens g p q)
-
-  pub still-bounded : Bounded t s
-  still-bounded = record {
-    spreads = λ i h. record {
-      disjoint = λ q m n. nobody i h (inl m);
-      antichain = λ q r u v. absurd (nobody i h u);
-      outside = λ w n q u. absurd (nobody i h u);
-    };
-    calm = λ _. record {
-      lagging = λ i h. inr (f .idle i h);
-      descending = λ i h p r b. done (idle-at (f .agree p i r h) (f .idle p r));
-      acknowledged = λ x y k m. absurd (holds-none (subst (λ (l : List Packet). Holds l (Acknowledgement x y k)) (f .no-packet) m));
-    };
-    pairs = λ p q h. record {
-      none-ahead = no-tokens (ahead (number s p)) p q;
-      one-current = omega (arith, no-tokens (current (number s p)) p q);
-      current-held = λ z. absurd (none-held (current (number s p)) p q z);
-      one-stale = omega (arith, no-tokens (stale (number s p)) p q);
-      stale-held = λ z. absurd (none-held (stale (number s p)) p q z);
-      current-own = λ z. absurd (none-held (current (number s p)) p q z);
-      current-served = λ z. absurd (none-held (current (number s p)) p q z);
-    };
-    two = λ p q. omega (arith, no-tokens any p q);
-  }
 
 -- ---- the fresh bank
 
-pub fresh-bounded : (t : Tree) {s : State} → t .root < t .columns → Fresh t s → Bounded t s
-fresh-bounded t {s} below f = still-bounded t record {
+pub fresh-still : (t : Tree) {s : State} → t .root < t .columns → Fresh t s → Still s
+fresh-still t {s} below f = record {
   no-packet = f .no-packet;
   idle = λ i h. (λ q m. in-none (set i h (λ (c : Column). In (c .send) q) m), λ q m. in-none (set i h (λ (c : Column). In (c .awaited) q) m));
   owes-nobody = λ i h q m. in-none (set i h (λ (c : Column). In (c .owed) q) m);
@@ -107,3 +81,21 @@ rest-still t tree {s} inv rest = record {
   where
     idle : (i : ℕ) → Runs s i → Idle (s .columns i)
     idle i h = (rest .no-send i h, none-awaited t tree inv rest i h)
+
+-- ---- a halted column comes back to a bank at rest
+
+module _ {t : Tree} {s s' : State} {j l noted sender : ℕ} {whole : Bool} (b : Returns t s s' j (rejoined (s .columns j) (s .columns l) noted whole sender)) where
+  each : (P : Column → Type 0) → P (rejoined (s .columns j) (s .columns l) noted whole sender) → ((i : ℕ) → P (struck (s .columns i) j)) → ((i : ℕ) → P (s .columns i))
+      → (i : ℕ) → P (s' .columns i)
+  each P h f g = returned-each b (λ (i : ℕ) (c : Column). P c) h (λ i _ _. f i) (λ i _ _. g i)
+
+  pub still-returned : Still s → Runs s l → Still s'
+  still-returned f r = record {
+    no-packet = b .packets ∙ f .no-packet;
+    idle = each (λ (c : Column). c .running ≡ true → Idle c) (λ _. (λ q m. in-none m, λ q m. in-none m)) (λ i. f .idle i) (λ i. f .idle i);
+    owes-nobody = each (λ (c : Column). c .running ≡ true → Empty (c .owed)) (λ _ q m. in-none m) (λ i. f .owes-nobody i) (λ i. f .owes-nobody i);
+    agree = λ i k h z. as-before i h ∙ sym (as-before k z);
+  }
+    where
+      as-before : (i : ℕ) → Runs s' i → number s' i ≡ number s l
+      as-before = each (λ (c : Column). c .running ≡ true → c .number ≡ number s l) (λ _. refl) (λ i h. f .agree i l h r) (λ i h. f .agree i l h r)
