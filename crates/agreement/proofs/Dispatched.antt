@@ -29,6 +29,7 @@ use Rattle.agreement.proofs.View.{modelOf, OneMove, event}
 use Rattle.agreement.proofs.Perform.{refines}
 use Rattle.agreement.proofs.Reached.{Reached, after-every, next, reached, reached-stands}
 use Rattle.agreement.proofs.Limits.{reached-room}
+use Rattle.agreement.proofs.RestRefuses.{rest-refuses}
 
 -- ---- the potential of a bank with its past
 
@@ -232,7 +233,7 @@ module _ (w : World) (r : Reached w) where
   settles = record {
     within = within (stepsWithin (columnsOf w)) (left-within w r);
     sooner = within (stepBound (columnsOf w)) (left-most w r);
-    none-left = λ h. stopped-rests w r (h (turn (w .state)) (settling-turn (w .state)));
+    none-left = (λ h. stopped-rests w r (h (turn (w .state)) (settling-turn (w .state))), rest-refuses (w .state));
     until = until;
     steps-accepted = λ limit. accepted-dispatched limit w;
     steps-lead = λ limit. lead limit w;

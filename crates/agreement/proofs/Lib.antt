@@ -65,6 +65,7 @@ pub mod Limits
 pub mod RestQuiet
 mod Away
 pub mod Returned
+mod RestRefuses
 pub mod Dispatched
 mod Lines
 mod Logged

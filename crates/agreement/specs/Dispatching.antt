@@ -3,6 +3,7 @@
 -- is watched.
 use Prim.Native.Nat.{ℕ, _-_, _*_, _≤_, _<_}
 use mathlib.Core.Path.{_≡_, refl}
+use mathlib.Core.Logic.{_↔_}
 use mathlib.Core.Bool.{Bool, true, false, not, _&&_}
 use mathlib.Core.List.{List, [], _∷_}
 use lib.ListN.{length}
@@ -52,8 +53,8 @@ pub record RestsWithin (most : ℕ) (w : World) : Type 0 where
 pub record Settles (w : World) : Type 0 where
   pub within : RestsWithin (stepsWithin (columnsOf w)) w
   pub sooner : RestsWithin (stepBound (columnsOf w)) w
-  -- whoever chooses: where no such step is accepted any more, the bank is at rest
-  pub none-left : ((x : Step) → isSettling x ≡ true → isRefused (perform (w .state) x) ≡ true) → AtRest (w .state)
+  -- whoever chooses: the bank is at rest exactly where no such step is accepted any more
+  pub none-left : ((x : Step) → isSettling x ≡ true → isRefused (perform (w .state) x) ≡ true) ↔ AtRest (w .state)
   -- "until rest, until the limit"
   pub until : (limit : ℕ) → length (dispatched limit (w .state)) < limit → AtRest (dispatch limit (w .state))
   -- they are a list of accepted steps, to which demand 3 applies

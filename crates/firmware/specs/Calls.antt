@@ -9,6 +9,7 @@ use Rattle.column.specs.Trees.{treeRefusal}
 use Rattle.column.specs.Columns.{freshGiven}
 use Rattle.column.specs.Packets.{lowValue, doorsSize, wide, messageSize, Part, Wrote, wroteNone, read, write, padded}
 use Rattle.column.specs.Pages.{readByte, lineUp}
+use Rattle.column.specs.Pages as page
 use Rattle.column.specs.Steps as core
 use Rattle.column.specs.declared.tree.Tree.{Tree}
 use Rattle.column.specs.declared.state.Column.{Column}
@@ -158,6 +159,10 @@ stepSizes tree column put = blockSizes tree column && eqb put packetSize
 unfoldable pub stepCall : (Tree → ℕ → Column → core.Result) → List ℕ → ℕ → List ℕ → List ℕ → Called
 stepCall step tree i column put =
     cond (stepSizes (length tree) (length column) (length put)) (stepLeft (step (treeIn tree) i (columnIn column)) column put) (uncalled otherSize column put)
+
+-- a byte is written to the column's page
+abbrev pub writeCall : List ℕ → ℕ → List ℕ → ℕ → ℕ → List ℕ → Called
+writeCall tree i column offset value put = stepCall (λ t j c. page.write t j c offset value) tree i column put
 
 -- an order's doors are a block of eight bytes
 unfoldable pub orderCall : List ℕ → ℕ → List ℕ → List ℕ → List ℕ → Called

@@ -12,7 +12,7 @@ use Rattle.column.specs.Pages as page
 use Rattle.column.specs.PageExact.{read-above, read-within, write-elsewhere, write-mask, write-clear}
 use Rattle.column.specs.declared.state.Column.{Column}
 use Rattle.firmware.specs.Blocks.{treeIn, columnIn, columnBytes, blockSizes}
-use Rattle.firmware.specs.Calls.{byteCall, called, stepSizes, stepCall}
+use Rattle.firmware.specs.Calls.{byteCall, called, stepSizes, stepCall, writeCall}
 
 module _ (tree : List ℕ) (i : ℕ) (column : List ℕ) (good : standing (treeIn tree) i (columnIn column) ≡ 0) where
   abbrev here : Column
@@ -31,19 +31,19 @@ module _ (tree : List ℕ) (i : ℕ) (column : List ℕ) (good : standing (treeI
   module _ (put : List ℕ) (sizes : stepSizes (length tree) (length column) (length put) ≡ true) where
     -- "or a write elsewhere": every lent byte is as it was
     pub elsewhere-called : (offset value : ℕ) → (offset ≡ 5 → ⊥) → (offset ≡ 7 → ⊥)
-        → stepCall (λ t j c. page.write t j c offset value) tree i column put ≡ called 1022 column put
+        → writeCall tree i column offset value put ≡ called 1022 column put
     unfolding stepCall
     elsewhere-called offset value h k = rw (sizes, write-elsewhere (treeIn tree) i here good offset value h k)
 
     -- "Byte 5 keeps all eight bits written"
     pub mask-called : (value : ℕ)
-        → stepCall (λ t j c. page.write t j c 5 value) tree i column put ≡ called 0 (columnBytes (withRegisters here value (here .pending))) (padded [])
+        → writeCall tree i column 5 value put ≡ called 0 (columnBytes (withRegisters here value (here .pending))) (padded [])
     unfolding stepCall
     mask-called value = rw (sizes, write-mask (treeIn tree) i here good value)
 
     -- "a write there clears the pending bits that are 1 in it"
     pub clear-called : (value : ℕ)
-        → stepCall (λ t j c. page.write t j c 7 value) tree i column put
+        → writeCall tree i column 7 value put
         ≡ called 0 (columnBytes (withRegisters here (here .mask) (minus (here .pending) value))) (padded [])
     unfolding stepCall
     clear-called value = rw (sizes, write-clear (treeIn tree) i here good value)

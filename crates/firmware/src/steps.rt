@@ -30,10 +30,9 @@ ghost use Prim.Native.Nat.{_≤_};
 ghost use mathlib.Core.Path.{_≡_};
 ghost use lib.ListN.{length};
 ghost use Rattle.column.specs.Packets.{write as Packets·write};
-ghost use Rattle.column.specs.Pages.{write as core·page};
 ghost use Rattle.column.specs.Steps.{meant, send as core·send, ack as core·ack, all as core·all, note as core·note, halt as core·halt};
 ghost use Rattle.firmware.specs.Blocks.{columnSize};
-ghost use Rattle.firmware.specs.Calls.{packetSize, leftInPlace, called, packetPut, stepLeft, stepSizes, stepCall, orderCall, takeCall};
+ghost use Rattle.firmware.specs.Calls.{packetSize, leftInPlace, called, packetPut, stepLeft, stepSizes, stepCall, writeCall, orderCall, takeCall};
 ghost use Rattle.firmware.specs.CallLaws.{stepOf};
 
 // What is left where no packet is to be put.
@@ -219,7 +218,7 @@ pub extern "C" fn mudasgup_page_write(
     value: u8,
     put: &mut [u8],
 ) -> usize
-    ensures { λ r. ⌜ called r (now (column .exit)) (now (put .exit)) ≡ stepCall (λ t i c. core·page t i c offset value) (now (tree .entry)) i (now (column .entry)) (now (put .entry)) ⌝ }
+    ensures { λ r. ⌜ called r (now (column .exit)) (now (put .exit)) ≡ writeCall (now (tree .entry)) i (now (column .entry)) offset value (now (put .entry)) ⌝ }
 {
     stepped(LoneStep::Write(offset, value), tree, i, column, put)
 }
