@@ -4,7 +4,7 @@ use mathlib.Core.Path.{_≡_}
 use mathlib.Core.List.{List}
 use mathlib.Core.Bool.{Bool, not, _&&_, _||_}
 use lib.Dec.{eqb, leb, ltb}
-use Rattle.column.specs.Sets.{has}
+use Rattle.column.specs.Sets.{has, join}
 use Rattle.bank.specs.Banks.{State, state, runningOf, packetAt, columnStands, packetStands, bankRefusal, actingRefusal}
 use Rattle.bank.specs.declared.bank.Bank.{Bank}
 use Rattle.bank.specs.declared.survey.Surveyed.{Surveyed}
@@ -15,6 +15,13 @@ unfoldable pub endsStand : ℕ → ℕ → Bool → ℕ → Bool
 endsStand columns root watch head =
     ltb (receiverIn head) columns
     && ((ltb (senderIn head) columns && not (eqb (senderIn head) (receiverIn head)))
+    && (leb acknowledging head || (not (eqb (receiverIn head) root) || watch)))
+
+-- the same but for what the columns' count and who runs tell
+unfoldable pub pairStands : ℕ → Bool → ℕ → Bool
+pairStands root watch head =
+    ltb (join (senderIn head) (receiverIn head)) 16
+    && (not (eqb (senderIn head) (receiverIn head))
     && (leb acknowledging head || (not (eqb (receiverIn head) root) || watch)))
 
 unfoldable pub headStands : ℕ → ℕ → Bool → ℕ → ℕ → Bool

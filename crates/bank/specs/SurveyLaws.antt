@@ -1,25 +1,25 @@
 -- What the two passes of a survey gather is what row 4 asks of each column and of each packet; and what who runs tells of a set. Assumes nothing.
-use Prim.Native.Nat.{ℕ, _<_, _^_}
+use Prim.Native.Nat.{ℕ, _≤_, _<_, _^_}
 use mathlib.Core.Path.{_≡_, refl, sym, ap, ap₂, _∙_}
-use mathlib.Core.Logic.{_⊎_, inl, inr}
+use mathlib.Core.Logic.{_⊎_, inl, inr, ⊎-elim}
 use mathlib.Core.Bool.{Bool, true, false, not, _&&_, _||_, cond, true≢false}
 use native.Mathlib.Omega.{arith}
-use lib.Bits.{xor-lt}
-use lib.Dec.{eqb, ltb}
+use lib.Bits.{bitOr, xor-lt, and-le-l, and-le-r, or-add-and}
+use lib.Dec.{eqb, leb, ltb}
 use lib.Pow.{pow-pos}
-use borrow.Author.Tests.{eq-eqb, ne-eqb, lt-leb, ltb-true}
+use borrow.Author.Tests.{eq-eqb, ne-eqb, lt-leb, lt-ltb, ltb-true, ltb-false}
 use Rattle.column.specs.Cases.{truth, equal-cases, and-left}
-use Rattle.column.specs.Sets.{has, join, insert, minus, whole, within}
-use Rattle.column.specs.SetLaws.{has-none, has-join, has-insert, has-minus, join-lt, insert-lt, same-members, selected-lt, selected-has, within-join}
+use Rattle.column.specs.Sets.{has, single, join, insert, minus, whole, within}
+use Rattle.column.specs.SetLaws.{has-none, has-above, has-join, has-single, has-insert, has-minus, single-lt, join-lt, insert-lt, within-lt, lt-within, within-join, member-lt, same-members, selected-lt, selected-has}
 use Rattle.column.specs.SequenceLaws.{whole-has}
 use Rattle.column.specs.Columns.{stateRefusal}
 use Rattle.column.specs.Trees.{every}
 use Rattle.column.specs.TreeLaws.{every-at, every-all}
 use Rattle.column.specs.declared.tree.Tree.{Tree}
 use Rattle.column.specs.declared.state.Column.{Column}
-use Rattle.bank.specs.Words.{receiverIn}
+use Rattle.bank.specs.Words.{acknowledging, receiverIn, senderIn}
 use Rattle.bank.specs.Banks.{runs, runningOf, haltedOf}
-use Rattle.bank.specs.Standing.{endsStand, headStands}
+use Rattle.bank.specs.Standing.{endsStand, pairStands, headStands}
 use Rattle.bank.specs.StandingLaws.{not-below}
 use Rattle.bank.specs.declared.bank.Bank.{Bank}
 
@@ -145,6 +145,79 @@ covers-insert k r m i hm hr hi = go (truth (has r i))
     go (inr e) =
         ne-eqb (join (insert m i) r) r (λ p. true≢false (sym (member i ∙ rw (eq-eqb i i refl, or-true (has m i))) ∙ ap (λ (x : ℕ). has x i) p ∙ e))
         ∙ sym (and-false (eqb (join m r) r)) ∙ ap (λ (x : Bool). eqb (join m r) r && x) (sym e)
+
+-- ---- packets, gathered
+
+or-below : (a b : ℕ) → bitOr a b < 16 → (a < 16) × (b < 16)
+or-below a b h = (omega (arith, or-add-and a b, and-le-r a b), omega (arith, or-add-and a b, and-le-l a b))
+
+pub pair-below : (root : ℕ) (watch : Bool) (head : ℕ) → pairStands root watch head ≡ true → (senderIn head < 16) × (receiverIn head < 16)
+unfolding pairStands
+pair-below root watch head e =
+    or-below (senderIn head) (receiverIn head)
+    (ltb-true (join (senderIn head) (receiverIn head)) 16 (and-left (ltb (join (senderIn head) (receiverIn head)) 16) _ e))
+
+-- what is left to test of a packet, where none but columns run
+pub head-pair : (columns root : ℕ) (watch : Bool) (running head : ℕ) → columns ≤ 16 → running < 2 ^ columns
+    → headStands columns root watch running head ≡ (pairStands root watch head && (ltb (senderIn head) columns && has running (receiverIn head)))
+unfolding headStands pairStands
+head-pair columns root watch running head few lt = go (ltb (receiverIn head) columns) (ltb (senderIn head) columns) refl refl
+  where
+    apart : Bool
+    apart = not (eqb (senderIn head) (receiverIn head))
+
+    allowed : Bool
+    allowed = leb acknowledging head || (not (eqb (receiverIn head) root) || watch)
+
+    none : (a b : Bool) → false ≡ (a && (b && false))
+    none true true = refl
+    none true false = refl
+    none false b = refl
+
+    nobody : (a : Bool) → false ≡ (a && false)
+    nobody true = refl
+    nobody false = refl
+
+    go : (a b : Bool) → ltb (receiverIn head) columns ≡ a → ltb (senderIn head) columns ≡ b
+        → (a && (((b && apart) && allowed) && has running (receiverIn head)))
+        ≡ ((ltb (join (senderIn head) (receiverIn head)) 16 && (apart && allowed)) && (b && has running (receiverIn head)))
+    go true true to from =
+        let t : receiverIn head < 16 = omega (arith, ltb-true (receiverIn head) columns to) in
+        let f : senderIn head < 16 = omega (arith, ltb-true (senderIn head) columns from) in
+        rw (lt-ltb (join (senderIn head) (receiverIn head)) 16 (join-lt 4 (senderIn head) (receiverIn head) f t))
+    go true false to from = nobody (ltb (join (senderIn head) (receiverIn head)) 16 && (apart && allowed))
+    go false b to from =
+        rw (has-above columns running (receiverIn head) lt (ltb-false (receiverIn head) columns to))
+        (none (ltb (join (senderIn head) (receiverIn head)) 16 && (apart && allowed)) b)
+
+within-single : (i n : ℕ) → within (single i) n ≡ ltb i n
+within-single i n = go (ltb i n) refl
+  where
+    go : (b : Bool) → ltb i n ≡ b → within (single i) n ≡ b
+    go true e = lt-within (single i) n (single-lt (ltb-true i n e))
+    go false e =
+        ⊎-elim
+        (λ t. absurd (omega (arith, ltb-false i n e, member-lt n (single i) i (within-lt (single i) n t) (has-single i i ∙ eq-eqb i i refl))))
+        (λ f. f)
+        (truth (within (single i) n))
+
+-- all senders are below n, and all receivers are of r
+pub gathered-none : (n r : ℕ) → r < 2 ^ 16 → (within 0 n && eqb (join 0 r) r) ≡ true
+gathered-none n r h = rw (lt-within 0 n (pow-pos n), covers-none 16 r h)
+
+pub gathered-more : (n r s m from to : ℕ) → m < 2 ^ 16 → r < 2 ^ 16 → to < 16
+    → (within (insert s from) n && eqb (join (insert m to) r) r) ≡ ((within s n && eqb (join m r) r) && (ltb from n && has r to))
+gathered-more n r s m from to hm hr hi =
+    ap₂ (λ (x y : Bool). x && y)
+    (within-join s (single from) n ∙ ap (λ (x : Bool). within s n && x) (within-single from n))
+    (covers-insert 16 r m to hm hr hi)
+    ∙ crossed (within s n) (ltb from n) (eqb (join m r) r) (has r to)
+  where
+    crossed : (a b c d : Bool) → ((a && b) && (c && d)) ≡ ((a && c) && (b && d))
+    crossed true true c d = refl
+    crossed true false true d = refl
+    crossed true false false d = refl
+    crossed false b c d = refl
 
 -- ---- a set of columns
 

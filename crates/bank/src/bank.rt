@@ -89,7 +89,7 @@ pub fn fresh(t: Tree) -> Result
         return refused(b, refusal);
     }
     let n = t.columns;
-    let root = t.root as u8;
+    let root = t.root;
     let mut i: usize = 0;
     while i < n {
         b.columns[i] = fresh_under(root, i);

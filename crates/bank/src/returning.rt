@@ -47,8 +47,7 @@ fn come_back(t: Tree, running: u16, own: Column, copied: Column, j: usize) -> Co
     requires { ⌜ t .columns ≤ 16 ⌝ }
     ensures { λ r. ⌜ r ≡ rejoining t running own copied j ⌝ }
 {
-    let l = lowest(running);
-    let sender = l as u8;
+    let sender = lowest(running);
     let others = halted(t.columns, running);
     strike(
         rejoin(own, copied, others, !has(running, t.root), sender),

@@ -8,12 +8,12 @@ use crate::words::sender_in;
 use column::members::within;
 use column::topology::tree_refusal;
 ghost use mathlib.Core.Path.{_≡_};
-ghost use Prim.Native.Nat.{ℕ, _≤_};
+ghost use Prim.Native.Nat.{ℕ, _^_, _≤_, _<_};
 ghost use lib.ListN.{getD};
 ghost use Rattle.column.specs.Sets.{minus, whole};
 ghost use Rattle.column.specs.Trees.{every};
 ghost use Rattle.bank.specs.Banks.{columnsStand, runningOf};
-ghost use Rattle.bank.specs.Standing.{endsStand, headStands, Surveys};
+ghost use Rattle.bank.specs.Standing.{endsStand, pairStands, headStands, Surveys};
 
 // What the pass over the columns tells: whether all of them stand by row 4, and who runs.
 struct Columns {
@@ -35,7 +35,7 @@ fn survey_columns(b: Bank) -> Columns
     let mut i: usize = 0;
     while i < n {
         let c = b.columns[i];
-        let sender = c.sender as usize;
+        let sender = c.sender;
         members = members | (c.send | c.awaited | c.owed | c.noted);
         stand = stand & (!((c.owed >> i) % 2 == 1) & (((i != root) | c.whole) & (sender < n)));
         if c.running {
@@ -68,7 +68,28 @@ pub fn ends_stand(columns: usize, root: usize, watch: bool, head: u64) -> bool
     (ACKNOWLEDGING <= head) | ((to != root) | watch)
 }
 
-// The ends are tested one by one; the receivers are gathered, and compared with those who run once.
+// Row 4 of a packet, by its head, but for what is gathered of all: whether its sender is a column, and whether its receiver runs.
+fn pair_stands(root: usize, watch: bool, head: u64) -> bool
+    ensures { λ r. ⌜ r ≡ pairStands root watch head ⌝ }
+{
+    let from = sender_in(head);
+    let to = receiver_in(head);
+    if 16 <= (from | to) {
+        return false;
+    }
+    if from == to {
+        return false;
+    }
+    if to != root {
+        return true;
+    }
+    if watch {
+        return true;
+    }
+    ACKNOWLEDGING <= head
+}
+
+// The senders are gathered, and compared with the columns once; the receivers with those who run.
 fn heads_stand(
     columns: usize,
     root: usize,
@@ -77,20 +98,22 @@ fn heads_stand(
     count: usize,
     heads: &[u64; 512],
 ) -> bool
-    requires { ⌜ (columns ≤ 16) × (count ≤ 512) ⌝ }
+    requires { ⌜ (columns ≤ 16) × ((count ≤ 512) × (running < 2 ^ columns)) ⌝ }
     ensures { λ r. ⌜ r ≡ every (λ (k : ℕ). headStands columns root watch running (getD (now (heads .entry)) k 0)) count ⌝ }
 {
+    let mut senders: u16 = 0;
     let mut receivers: u16 = 0;
     let mut k: usize = 0;
     while k < count {
         let head = heads[k];
-        if !ends_stand(columns, root, watch, head) {
+        if !pair_stands(root, watch, head) {
             return false;
         }
+        senders = senders | (1u16 << sender_in(head));
         receivers = receivers | (1u16 << receiver_in(head));
         k += 1;
     }
-    receivers | running == running
+    within(senders, columns) & (receivers | running == running)
 }
 
 // The columns that do not run: all others.

@@ -5,10 +5,10 @@ use mathlib.Core.Bool.{Bool, true, false, not, _&&_, cond}
 use mathlib.Core.List.{List, [], _∷_}
 use native.Mathlib.Omega.{arith}
 use native.Mathlib.Numerals.{add-one}
-use lib.Dec.{T, eqb, leb}
+use lib.Dec.{T, eqb, leb, ltb}
 use lib.ListN.{length, getD, take, drop, length-drop, drop-of-length-le}
 use lib.Seq.{drop-cons, take-all}
-use borrow.Author.Tests.{eq-eqb, ne-eqb, le-leb, lt-leb, lt-ltb, le-ltb}
+use borrow.Author.Tests.{eq-eqb, ne-eqb, le-leb, lt-leb, lt-ltb, le-ltb, ltb-true}
 use Rattle.closing.specs.Text.{Reading, read, unread, allDigits, valueFrom, leadingZero, numeral, startsWith, afterKey}
 use Rattle.closing.specs.declared.reading.Number.{Number}
 use Rattle.closing.specs.declared.reading.Number.the-variants.{Is, Unread}
@@ -76,6 +76,37 @@ module _ (width : ℕ) (l : List ℕ) (some : 0 < length l) (few : length l ≤ 
       go : (b : Bool) → cond (b && true) (read (valueFrom 0 l)) unread ≡ cond b (read (valueFrom 0 l)) unread
       go true = refl
       go false = refl
+
+-- the value of what is read, 0 where nothing is
+abbrev valued : Reading ℕ → ℕ
+valued (read n) = n
+valued unread = 0
+
+-- digits of which no more than two are read have a value below 100
+valued-two : (l : List ℕ) → valued (numeral 2 l) < 100
+unfolding numeral allDigits valueFrom
+valued-two [] = omega arith
+valued-two (b ∷ []) = go (leb 48 b) (ltb b 58) (not (leadingZero (b ∷ []))) refl
+  where
+    go : (low high z : Bool) → ltb b 58 ≡ high → valued (cond (((low && high) && true) && z) (read (0 + (b - 48))) unread) < 100
+    go true true true e = omega (arith, ltb-true b 58 e)
+    go true true false e = omega arith
+    go true false z e = omega arith
+    go false high z e = omega arith
+valued-two (b ∷ c ∷ []) = go (leb 48 b) (ltb b 58) (leb 48 c) (ltb c 58) (not (leadingZero (b ∷ c ∷ []))) refl refl
+  where
+    go : (low high low₂ high₂ z : Bool) → ltb b 58 ≡ high → ltb c 58 ≡ high₂
+        → valued (cond (((low && high) && ((low₂ && high₂) && true)) && z) (read ((0 + (b - 48)) * 10 + (c - 48))) unread) < 100
+    go true true true true true e f = omega (arith, ltb-true b 58 e, ltb-true c 58 f)
+    go true true true true false e f = omega arith
+    go true true true false z e f = omega arith
+    go true true false high₂ z e f = omega arith
+    go true false low₂ high₂ z e f = omega arith
+    go false high low₂ high₂ z e f = omega arith
+valued-two (b ∷ c ∷ d ∷ l) = rw (numeral-long 2 (b ∷ c ∷ d ∷ l) (omega arith)) (omega arith)
+
+pub numeral-two : (l : List ℕ) (n : ℕ) → numeral 2 l ≡ read n → n < 100
+numeral-two l n e = rw e at (valued-two l)
 
 pub leading-one : (l : List ℕ) → length l ≡ 1 → leadingZero l ≡ false
 unfolding leadingZero

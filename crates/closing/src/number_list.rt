@@ -12,7 +12,7 @@ ghost use Rattle.closing.specs.NumberLists.{withOne, lineMeant, held};
 // The numbers of a line: how many, and the first sixteen.
 pub struct NumberList {
     pub count: usize,
-    pub numbers: [usize; 16],
+    pub numbers: [u8; 16],
 }
 
 // The list counts where the line is of its form.
@@ -28,14 +28,14 @@ pub const NO_LIST: NumberList = NumberList {
 };
 
 fn with_number(l: NumberList, number: usize) -> NumberList
-    requires { ⌜ l .count < 2 ^ 63 ⌝ }
+    requires { ⌜ (l .count < 2 ^ 63) × (number < 256) ⌝ }
     ensures { λ r. ⌜ r ≡ withOne l number ⌝ }
 {
     let mut d = l;
     let n = d.count;
     d.count = n + 1;
     if n < 16 {
-        d.numbers[n] = number;
+        d.numbers[n] = number as u8;
         return d;
     }
     d

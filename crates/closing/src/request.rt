@@ -74,7 +74,7 @@ fn read_request(input: &[u8]) -> Request
 }
 
 // The first n parents.
-fn put_parents(out: &mut [u8], at: usize, up: &[usize; 16], n: usize) -> usize
+fn put_parents(out: &mut [u8], at: usize, up: &[u8], n: usize) -> usize
     requires { ⌜ (n ≤ 16) × (n ≤ length (now up)) × (at + length (divided (take n (now up))) ≤ length (now out)) ⌝ }
     ensures { λ r. ⌜ Writes r (now (out .exit)) (now (out .entry)) at (divided (take n (now (up .entry)))) ⌝ }
 {

@@ -9,6 +9,7 @@ pub mod Trees
 pub mod Pigeonhole
 pub mod SequenceLaws
 pub mod TreeLaws
+pub mod PlainTrees
 pub mod ChoiceLaws
 pub mod Depths
 pub mod ChildLaws

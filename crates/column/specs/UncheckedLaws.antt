@@ -61,9 +61,9 @@ module _ (conditions : List (ℕ × Bool)) (t : Tree) (i k : ℕ) where
           rw (le-leb (t .columns) 16 (w .sixteen), lt-ltb i 16 (w .column), lt-ltb k 16 (w .other)) (sym z)
       go false e = refl
 
-  pub tested-same : (n : ℕ) (c : Column) (effect : Result) → n ≡ 0 → (first conditions ≡ 0 → Bounds t i k)
+  pub unchecked-same : (n : ℕ) (c : Column) (effect : Result) → n ≡ 0 → (first conditions ≡ 0 → Bounds t i k)
       → unless (uncheckedRefusal conditions t i k) c effect ≡ unless (earlier n (first conditions)) c effect
-  tested-same n c effect z h = ap (λ (m : ℕ). unless m c effect) (same h ∙ sym (ap (λ (m : ℕ). earlier m (first conditions)) z))
+  unchecked-same n c effect z h = ap (λ (m : ℕ). unless m c effect) (same h ∙ sym (ap (λ (m : ℕ). earlier m (first conditions)) z))
 
 module _ (t : Tree) (i : ℕ) (c : Column) (good : standing t i c ≡ 0) where
   within : (k : ℕ) → k < 16 → Bounds t i k
@@ -71,12 +71,12 @@ module _ (t : Tree) (i : ℕ) (c : Column) (good : standing t i c ≡ 0) where
 
   pub order-unchecked : (doors : ℕ) → orderUnchecked t i c doors ≡ order t i c doors
   unfolding orderRefusal
-  order-unchecked doors = tested-same (orderConditions t i c) t i i (standing t i c) c (orderEffect t i c doors) good (λ e. within i (standing-column t i c good))
+  order-unchecked doors = unchecked-same (orderConditions t i c) t i i (standing t i c) c (orderEffect t i c doors) good (λ e. within i (standing-column t i c good))
 
   pub send-unchecked : sendUnchecked t i c ≡ send t i c
   unfolding sendRefusal
   send-unchecked =
-      tested-same (sendConditions t i c) t i (choose t (c .send)) (standing t i c) c (sendEffect t i c) good
+      unchecked-same (sendConditions t i c) t i (choose t (c .send)) (standing t i c) c (sendEffect t i c) good
       (λ e.
       let p = passed (sendConditions t i c) tt e in
       within (choose t (c .send)) (standing-choice t i c good (omega (arith, eqb-false (c .send) 0 (p .1 .0)))))
@@ -86,24 +86,24 @@ module _ (t : Tree) (i : ℕ) (c : Column) (good : standing t i c ≡ 0) where
   take-unchecked p fit =
       let own = first (takeConditions t i c p) in
       let below = acceptable t p fit .sender-below in
-      tested-same (takeConditions t i c p) t i (sender p) (standing t i c) c (takeEffect t i c p) good
+      unchecked-same (takeConditions t i c p) t i (sender p) (standing t i c) c (takeEffect t i c p) good
       (λ e. within (sender p) (omega (arith, below, standing-sixteen t i c good)))
       ∙ ap (λ (m : ℕ). unless (earlier (standing t i c) m) c (takeEffect t i c p)) (sym (ap (λ (m : ℕ). earlier m own) fit))
 
   pub ack-unchecked : ackUnchecked t i c ≡ ack t i c
   unfolding ackRefusal
-  ack-unchecked = tested-same (ackConditions t i c) t i i (standing t i c) c (ackEffect i c) good (λ e. within i (standing-column t i c good))
+  ack-unchecked = unchecked-same (ackConditions t i c) t i i (standing t i c) c (ackEffect i c) good (λ e. within i (standing-column t i c good))
 
   pub all-unchecked : allUnchecked t i c ≡ all t i c
   unfolding allRefusal
   all-unchecked =
-      tested-same (allConditions t i c) t i (t .root) (standing t i c) c (allEffect t c) good
+      unchecked-same (allConditions t i c) t i (t .root) (standing t i c) c (allEffect t c) good
       (λ e. within (t .root) (tree-root t (standing-tree t i c good)))
 
   pub note-unchecked : (j : ℕ) → noteUnchecked t i c j ≡ note t i c j
   unfolding noteRefusal
   note-unchecked j =
-      tested-same (noteConditions t i c j) t i j (standing t i c) c (noteEffect t c j) good
+      unchecked-same (noteConditions t i c j) t i j (standing t i c) c (noteEffect t c j) good
       (λ e.
       let p = passed (noteConditions t i c j) tt e in
       within j (omega (arith, leb-false (t .columns) j (p .0), standing-sixteen t i c good)))

@@ -22,7 +22,7 @@ pub fn choose(t: Tree, set: u16) -> usize
     let first = t.first;
     let mut at: usize = 0;
     while at < n {
-        let c = first[at];
+        let c = first[at] as usize;
         if has(set, c) {
             return c;
         }

@@ -1,5 +1,4 @@
 // What each step does where nothing refuses it.
-use crate::choice::choose;
 use crate::members::has;
 use crate::members::lowest;
 use crate::outcome::Answer;
@@ -47,7 +46,7 @@ fn acknowledgement(i: usize, k: usize, number: Number) -> Packet
 
 // The root holds the order under the next number, and is to send it to its children.
 pub fn order_effect(t: Tree, i: usize, mut c: Column, doors: u64) -> Outcome
-    requires { ⌜ (t .columns ≤ 16) × (c .number < highest) ⌝ }
+    requires { ⌜ (t .columns ≤ 16) × ((i < 16) × (c .number < highest)) ⌝ }
     ensures { λ r. ⌜ meant r ≡ orderEffect t i c doors ⌝ }
 {
     c.number += 1;
@@ -57,13 +56,12 @@ pub fn order_effect(t: Tree, i: usize, mut c: Column, doors: u64) -> Outcome
     done(c)
 }
 
-// The earliest that the column is to send to is served: passed over where it is the column itself, its children to be sent to where it is
+// The earliest that the column is to send to, which is k, is served: passed over where it is the column itself, its children to be sent to where it is
 // noted, else sent a message and awaited.
-pub fn send_effect(t: Tree, i: usize, mut c: Column) -> Outcome
-    requires { ⌜ (t .columns ≤ 16) × ((i < 16) × (choose t (c .send) < 16)) ⌝ }
+pub fn send_effect(t: Tree, i: usize, mut c: Column, k: usize) -> Outcome
+    requires { ⌜ (t .columns ≤ 16) × ((i < 16) × ((k < 16) × (k ≡ choose t (c .send)))) ⌝ }
     ensures { λ r. ⌜ meant r ≡ sendEffect t i c ⌝ }
 {
-    let k = choose(t, c.send);
     c.send = without(c.send, k);
     if k == i {
         return done(c);
@@ -139,7 +137,7 @@ fn message_effect(
     c.awaited = 0;
     c.owed = single(from);
     c.whole = i == t.root;
-    c.sender = from as u8;
+    c.sender = from;
     c.pending |= RECORD_RECEIVED;
     done(c)
 }

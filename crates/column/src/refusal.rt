@@ -28,7 +28,7 @@ pub fn watched(t: Tree, c: Column) -> usize
     ensures { λ r. ⌜ r ≡ watched t c ⌝ }
 {
     if t.watch {
-        return c.sender as usize;
+        return c.sender;
     }
     t.root
 }

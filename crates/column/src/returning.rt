@@ -6,7 +6,7 @@ ghost use mathlib.Core.Path.{_≡_};
 ghost use Rattle.column.specs.Returns.{rejoined, struck};
 
 // Column `own` as it comes back: with the record of c, which `sender` sent it, the set of columns that remain halted, and its goal.
-pub fn rejoin(own: Column, c: Column, noted: u16, whole: bool, sender: u8) -> Column
+pub fn rejoin(own: Column, c: Column, noted: u16, whole: bool, sender: usize) -> Column
     ensures { λ r. ⌜ r ≡ rejoined own c noted whole sender ⌝ }
 {
     Column {

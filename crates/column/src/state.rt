@@ -3,7 +3,6 @@ use crate::members::has;
 use crate::members::within;
 use crate::packet::Number;
 use crate::precedence::earlier;
-use crate::precedence::refuse_if;
 use crate::topology::column_refusal;
 use crate::topology::tree_refusal;
 use crate::tree::Tree;
@@ -13,6 +12,8 @@ ghost use Rattle.column.specs.Columns.{freshUnder, freshMeant, freshGive
 // Widest fields first, so that a column is 32 bytes.
 pub struct Column {
     pub doors: u64,
+    // Who sent its record.
+    pub sender: usize,
     pub number: Number,
     pub send: u16,
     pub awaited: u16,
@@ -21,8 +22,6 @@ pub struct Column {
     pub running: bool,
     // The goal: the whole bank, or its own subtree.
     pub whole: bool,
-    // Who sent its record.
-    pub sender: u8,
     // Bytes 5 and 6 of its page: the interrupt mask, and what is pending.
     pub mask: u8,
     pub pending: u8,
@@ -34,7 +33,7 @@ pub enum FreshColumn {
 }
 
 // Column i as it begins in a bank with that root, for a caller that has tested the tree.
-pub fn fresh_under(root: u8, i: usize) -> Column
+pub fn fresh_under(root: usize, i: usize) -> Column
     ensures { λ r. ⌜ r ≡ freshUnder root i ⌝ }
 {
     Column {
@@ -45,7 +44,7 @@ pub fn fresh_under(root: u8, i: usize) -> Column
         awaited: 0,
         owed: 0,
         noted: 0,
-        whole: i == root as usize,
+        whole: i == root,
         sender: root,
         mask: 0,
         pending: 0,
@@ -60,8 +59,7 @@ pub fn fresh(t: Tree, i: usize) -> FreshColumn
     if n != 0 {
         return FreshColumn::Refused(n);
     }
-    let root = t.root as u8;
-    FreshColumn::Is(fresh_under(root, i))
+    FreshColumn::Is(fresh_under(t.root, i))
 }
 
 // 4 where row 4 refuses the state of column i, else 0. The tree is not tested.
@@ -69,12 +67,25 @@ pub fn state_refusal(t: Tree, i: usize, c: Column) -> u8
     ensures { λ r. ⌜ r ≡ stateRefusal t i c ⌝ }
 {
     let members = c.send | c.awaited | c.owed | c.noted;
-    let sender = c.sender as usize;
-    let mut n = refuse_if(0, t.columns <= i, 4);
-    n = refuse_if(n, !within(members, t.columns), 4);
-    n = refuse_if(n, has(c.owed, i), 4);
-    n = refuse_if(n, (i == t.root) & !c.whole, 4);
-    refuse_if(n, t.columns <= sender, 4)
+    let n = t.columns;
+    let root = t.root;
+    let sender = c.sender;
+    if n <= i {
+        return 4;
+    }
+    if !within(members, n) {
+        return 4;
+    }
+    if has(c.owed, i) {
+        return 4;
+    }
+    if (i == root) & !c.whole {
+        return 4;
+    }
+    if n <= sender {
+        return 4;
+    }
+    0
 }
 
 // What every step tests first: 2 or 3 of the tree, then 4 of the state, else 0.

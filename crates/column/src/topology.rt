@@ -4,6 +4,7 @@ use crate::precedence::refuse_if;
 use crate::traversal::children_of;
 use crate::traversal::climbs_end;
 use crate::traversal::lists_hold;
+use crate::traversal::rises;
 use crate::traversal::subtree_in;
 use crate::traversal::subtrees_in;
 use crate::tree::Tree;
@@ -19,7 +20,7 @@ pub enum Members {
 }
 
 // 2 or 3 where the tree breaks that row, else 0. Every parent is tested before a climb uses it as an index.
-pub fn tree_refusal(t: Tree) -> u8
+fn climbed_refusal(t: Tree) -> u8
     ensures { λ r. ⌜ r ≡ treeRefusal t ⌝ }
 {
     let n = t.columns;
@@ -36,13 +37,23 @@ pub fn tree_refusal(t: Tree) -> u8
     if !lists_hold(&t.up, &t.first, n) {
         return 3;
     }
-    if t.up[root] != root {
+    if t.up[root] as usize != root {
         return 3;
     }
     if !climbs_end(&t.up, n, root) {
         return 3;
     }
     0
+}
+
+// 2 or 3 where the tree breaks that row, else 0.
+pub fn tree_refusal(t: Tree) -> u8
+    ensures { λ r. ⌜ r ≡ treeRefusal t ⌝ }
+{
+    if rises(&t.up, &t.first, t.columns, t.root) {
+        return 0;
+    }
+    climbed_refusal(t)
 }
 
 // 2 or 3 of the tree, 4 of a column that it has not, else 0.

@@ -46,15 +46,15 @@ pub fn order(t: Tree, i: usize, c: Column, doors: u64) -> Outcome
 pub fn send(t: Tree, i: usize, c: Column) -> Outcome
     ensures { λ r. ⌜ meant r ≡ sendUnchecked t i c ⌝ }
 {
-    let n = refuse_if(
-        send_conditions(0, t, i, c),
-        !bounded(t, i, choose(t, c.send)),
-        4,
-    );
+    let n = send_conditions(0, t, i, c);
     if n != 0 {
         return refused(c, n);
     }
-    send_effect(t, i, c)
+    let k = choose(t, c.send);
+    if !bounded(t, i, k) {
+        return refused(c, 4);
+    }
+    send_effect(t, i, c, k)
 }
 
 // Column i after a packet, what it answers at once, and whether the packet is left for another take.

@@ -6,7 +6,7 @@ ghost use Rattle.fastest.specs.Strategy.{soonest, withColumn, grown};
 
 pub struct Growth {
     // Each column's parent.
-    pub up: [usize; 16],
+    pub up: [u8; 16],
     // When each column sends next.
     pub next: [usize; 16],
 }
@@ -35,7 +35,7 @@ fn with_column(g: Growth, c: usize, delay: usize, gap: usize) -> Growth
     let mut d = g;
     let sender = soonest(&d.next, c);
     let time = d.next[sender];
-    d.up[c] = sender;
+    d.up[c] = sender as u8;
     d.next[sender] = time + gap;
     d.next[c] = time + delay;
     d

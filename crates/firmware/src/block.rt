@@ -66,18 +66,13 @@ pub fn fill(out: &mut [u8], bytes: &[u8])
     }
 }
 
-// Sixteen bytes as column numbers.
-fn places(s: &[u8]) -> [usize; 16]
+// Sixteen bytes.
+fn places(s: &[u8]) -> [u8; 16]
     requires { ⌜ length (now s) ≡ 16 ⌝ }
     ensures { λ r. ⌜ r ≡ now (s .entry) ⌝ }
 {
-    let mut numbers = [0usize; 16];
-    let mut j = 0;
-    while j < 16 {
-        let number = s[j] as usize;
-        numbers[j] = number;
-        j += 1;
-    }
+    let mut numbers = [0u8; 16];
+    fill(&mut numbers, s);
     numbers
 }
 
@@ -122,6 +117,7 @@ pub fn column_in(s: &[u8]) -> Column
     ensures { λ r. ⌜ r ≡ columnIn (now (s .entry)) ⌝ }
 {
     let status = s[STATUS];
+    let sender = (status / 4) as usize;
     let mask = s[MASK];
     let pending = s[PENDING];
     let doors = low_value(&s[DOORS..NUMBER]);
@@ -139,7 +135,7 @@ pub fn column_in(s: &[u8]) -> Column
         noted,
         running: status % 2 == 1,
         whole: status / 2 % 2 == 1,
-        sender: status / 4,
+        sender,
         mask,
         pending,
     }
@@ -159,7 +155,7 @@ fn status_of(c: Column) -> u8
 {
     let running = bit(c.running);
     let whole = bit(c.whole);
-    let sender = c.sender % 64;
+    let sender = (c.sender % 64) as u8;
     running + (whole * 2 + sender * 4)
 }
 

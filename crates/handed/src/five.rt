@@ -29,7 +29,7 @@ pub const TREE_OF_FIVE: Tree = Tree {
 };
 
 // The column with this record, which that column sent, and this page.
-fn holding(c: Column, number: Number, doors: u64, sender: u8, mask: u8, pending: u8) -> Column {
+fn holding(c: Column, number: Number, doors: u64, sender: usize, mask: u8, pending: u8) -> Column {
     let mut d = c;
     d.number = number;
     d.doors = doors;

@@ -22,7 +22,7 @@ use column::tree::ASCENDING;
 use column::tree::Tree;
 
 // The tree whose first three parents are given.
-fn tree(columns: usize, root: usize, first: usize, second: usize, third: usize) -> Tree {
+fn tree(columns: usize, root: usize, first: u8, second: u8, third: u8) -> Tree {
     Tree {
         columns,
         root,
@@ -33,7 +33,7 @@ fn tree(columns: usize, root: usize, first: usize, second: usize, third: usize) 
 }
 
 // The tree of three columns with a sequence that begins with these.
-fn sequenced(one: usize, two: usize, three: usize) -> Tree {
+fn sequenced(one: u8, two: u8, three: u8) -> Tree {
     let mut t = tree(3, 0, 0, 0, 1);
     t.first[0] = one;
     t.first[1] = two;

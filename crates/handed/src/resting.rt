@@ -47,7 +47,7 @@ fn resting() -> State {
 // Every step is refused by 2, 3 or 4, whatever there is to do.
 fn refused() {
     let s = with_column(resting(), 0, root(C1, 0, C1, 0));
-    let up = [0usize; 16];
+    let up = [0u8; 16];
     let seventeen = Tree {
         columns: 17,
         root: 0,

@@ -23,7 +23,7 @@ use bank::bank::Step;
 use column::packet::HIGHEST;
 use column::state::Column;
 
-fn sent_by(c: Column, sender: u8) -> Column {
+fn sent_by(c: Column, sender: usize) -> Column {
     let mut d = c;
     d.sender = sender;
     d

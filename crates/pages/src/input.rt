@@ -25,10 +25,10 @@ fn byte(input: &[u8], at: usize) -> u8 {
 }
 
 fn tree(input: &[u8]) -> Tree {
-    let mut up = [0usize; 16];
+    let mut up = [0u8; 16];
     let mut i = 0;
     while i < 16 {
-        up[i] = byte(input, PARENTS + i) as usize;
+        up[i] = byte(input, PARENTS + i);
         i += 1;
     }
     Tree {

@@ -46,7 +46,7 @@ fn exchange() {
     let t = Tree {
         columns: 3,
         root: ROOT,
-        up: [ROOT; 16],
+        up: [0; 16],
         first: ASCENDING,
         watch: false,
     };

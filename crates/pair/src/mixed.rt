@@ -103,7 +103,7 @@ fn order_after(number: Number) {
     let t = Tree {
         columns: 2,
         root: NEW_END,
-        up: [NEW_END; 16],
+        up: [0; 16],
         first: ASCENDING,
         watch: false,
     };

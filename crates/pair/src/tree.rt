@@ -32,7 +32,7 @@ fn show_column(c: usize) {
     let t = TREE;
     print_number(b"column=", c as u64);
     if c < t.columns {
-        print_number(b" up=", t.up[c] as u64);
+        print_number(b" up=", wide(t.up[c]));
     }
     let below = children(t, c);
     print_members(b" children", below);

@@ -18,7 +18,7 @@ ghost use Prim.Native.Nat.{_<_};
 // Sixteen columns, the last one's parent different from lap to lap, so that no check of the tree is done once for all laps.
 fn tree(lap: u64) -> Tree {
     let mut t = heap(16);
-    t.up[15] = 6 + (lap % 2) as usize;
+    t.up[15] = 6 + (lap % 2) as u8;
     t
 }
 

@@ -38,9 +38,6 @@ returns c =
 good : (c : tie.Else1 Inv-loop μ-loop) → treeRefusal (c .before .before .args .t) ≡ 0
 good c = sym (c .before .tree-refusal .ensures) ∙ c .if1 .left
 
-cast-root : tie.Need-cast-root Inv-loop μ-loop
-cast-root c = omega (arith, tree-root (c .before .before .before .args .t) (good (c .before)))
-
 loop-holds : tie.Need-loop-holds Inv-loop μ-loop
 unfolding places
 loop-holds c = (omega arith, refl)
@@ -51,7 +48,7 @@ fresh-under-requires c κs = search needs
 -- the next place is one of the sixteen
 below : (c : tie.After-fresh-under Inv-loop μ-loop) → c .before .before .loop .i < 16
 below c =
-    let e = c .before .before .before .before in
+    let e = c .before .before .before in
     omega (arith, tree-sixteen (e .before .before .args .t) (good e))
 
 mul-t13 : tie.Need-mul-t13 Inv-loop μ-loop
@@ -69,7 +66,7 @@ loop-less c = search needs
 loop-again : tie.Need-loop-again Inv-loop μ-loop
 loop-again c =
     let l = c .before .before in
-    let e = l .before .before in
+    let e = l .before in
     let t = e .before .before .args .t in
     let i = l .loop .i in
     let placed : Column → Bank = λ x. record { tree = t; columns = set (partlyFresh t i .columns) i x; count = 0 } in (
@@ -86,7 +83,7 @@ returns-2 : tie.Need-returns-2 Inv-loop μ-loop
 unfolding fresh
 returns-2 c =
     let l = c .before .before in
-    let e = l .before .before in
+    let e = l .before in
     let t = e .before .before .args .t in
     let end : l .loop .i ≡ t .columns = omega arith in
     c .done .ensures ∙ rw (eq-eqb (treeRefusal t) 0 (good e)) (ap accepted (l .loop .inv .1 ∙ ap (partlyFresh t) end ∙ fresh-whole t (good e)))
@@ -100,7 +97,6 @@ fresh-spec =
     tree-refusal-requires
     refused-requires
     returns
-    cast-root
     loop-holds
     fresh-under-requires
     mul-t13

@@ -8,9 +8,6 @@ use Rattle.bank.proofs.returning.come_back.Tie as tie
 lowest-requires : tie.Need-lowest-requires
 lowest-requires c κs = search needs
 
-cast-sender : tie.Need-cast-sender
-cast-sender c = omega (arith, c .lowest .ensures, trailing-le 16 (c .before .args .running))
-
 halted-requires : tie.Need-halted-requires
 halted-requires c κs = search needs
 
@@ -35,7 +32,6 @@ come-back-spec =
     tie.close
     (tie.spec
     lowest-requires
-    cast-sender
     halted-requires
     has-requires
     rejoin-requires

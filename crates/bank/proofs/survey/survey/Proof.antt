@@ -3,12 +3,14 @@ use mathlib.Core.Path.{_≡_, sym, _∙_}
 use mathlib.Core.Bool.{true, not}
 use mathlib.Core.List.{List, [], _∷_}
 use Prim.Native.Nat.{ℕ}
+use native.Mathlib.Nat.{le-refl}
 use native.Mathlib.Omega.{arith}
 use borrow.Author.Tests.{eq-eqb, ne-eqb, lt-ltb, le-ltb, not-true, not-false}
 use Rattle.column.specs.Refusals.{first}
 use Rattle.column.specs.Trees.{treeRefusal}
 use Rattle.column.specs.TreeLaws.{tree-sixteen}
-use Rattle.bank.specs.Banks.{state, columnsStand, packetsStand, capacity, bankRefusal}
+use Rattle.column.specs.SetLaws.{selected-lt}
+use Rattle.bank.specs.Banks.{state, runs, columnsStand, packetsStand, capacity, bankRefusal}
 use Rattle.bank.specs.StandingLaws.{heads-stand}
 use Rattle.bank.proofs.survey.survey.Statement.{statement}
 use Rattle.bank.proofs.survey.survey.Tie as tie
@@ -71,7 +73,9 @@ returns-3 c =
 heads-stand-requires : tie.Need-heads-stand-requires
 heads-stand-requires c κs =
     let k = c .before .before .before .before in
-    (tree-sixteen (k .before .before .before .before .args .b .tree) (tree-is (k .before)), c .if3 .left)
+    let b = k .before .before .before .before .args .b in
+    let runs-lt = selected-lt (runs b) (b .tree .columns) (b .tree .columns) (le-refl (b .tree .columns)) in
+    (tree-sixteen (b .tree) (tree-is (k .before)), (c .if3 .left, rw (k .survey-columns .ensures .1) runs-lt))
 
 -- what the heads say of the packets is what is left to test
 past-count : (c : tie.After-heads-stand) (doors : List ℕ)

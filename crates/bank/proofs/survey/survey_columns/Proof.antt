@@ -33,9 +33,6 @@ mul-c c = search needs
 element-copy-out-c : tie.Need-element-copy-out-c Inv-loop μ-loop
 element-copy-out-c c = search needs
 
-cast-sender : tie.Need-cast-sender Inv-loop μ-loop
-cast-sender c = search needs
-
 cast-stand : tie.Need-cast-stand Inv-loop μ-loop
 cast-stand c = search needs
 
@@ -57,7 +54,7 @@ loop-less c = search needs
 loop-again : tie.Need-loop-again Inv-loop μ-loop
 unfolding every selected
 loop-again c =
-    let l = c .before .before .before .before .before .before .before .before .before in
+    let l = c .before .before .before .before .before .before .before .before in
     let i = l .loop .i in
     let inv = l .loop .inv .1 in
     let b = l .before .before .args .t1 in
@@ -93,7 +90,6 @@ survey-columns-spec =
     loop-holds
     mul-c
     element-copy-out-c
-    cast-sender
     cast-stand
     shr-stand
     cast-running

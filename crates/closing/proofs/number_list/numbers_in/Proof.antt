@@ -4,7 +4,7 @@ use mathlib.Core.List.{[]}
 use native.Mathlib.Omega.{arith}
 use lib.ListN.{length}
 use Rattle.closing.specs.Tables.{pieces, numerals}
-use Rattle.closing.specs.Readings.{numberMeant}
+use Rattle.closing.specs.Readings.{numberMeant, numeral-two}
 use Rattle.closing.specs.Cutting.{piecesFrom, pieces-all}
 use Rattle.closing.specs.NumberLists.{listOf, withOne, held, heldAfter, held-all, piece-read, piece-unread, pieces-read}
 use borrow.Author.Needs.{needs}
@@ -44,7 +44,10 @@ enum-known-number : tie.Need-enum-known-number Inv-loop μ-loop
 enum-known-number c = search needs
 
 with-number-requires : tie.Need-with-number-requires Inv-loop μ-loop
-with-number-requires c κs = search needs
+with-number-requires c κs =
+    let k = c .before in
+    let h = numeral-two _ _ (sym (k .before .before .numeral .ensures) ∙ ap numberMeant (k .number .given .1)) in
+    search (needs, h)
 
 enum-told : tie.Need-enum-told Inv-loop μ-loop
 enum-told c = search needs

@@ -24,13 +24,13 @@ abbrev μ-loop : tie.MeasureT-loop
 
 -- one parent more has room, and whether it is the first shows in the place
 module _ (c : tie.In-loop Inv-loop μ-loop) where
-  room : let a = c .before .before .before .args in
+  room : let a = c .before .before .before .before .args in
       let j = c .before .loop .j in
       let up = a .up .now in
       a .at + length (divided (take j up) ++ nextText (none (take j up)) (getD up j 0)) ≤ length (a .out .now)
   room =
-      let a = c .before .before .before .args in
-      let p = c .before .before .before .pre in
+      let a = c .before .before .before .before .args in
+      let p = c .before .before .before .before .pre in
       let j = c .before .loop .j in
       let up = a .up .now in
       let whole : j + 1 + (a .n - (j + 1)) ≡ a .n = omega (arith, c .loop-test .taken) in
@@ -42,30 +42,30 @@ module _ (c : tie.In-loop Inv-loop μ-loop) where
         ap (λ n. length (divided (take n up))) whole,
       ))
 
-  first : let a = c .before .before .before .args in
+  first : let a = c .before .before .before .before .args in
       eqb (c .before .loop .next) (a .at) ≡ none (take (c .before .loop .j) (a .up .now))
   first =
-      let a = c .before .before .before .args in
+      let a = c .before .before .before .before .args in
       ap (λ k. eqb k (a .at)) (c .before .loop .inv .3 .place)
       ∙ moved (a .at) (length (divided (take (c .before .loop .j) (a .up .now))))
 
 loop-holds : tie.Need-loop-holds Inv-loop μ-loop
 unfolding divided
 loop-holds c =
-    let a = c .before .args in
-    (omega arith, c .before .pre .2, refl, writes-none (a .out .now) (a .at))
+    let a = c .before .before .args in
+    (omega arith, c .before .before .pre .2, refl, writes-none (a .out .now) (a .at))
 
-mul-put-next : tie.Need-mul-put-next Inv-loop μ-loop
-mul-put-next c = search needs
+shared-slice-read-put-next : tie.Need-shared-slice-read-put-next Inv-loop μ-loop
+shared-slice-read-put-next c = search needs
 
-element-copy-out-put-next : tie.Need-element-copy-out-put-next Inv-loop μ-loop
-element-copy-out-put-next c = search needs
+cast-put-next : tie.Need-cast-put-next Inv-loop μ-loop
+cast-put-next c = omega (arith, c .shared-slice-known2 .given (c .before .before .before .loop .j))
 
 put-next-requires : tie.Need-put-next-requires Inv-loop μ-loop
 put-next-requires c κs =
     let i = c .before .before in
     let l = i .before in
-    let up = l .before .before .args .up .now in
+    let up = l .before .before .before .args .up .now in
     let j = l .loop .j in
     let written = divided (take j up) in
     rw (first i)
@@ -82,7 +82,7 @@ loop-again c =
     let p = c .before .before in
     let i = p .before .before .before in
     let v = i .before .loop .inv in
-    let a = i .before .before .before .args in
+    let a = i .before .before .before .before .args in
     let j = i .before .loop .j in
     let up = a .up .now in
     let written = divided (take j up) in
@@ -90,7 +90,7 @@ loop-again c =
       omega arith,
       v .1,
       p .put-next .kept .0 ∙ v .2,
-      rw (taken-more up j (omega (arith, i .before .before .before .pre .1, i .loop-test .taken)))
+      rw (taken-more up j (omega (arith, i .before .before .before .before .pre .1, i .loop-test .taken)))
           (writes-more written (nextText (none (take j up)) (getD up j 0)) (room i) (v .3) q),
     )
 
@@ -99,7 +99,7 @@ same-length c = c .before .loop .inv .2
 
 returns : tie.Need-returns Inv-loop μ-loop
 returns c =
-    let e : c .before .loop .j ≡ c .before .before .before .args .n = omega arith in
+    let e : c .before .loop .j ≡ c .before .before .before .before .args .n = omega arith in
     rw (← e) (c .before .loop .inv .3)
 
 pub put-parents-spec : {M : Type 1} → statement M
@@ -109,8 +109,8 @@ put-parents-spec =
     Inv-loop
     μ-loop
     loop-holds
-    mul-put-next
-    element-copy-out-put-next
+    shared-slice-read-put-next
+    cast-put-next
     put-next-requires
     add-j
     loop-less

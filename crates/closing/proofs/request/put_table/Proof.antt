@@ -45,7 +45,7 @@ abbrev second : tie.After-put-all → tie.After-put-field2
 second c = c .before .before .before .before .before
 
 abbrev third : tie.After-put-parents → tie.After-put-all
-third c = c .before .before .before .before .before .before
+third c = c .before .before .before .before .before .before .before
 
 -- ---- after each text there is room for what follows
 
@@ -100,7 +100,7 @@ put-all-requires c κs =
 
 put-parents-requires : tie.Need-put-parents-requires
 put-parents-requires c κs =
-    let p = c .before .before .before .before .before in
+    let p = c .before .before .before .before .before .before in
     let s = start (first (second p)) in
     let t = s .args .t2 in
     let wide : length (t .up) ≡ 16 = search needs in

@@ -24,11 +24,11 @@ loop-holds c =
     let e : n ≡ n - 0 = omega arith in
     (omega arith, ap (earliestFrom (c .before .before .args .t .first) (c .before .before .args .set) 0) e)
 
-mul-c : tie.Need-mul-c Inv-loop μ-loop
-mul-c c = omega (arith, c .before .before .before .places .ensures)
-
 array-read-c : tie.Need-array-read-c Inv-loop μ-loop
 array-read-c c = omega (arith, c .before .before .before .places .ensures)
+
+cast-c : tie.Need-cast-c Inv-loop μ-loop
+cast-c c = search needs
 
 has-requires : tie.Need-has-requires Inv-loop μ-loop
 has-requires c κs = search needs
@@ -72,8 +72,8 @@ choose-spec =
     μ-loop
     places-requires
     loop-holds
-    mul-c
     array-read-c
+    cast-c
     has-requires
     returns
     add-at

@@ -44,9 +44,6 @@ children-of-requires c κs = search needs
 single-requires : tie.Need-single-requires
 single-requires c κs = search needs
 
-cast-c : tie.Need-cast-c
-cast-c c = search needs
-
 done-requires-2 : tie.Need-done-requires-2
 done-requires-2 c κs = search needs
 
@@ -79,6 +76,5 @@ message-effect-spec =
     returns-3
     children-of-requires
     single-requires
-    cast-c
     done-requires-2
     returns-4)

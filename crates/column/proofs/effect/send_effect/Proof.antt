@@ -7,15 +7,8 @@ use Rattle.column.specs.Steps.{sendEffect}
 use Rattle.column.proofs.effect.send_effect.Statement.{statement}
 use Rattle.column.proofs.effect.send_effect.Tie as tie
 
--- the one served is a column's number
-low : (c : tie.After-choose) → c .choose .result < 16
-low c = omega (arith, c .choose .ensures, c .before .pre .1 .1)
-
-choose-requires : tie.Need-choose-requires
-choose-requires c κs = search needs
-
 without-requires : tie.Need-without-requires
-without-requires c κs = low c
+without-requires c κs = search needs
 
 done-requires : tie.Need-done-requires
 done-requires c κs = search needs
@@ -24,7 +17,7 @@ returns : tie.Need-returns
 unfolding sendEffect
 returns c =
     let w = c .before .before in
-    c .done .ensures ∙ rw (← w .before .choose .ensures, eq-eqb _ _ (c .before .if1 .taken), w .without .ensures)
+    c .done .ensures ∙ rw (← w .before .pre .1 .1 .1, eq-eqb _ _ (c .before .if1 .taken), w .without .ensures)
 
 has-requires : tie.Need-has-requires
 has-requires c κs = search needs
@@ -43,7 +36,7 @@ returns-2 c =
     let w = h .before .before in
     c .done2 .ensures
     ∙ rw (
-      ← w .before .choose .ensures,
+      ← w .before .pre .1 .1 .1,
       ne-eqb _ _ (h .before .if1 .left),
       sym (h .has .ensures) ∙ s .before .if2 .taken,
       s .children-of .ensures,
@@ -51,13 +44,13 @@ returns-2 c =
     )
 
 insert-requires : tie.Need-insert-requires
-insert-requires c κs = low (c .before .before .before .before)
+insert-requires c κs = search needs
 
 cast-from : tie.Need-cast-from
 cast-from c = search needs
 
 cast-to : tie.Need-cast-to
-cast-to c = omega (arith, low (c .before .before .before .before .before))
+cast-to c = search needs
 
 putting-requires : tie.Need-putting-requires
 putting-requires c κs = search needs
@@ -69,7 +62,7 @@ returns-3 c =
     let w = h .before .before in
     c .putting .ensures
     ∙ rw (
-      ← w .before .choose .ensures,
+      ← w .before .pre .1 .1 .1,
       ne-eqb _ _ (h .before .if1 .left),
       sym (h .has .ensures) ∙ c .before .before .if2 .left,
       c .before .insert .ensures,
@@ -80,7 +73,6 @@ pub send-effect-spec : {M : Type 1} → statement M
 send-effect-spec =
     tie.close
     (tie.spec
-    choose-requires
     without-requires
     done-requires
     returns

@@ -17,21 +17,14 @@ returns c =
     let e = c .before .column-refusal .ensures in
     simp (ne-eqb _ _ (λ z. c .if1 .taken (e ∙ z))) (ap refused e)
 
-cast-root : tie.Need-cast-root
-cast-root c =
-    let e = c .before in
-    let t = e .before .before .args .t in
-    let good = earlier-none (treeRefusal t) _ (sym (e .before .column-refusal .ensures) ∙ e .if1 .left) .0 in
-    omega (arith, tree-root t good)
-
 fresh-under-requires : tie.Need-fresh-under-requires
 fresh-under-requires c κs = search needs
 
 returns-2 : tie.Need-returns-2
 returns-2 c =
-    let e = c .before .before in
+    let e = c .before in
     simp (eq-eqb _ _ (sym (e .before .column-refusal .ensures) ∙ e .if1 .left)) (ap given (c .fresh-under .ensures))
 
 pub fresh-spec : {M : Type 1} → statement M
 fresh-spec =
-    tie.close (tie.spec column-refusal-requires returns cast-root fresh-under-requires returns-2)
+    tie.close (tie.spec column-refusal-requires returns fresh-under-requires returns-2)

@@ -1,5 +1,6 @@
 use borrow.Author.Needs.{needs}
 use mathlib.Core.Path.{_≡_, sym, ap, _∙_}
+use native.Mathlib.Omega.{arith}
 use borrow.Author.Tests.{eq-eqb, ne-eqb}
 use Rattle.column.specs.Refusals.{given, refused}
 use Rattle.column.specs.Trees.{columnRefusal}
@@ -19,7 +20,7 @@ returns c =
     rw (ne-eqb _ _ (λ z. c .if1 .taken (e ∙ z))) (ap refused e)
 
 children-of-requires : tie.Need-children-of-requires
-children-of-requires c κs = column-accepted _ _ (passed c) .0
+children-of-requires c κs = let p = column-accepted _ _ (passed c) in (p .0, omega (arith, p .0, p .1))
 
 returns-2 : tie.Need-returns-2
 returns-2 c = rw (eq-eqb _ _ (passed (c .before))) (ap given (c .children-of .ensures))

@@ -22,11 +22,14 @@ abbrev μ-loop : tie.MeasureT-loop
 abbrev start : tie.At-loop Inv-loop μ-loop → tie.Start Inv-loop μ-loop
 start l = l .before .before .before
 
-mul-if1 : tie.Need-mul-if1 Inv-loop μ-loop
-mul-if1 c = search needs
-
 element-copy-out-if1 : tie.Need-element-copy-out-if1 Inv-loop μ-loop
 element-copy-out-if1 c = search needs
+
+cast-if1 : tie.Need-cast-if1 Inv-loop μ-loop
+cast-if1 c =
+    let s = c .before in
+    let t = treeOf (s .args .n) (s .args .root) (s .args .up .now) in
+    omega (arith, ltb-true (parent t (s .args .c)) (t .columns) (every-at (parentBelow t) (t .columns) (s .args .c) (s .pre .1 .1 .0 .each) (s .pre .1 .0)))
 
 -- a climb that comes below where it began ends
 module _ (s : tie.Start Inv-loop μ-loop) where
@@ -59,9 +62,6 @@ returns-2 c =
     let t = treeOf (a .n) (a .root) (a .up .now) in
     sym (l .loop .inv .3 ∙ ends-climb t (l .loop .budget) 0 (l .loop .at) (omega arith) (climb-zero t (l .loop .at) ∙ c .if2 .taken))
 
-mul-at : tie.Need-mul-at Inv-loop μ-loop
-mul-at c = search needs
-
 element-copy-out-at : tie.Need-element-copy-out-at Inv-loop μ-loop
 element-copy-out-at c = search needs
 
@@ -71,6 +71,9 @@ below-at l =
     let s = start l in
     let t = tree s in
     ltb-true (parent t (l .loop .at)) (t .columns) (every-at (parentBelow t) (t .columns) (l .loop .at) (s .pre .1 .1 .0 .each) (l .loop .inv .0))
+
+cast-at : tie.Need-cast-at Inv-loop μ-loop
+cast-at c = omega (arith, below-at (c .before .before .before))
 
 climbed : (l : tie.In-loop Inv-loop μ-loop)
     → let s = start (l .before) in
@@ -123,13 +126,13 @@ climbs-in-spec =
     (tie.spec
     Inv-loop
     μ-loop
-    mul-if1
     element-copy-out-if1
+    cast-if1
     returns
     loop-holds
     returns-2
-    mul-at
     element-copy-out-at
+    cast-at
     returns-3
     sub-budget
     loop-less

@@ -15,19 +15,19 @@ use Rattle.column.proofs.traversal.lists_hold.Statement.{statement}
 use Rattle.column.proofs.traversal.lists_hold.Tie as tie
 
 abbrev Inv-loop : tie.InvT-loop
-Inv-loop up first n listed₀ j₀ listed j =
+Inv-loop up first n bound listed₀ j₀ listed j =
     let t = treeInSequence n 0 up first in
     (j ≤ n) × (every (parentBelow t) j ≡ true) × (every (listedBelow t) j ≡ true) × (listed ≡ listedIn first j)
 
 abbrev μ-loop : tie.MeasureT-loop
-μ-loop up first n listed₀ j₀ listed j = n - j
+μ-loop up first n bound listed₀ j₀ listed j = n - j
+
+cast-bound : tie.Need-cast-bound Inv-loop μ-loop
+cast-bound c = search needs
 
 loop-holds : tie.Need-loop-holds Inv-loop μ-loop
 unfolding every
 loop-holds c = (omega arith, refl, refl, refl)
-
-mul-if1 : tie.Need-mul-if1 Inv-loop μ-loop
-mul-if1 c = search needs
 
 element-copy-out-if1 : tie.Need-element-copy-out-if1 Inv-loop μ-loop
 element-copy-out-if1 c = search needs
@@ -43,9 +43,6 @@ returns c =
           (every-fails (parentBelow t) (a .n) j (le-ltb (getD (a .up .now) j 0) (a .n) (c .if1 .taken)) (omega arith)));
     }
 
-mul-c : tie.Need-mul-c Inv-loop μ-loop
-mul-c c = search needs
-
 element-copy-out-c : tie.Need-element-copy-out-c Inv-loop μ-loop
 element-copy-out-c c = search needs
 
@@ -60,6 +57,9 @@ returns-2 c =
           (every-fails (listedBelow t) (a .n) j (le-ltb (getD (a .first .now) j 0) (a .n) (c .if2 .taken)) (omega arith))
           ∙ and-false (every (parentBelow t) (a .n)));
     }
+
+cast-insert : tie.Need-cast-insert Inv-loop μ-loop
+cast-insert c = search needs
 
 insert-requires : tie.Need-insert-requires Inv-loop μ-loop
 insert-requires c κs = search needs
@@ -107,13 +107,13 @@ lists-hold-spec =
     (tie.spec
     Inv-loop
     μ-loop
+    cast-bound
     loop-holds
-    mul-if1
     element-copy-out-if1
     returns
-    mul-c
     element-copy-out-c
     returns-2
+    cast-insert
     insert-requires
     add-j
     loop-less

@@ -38,7 +38,7 @@ order-effect-requires c κs =
     let a = c .before .before .before .before .args in
     let q = unchecked-passes (orderConditions (a .t) (a .i) (a .c)) (a .t) (a .i) (a .i) (sym (refusal (c .before)) ∙ c .if1 .left) in
     let p = passed (orderConditions (a .t) (a .i) (a .c)) tt (q .0) in
-    (q .1 .sixteen, omega (arith, eqb-false (a .c .number) highest (p .1 .1 .1 .1 .0)))
+    (q .1 .sixteen, (q .1 .column, omega (arith, eqb-false (a .c .number) highest (p .1 .1 .1 .1 .0))))
 
 returns-2 : tie.Need-returns-2
 returns-2 c =

@@ -15,8 +15,8 @@ mul-time c = search needs
 element-copy-out-time : tie.Need-element-copy-out-time
 element-copy-out-time c = search needs
 
-mul-d : tie.Need-mul-d
-mul-d c = search needs
+cast-d : tie.Need-cast-d
+cast-d c = search needs
 
 element-write-d : tie.Need-element-write-d
 element-write-d c = search needs
@@ -29,8 +29,8 @@ at-turn c = let a = c .before .before .before .before .args in ap (λ k. getD (a
 add-d : tie.Need-add-d
 add-d c = omega (arith, at-turn c, c .before .before .before .before .pre)
 
-mul-d-2 : tie.Need-mul-d-2
-mul-d-2 c = search needs
+mul-d : tie.Need-mul-d
+mul-d c = search needs
 
 element-write-d-2 : tie.Need-element-write-d-2
 element-write-d-2 c = search needs
@@ -38,8 +38,8 @@ element-write-d-2 c = search needs
 add-d-2 : tie.Need-add-d-2
 add-d-2 c = omega (arith, at-turn c, c .before .before .before .before .pre)
 
-mul-d-3 : tie.Need-mul-d-3
-mul-d-3 c = search needs
+mul-d-2 : tie.Need-mul-d-2
+mul-d-2 c = search needs
 
 element-write-d-3 : tie.Need-element-write-d-3
 element-write-d-3 c = search needs
@@ -55,12 +55,12 @@ with-column-spec =
     soonest-requires
     mul-time
     element-copy-out-time
-    mul-d
+    cast-d
     element-write-d
     add-d
-    mul-d-2
+    mul-d
     element-write-d-2
     add-d-2
-    mul-d-3
+    mul-d-2
     element-write-d-3
     returns)

@@ -9,6 +9,9 @@ use Rattle.firmware.proofs.block.column_in.Tie as tie
 shared-slice-read-status : tie.Need-shared-slice-read-status
 shared-slice-read-status c = search needs
 
+cast-sender : tie.Need-cast-sender
+cast-sender c = omega (arith, c .shared-slice-known2 .given 20)
+
 shared-slice-read-mask : tie.Need-shared-slice-read-mask
 shared-slice-read-mask c = search needs
 
@@ -106,6 +109,7 @@ column-in-spec =
     tie.close
     (tie.spec
     shared-slice-read-status
+    cast-sender
     shared-slice-read-mask
     shared-slice-read-pending
     sub-low-value

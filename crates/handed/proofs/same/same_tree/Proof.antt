@@ -12,26 +12,14 @@ abbrev μ-loop : tie.MeasureT-loop
 loop-holds : tie.Need-loop-holds Inv-loop μ-loop
 loop-holds c = search needs
 
-mul-same : tie.Need-mul-same Inv-loop μ-loop
-mul-same c = search needs
-
 element-copy-out-same : tie.Need-element-copy-out-same Inv-loop μ-loop
 element-copy-out-same c = search needs
-
-mul-same-2 : tie.Need-mul-same-2 Inv-loop μ-loop
-mul-same-2 c = search needs
 
 element-copy-out-same-2 : tie.Need-element-copy-out-same-2 Inv-loop μ-loop
 element-copy-out-same-2 c = search needs
 
-mul-same-3 : tie.Need-mul-same-3 Inv-loop μ-loop
-mul-same-3 c = search needs
-
 element-copy-out-same-3 : tie.Need-element-copy-out-same-3 Inv-loop μ-loop
 element-copy-out-same-3 c = search needs
-
-mul-same-4 : tie.Need-mul-same-4 Inv-loop μ-loop
-mul-same-4 c = search needs
 
 element-copy-out-same-4 : tie.Need-element-copy-out-same-4 Inv-loop μ-loop
 element-copy-out-same-4 c = search needs
@@ -55,13 +43,9 @@ same-tree-spec =
     Inv-loop
     μ-loop
     loop-holds
-    mul-same
     element-copy-out-same
-    mul-same-2
     element-copy-out-same-2
-    mul-same-3
     element-copy-out-same-3
-    mul-same-4
     element-copy-out-same-4
     add-i
     loop-less

@@ -18,12 +18,6 @@ add-byte c = search needs
 byte-requires : tie.Need-byte-requires Inv-loop μ-loop
 byte-requires c κs = search needs
 
-cast-up : tie.Need-cast-up Inv-loop μ-loop
-cast-up c = search needs
-
-mul-up : tie.Need-mul-up Inv-loop μ-loop
-mul-up c = search needs
-
 array-write-up : tie.Need-array-write-up Inv-loop μ-loop
 array-write-up c = search needs
 
@@ -39,14 +33,14 @@ loop-again c = search needs
 byte-requires-2 : tie.Need-byte-requires-2 Inv-loop μ-loop
 byte-requires-2 c κs = search needs
 
-cast-t12 : tie.Need-cast-t12 Inv-loop μ-loop
-cast-t12 c = search needs
+cast-t10 : tie.Need-cast-t10 Inv-loop μ-loop
+cast-t10 c = search needs
 
 byte-requires-3 : tie.Need-byte-requires-3 Inv-loop μ-loop
 byte-requires-3 c κs = search needs
 
-cast-t14 : tie.Need-cast-t14 Inv-loop μ-loop
-cast-t14 c = search needs
+cast-t12 : tie.Need-cast-t12 Inv-loop μ-loop
+cast-t12 c = search needs
 
 byte-requires-4 : tie.Need-byte-requires-4 Inv-loop μ-loop
 byte-requires-4 c κs = search needs
@@ -63,15 +57,13 @@ tree-spec =
     loop-holds
     add-byte
     byte-requires
-    cast-up
-    mul-up
     array-write-up
     add-i
     loop-less
     loop-again
     byte-requires-2
-    cast-t12
+    cast-t10
     byte-requires-3
-    cast-t14
+    cast-t12
     byte-requires-4
     returns)
