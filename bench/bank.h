@@ -24,8 +24,8 @@ uint8_t bank_note(struct bank *b, size_t i, size_t j);
 uint8_t bank_halt(struct bank *b, uint32_t set);
 uint8_t bank_back(struct bank *b, size_t j);
 
-/* Steps until rest, the limit or a refused one, counted. The bank is tested once, and after each step the column and the packet that it changed;
-   or, `thorough`, each is tested as a call of its own. */
+/* Steps until rest, the limit or a refused one, counted. The bank is tested once, and after each step the newest packet; or, `thorough`,
+   each is tested as a call of its own. */
 uint8_t bank_dispatch(struct bank *b, size_t limit, bool thorough, size_t *steps);
 
 /* By which of rows 2 to 4 the bank is refused, and who runs where it is not: one pass over the columns, one over the packets. */

@@ -1,37 +1,62 @@
-"""The boundary to C: rows of a step through it, and the archive's bytes and stack. Builds the archive where a source is newer."""
+"""The boundary to C: rows of a call through it beside the same call in plain C, and the archive's bytes and stack. Builds the archive where a source is
+newer."""
 import functools
 import os
 import re
 import subprocess
 import sys
 
-from laps import STEPS
-from measure import FOLDER, ROOT, ROUNDS, compiled, low, run
+from laps import COLD, COUNTED, COUNTED_FRAMES, STEPS
+from measure import FOLDER, ROOT, Side, Work, compiled, run
 from row import Row
 
 sys.path.append(os.path.join(ROOT, "tests"))
 from firmware import INCLUDE, archive, exported
 
-# The letters of those steps of a lone column that are measured here too.
-LETTERS = "osmalnh"
-STACKS = [("a step", LETTERS + "w"), ("fresh", "F"), ("the closing list", "L"), ("a frame of 512 messages", "f"), ("the converter", "c"), ("any other call", "tpurMAj")]
+# Letter and name of each call: those of a lone column that are steps as there, then the others.
+CALLS = [(letter, name) for letter, name in STEPS if letter in "osmalnh"] + [
+    ("w", "page write"), ("p", "page read"), ("u", "line up"), ("t", "check of a tree"), ("F", "fresh"), ("L", "closing list of 64 doors"),
+    ("r", "packet read"), ("M", "message written"), ("A", "acknowledgement written"), ("c", "packet converted"), ("j", "packet joined")]
+FRAME = ("f", "frame of 512 messages counted")
+# One lap of a frame for so many of another call.
+FRAME_PART = 100
+MOST = 1.6
+STACKS = [("a step", "osmalnhw"), ("fresh", "F"), ("the closing list", "L"), ("a frame of 512 messages", "f"), ("the converter", "c"), ("any other call", "tpurMAj")]
 ALONE = [f"mudasgup_{name}" for name in ("tree", "fresh", "order", "send", "take", "ack", "all", "note", "halt")]
+PLAIN = ("boundary.c", "column.c")
+
+
+def sources(*names):
+    return [os.path.join(ROOT, "bench", name) for name in names]
 
 
 @functools.cache
 def program():
-    return compiled("firmware", "-Wl,-z,now", "-I", INCLUDE, *(os.path.join(ROOT, "bench", name) for name in ("firmware.c", "column.c")), archive())
+    """The laps through the archive."""
+    return compiled("firmware", "-Wl,-z,now", "-I", INCLUDE, *sources("firmware.c"), archive())
 
 
-def nanoseconds(letter, laps):
-    """Those of a step through the boundary and of the same in plain C, in one process."""
-    return low([float(cost) for cost in run(program(), "", letter, str(laps))[0].split()] for _ in range(ROUNDS))
+@functools.cache
+def plain_program():
+    """The same laps through calls in plain C."""
+    return compiled("firmware_plain", "-Wl,-z,now", "-I", INCLUDE, *sources("firmware.c", *PLAIN))
+
+
+def work(letter, laps):
+    """Laps of a call, less the cold ones."""
+    cold = laps // COLD
+    whole, start = ([Side(each(), "", (letter, str(count))) for each in (program, plain_program)] for count in (laps, cold))
+    return Work(whole, start, laps - cold)
+
+
+def call(letter, name, laps, counted):
+    return Row("boundary", f"core of 16 columns through the boundary to C: {name}", "ns", MOST, lambda: work(letter, laps), lambda: work(letter, counted))
 
 
 def rows(laps):
-    for letter, name in STEPS:
-        if letter in LETTERS:
-            yield Row("boundary", f"core of 16 columns through the boundary to C: {name}", "ns", None, functools.partial(nanoseconds, letter, laps))
+    for letter, name in CALLS:
+        yield call(letter, name, laps, COUNTED)
+    yield call(*FRAME, max(1, laps // FRAME_PART), COUNTED_FRAMES)
 
 
 def linked(names):

@@ -1,35 +1,61 @@
 /* The steps of a lone column in plain C, in place, with the refusals of document 01: what crates/column is measured beside. */
 #include "column.h"
 
+/* Whether every parent is one of the columns: a pass before any climb, over all sixteen places at once. */
+static bool parents_stand(const struct tree *t) {
+    uint8_t n = (uint8_t)t->columns, wrong = 0;
+    for (uint8_t j = 0; j < 16; j++)
+        wrong |= (uint8_t)((t->up[j] >= n) & (j < n));
+    return !wrong;
+}
+
+/* Whether the lists of a tree are plainly good, in unused places too: the root is 0, the sequence ascends, and every parent is lower than its child.
+   Most trees are, and need no climb. The tables are of bytes, so that bytes are compared. */
+static bool rises(const struct tree *t) {
+    static const uint8_t ascending[16] = ASCENDING, most[16] = {0, 0, 1, 2, 3, 4, 5, 6, 7, 8, 9, 10, 11, 12, 13, 14};
+    uint8_t wrong = t->root != 0;
+    for (size_t j = 0; j < 16; j++)
+        wrong |= (uint8_t)((t->first[j] != ascending[j]) | (t->up[j] > most[j]));
+    return !wrong;
+}
+
+static bool lists_every_column(const struct tree *t) {
+    uint32_t listed = 0;
+    for (size_t c = 0; c < t->columns; c++) {
+        if (t->first[c] >= t->columns)
+            return false;
+        listed |= 1u << t->first[c];
+    }
+    return listed == (1u << t->columns) - 1;
+}
+
+/* Whether the climb from c meets the root, or a column below c, from which the climb has been seen to end. */
+static bool climbs(const struct tree *t, size_t c) {
+    size_t at = c, budget = t->columns;
+    if (t->up[c] < c)
+        return true;
+    while (budget > 0 && at != t->root) {
+        at = t->up[at];
+        if (at < c)
+            return true;
+        budget--;
+    }
+    return budget > 0;
+}
+
 uint8_t tree_refusal(const struct tree *t) {
     size_t n = t->columns;
     if (n == 0 || n > 16)
         return 2;
-    if (t->root >= n)
+    if (t->root >= n || !parents_stand(t))
         return 3;
-    uint32_t listed = 0;
-    for (size_t c = 0; c < n; c++) {
-        if (t->up[c] >= n || t->first[c] >= n)
+    if (rises(t))
+        return 0;
+    if (!lists_every_column(t) || t->up[t->root] != t->root)
+        return 3;
+    for (size_t c = 0; c < n; c++)
+        if (!climbs(t, c))
             return 3;
-        listed |= 1u << t->first[c];
-    }
-    if (listed != (1u << n) - 1)
-        return 3;
-    if (t->up[t->root] != t->root)
-        return 3;
-    for (size_t c = 0; c < n; c++) {
-        if (t->up[c] < c)
-            continue;
-        size_t at = c, budget = n;
-        while (budget > 0 && at != t->root) {
-            at = t->up[at];
-            if (at < c)
-                break;
-            budget--;
-        }
-        if (budget == 0)
-            return 3;
-    }
     return 0;
 }
 
@@ -40,12 +66,12 @@ static uint8_t standing(const struct tree *t, size_t i, const struct column *c) 
     return stands(t, i, c) ? 0 : 4;
 }
 
+/* All sixteen places are compared at once, then masked. */
 static uint16_t children(const struct tree *t, size_t c) {
     uint16_t set = 0;
-    for (size_t j = 0; j < t->columns; j++)
-        if (t->up[j] == c && j != t->root)
-            set |= 1u << j;
-    return set;
+    for (size_t j = 0; j < 16; j++)
+        set |= (uint16_t)((t->up[j] == (uint8_t)c) << j);
+    return set & (uint16_t)((1u << t->columns) - 1) & (uint16_t)~(1u << t->root);
 }
 
 static size_t lowest(uint16_t set) { return (size_t)__builtin_ctz(set); }

@@ -8,8 +8,8 @@
 struct tree {
     size_t columns;
     size_t root;
-    size_t up[16];
-    size_t first[16];
+    uint8_t up[16];
+    uint8_t first[16];
     bool watch; /* true: columns watch who sent their record */
 };
 
@@ -56,7 +56,7 @@ static inline bool has(uint16_t set, size_t i) { return i < 16 && (set >> i & 1)
 
 /* The member of a set that stands earliest in the tree's sequence. */
 static inline size_t earliest(const struct tree *t, uint16_t set) {
-    const size_t *c = t->first;
+    const uint8_t *c = t->first;
     while (!(set >> *c & 1))
         c++;
     return *c;

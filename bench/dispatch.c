@@ -74,10 +74,8 @@ static uint8_t perform_standing(struct bank *b, struct step x) {
     }
 }
 
-/* Row 4 of what a step of column i can have changed: that column, and the newest packet. */
-static bool still_stands(const struct bank *b, uint16_t running, size_t i) {
-    if (!stands(&b->tree, i, &b->columns[i]))
-        return false;
+/* Row 4 of the newest packet: nothing else that a step can have changed breaks it, since every effect keeps that of its column. */
+static bool still_stands(const struct bank *b, uint16_t running) {
     if (!b->count)
         return true;
     const struct packet *newest = &b->packets[b->count - 1];
@@ -96,7 +94,7 @@ uint8_t bank_dispatch(struct bank *b, size_t limit, bool thorough, size_t *steps
         if (thorough ? perform(b, x) : perform_standing(b, x))
             break;
         ++*steps;
-        if (!thorough && !still_stands(b, s.running, x.i))
+        if (!thorough && !still_stands(b, s.running))
             break;
         bool same = full == (b->count == CAPACITY);
         set = same ? (uint16_t)(set & ~(1u << x.i)) | ready(b, halted, x.i) : ready_columns(b, halted);

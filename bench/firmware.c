@@ -1,29 +1,26 @@
-/* Steps through the boundary beside the same in plain C: `firmware LETTER LAPS` prints the nanoseconds of a lap of each. `firmware LETTERS` prints
-   the most bytes of stack that one of these calls needs. */
-#include "column.h"
-#include <mudasgup.h>
+/* Laps of the calls of include/mudasgup.h, whoever defines them: `firmware LETTER LAPS` prints what their answers fold into, and what the last one left.
+   `firmware LETTERS` prints the most bytes of stack that one of these calls needs. */
+#include "blocks.h"
+#include "laps.h"
 #include <stdio.h>
 #include <stdlib.h>
-#include <string.h>
-#include <time.h>
 #include <ucontext.h>
 
 #define STACK 262144
 #define PAINT 0xA5
 
-static const uint8_t blocks_tree[MUDASGUP_TREE] = {16, 0, 0, 0, 0, 1, 1, 2, 2, 3, 3, 4, 4, 5, 5, 6, 6, 6,
-                                                   0, 1, 2, 3, 4, 5, 6, 7, 8, 9, 10, 11, 12, 13, 14, 15};
-static const struct tree plain_tree = {16, 0, {0, 0, 0, 1, 1, 2, 2, 3, 3, 4, 4, 5, 5, 6, 6, 6}, ASCENDING, false};
+/* The trees of even and odd laps differ. */
+static uint8_t trees[2][MUDASGUP_TREE];
 static const uint8_t doors[MUDASGUP_DOORS] = {1, 2};
-static uint8_t message[MUDASGUP_PACKET], frame[512 * MUDASGUP_PACKET], list[MUDASGUP_LIST];
-static const struct packet plain_message = {MESSAGE, 0, 1, 1000, 513};
+static uint8_t message[MUDASGUP_PACKET], put[MUDASGUP_PACKET], frame[FRAME_PACKETS * MUDASGUP_PACKET], list[MUDASGUP_LIST];
 
-/* What is run: the column that acts, its state, and its step on both sides. */
-static const struct lap {
+/* What is called: the column that acts, and its state. */
+struct lap {
     char letter;
     size_t i;
     struct column state;
-} laps[] = {
+};
+static const struct lap laps[] = {
     {'o', 0, {.running = true, .whole = true}},
     {'s', 0, {.running = true, .whole = true, .send = 6}},
     {'m', 1, {.running = true}},
@@ -33,23 +30,10 @@ static const struct lap {
     {'h', 5, {.running = true}},
 };
 
-static void block_of(const struct column *c, uint8_t *block) {
-    const uint16_t sets[] = {c->send, c->awaited, c->owed, c->noted};
-    for (size_t k = 0; k < MUDASGUP_DOORS; k++)
-        block[MUDASGUP_AT_DOORS + k] = (uint8_t)(c->doors >> 8 * k);
-    for (size_t k = 0; k < 4; k++) {
-        block[MUDASGUP_AT_NUMBER + k] = (uint8_t)(c->number >> 8 * (3 - k));
-        block[MUDASGUP_AT_SEND + 2 * k] = (uint8_t)(sets[k] >> 8), block[MUDASGUP_AT_SEND + 2 * k + 1] = (uint8_t)sets[k];
-    }
-    block[MUDASGUP_AT_STATUS] = (uint8_t)(c->running + 2 * c->whole + 4 * c->sender);
-    block[MUDASGUP_AT_MASK] = c->mask, block[MUDASGUP_AT_PENDING] = c->pending;
-}
-
-#define LENT blocks_tree, sizeof blocks_tree, i, block, MUDASGUP_COLUMN
+#define LENT tree, MUDASGUP_TREE, i, block, MUDASGUP_COLUMN
 #define PUT put, sizeof put
 
-static size_t through(char letter, size_t i, uint8_t *block) {
-    uint8_t put[MUDASGUP_PACKET];
+static size_t called(char letter, const uint8_t *tree, size_t i, uint8_t *block) {
     switch (letter) {
     case 'o': return mudasgup_order(LENT, doors, sizeof doors, PUT);
     case 's': return mudasgup_send(LENT, PUT);
@@ -62,7 +46,7 @@ static size_t through(char letter, size_t i, uint8_t *block) {
     case 'L': return mudasgup_list(LENT, list, sizeof list);
     case 'F': return mudasgup_fresh(LENT);
     case 'c': return mudasgup_convert(message, sizeof message, PUT);
-    case 't': return mudasgup_tree(blocks_tree, sizeof blocks_tree);
+    case 't': return mudasgup_tree(tree, MUDASGUP_TREE);
     case 'w': return mudasgup_page_write(LENT, MUDASGUP_PAGE_MASK, 7, PUT);
     case 'p': return mudasgup_page_read(LENT, MUDASGUP_PAGE_PENDING);
     case 'u': return mudasgup_line_up(block, MUDASGUP_COLUMN);
@@ -70,74 +54,47 @@ static size_t through(char letter, size_t i, uint8_t *block) {
     case 'M': return mudasgup_message(0, 1, 1000, doors, sizeof doors, PUT);
     case 'A': return mudasgup_acknowledgement(0, 1, 1000, PUT);
     case 'j': return mudasgup_join(message, sizeof message, frame, sizeof frame, 0);
-    default: return 0;
+    default: return MUDASGUP_REFUSED;
     }
 }
 
-static struct answer in_place(char letter, size_t i, struct column *c) {
-    switch (letter) {
-    case 'o': return order(&plain_tree, i, c, 513);
-    case 's': return send(&plain_tree, i, c);
-    case 'm': return take(&plain_tree, i, c, plain_message);
-    case 'a': return ack(&plain_tree, i, c);
-    case 'l': return all(&plain_tree, i, c);
-    case 'n': return note(&plain_tree, i, c, 1);
-    default: return halt(&plain_tree, i, c);
-    }
+static void print_bytes(const uint8_t *bytes, size_t size) {
+    for (size_t k = 0; k < size; k++)
+        printf("%02x", bytes[k]);
+    putchar('\n');
 }
 
-static double now(void) {
-    struct timespec t;
-    clock_gettime(CLOCK_PROCESS_CPUTIME_ID, &t);
-    return (double)t.tv_sec * 1e9 + (double)t.tv_nsec;
-}
-
-/* Each lap begins at the same state. What the last one leaves is answered, and a refusal is no lap. */
-static void laps_through(const struct lap *lap, long count, uint8_t *block) {
-    uint8_t first[MUDASGUP_COLUMN];
-    block_of(&lap->state, first);
-    for (long k = 0; k < count; k++) {
+/* Each lap begins at the same state. A refusal is no lap. */
+static int run(const struct lap *lap, uint64_t count) {
+    uint8_t first[MUDASGUP_COLUMN], block[MUDASGUP_COLUMN];
+    uint64_t sum = 0;
+    column_out(&lap->state, first);
+    for (uint64_t k = 0; k < count; k++) {
         memcpy(block, first, sizeof first);
-        if (through(lap->letter, lap->i, block) >= MUDASGUP_REFUSED)
-            exit(1);
+        size_t answer = called(lap->letter, trees[k % 2], lap->i, block);
+        if (answer >= MUDASGUP_REFUSED)
+            return 1;
+        sum = fold(sum, answer);
     }
-}
-
-static void laps_in_place(const struct lap *lap, long count, struct column *c) {
-    for (long k = 0; k < count; k++) {
-        *c = lap->state;
-        __asm__ volatile("" : : "r"(c) : "memory");
-        if (in_place(lap->letter, lap->i, c).refusal)
-            exit(1);
+    printf("%llu\n", (unsigned long long)sum);
+    if (count) {
+        print_bytes(block, sizeof block);
+        print_bytes(put, sizeof put);
+        print_bytes(list, sizeof list);
     }
+    return 0;
 }
 
-/* After a fourth of the laps, which are slower; what both sides leave must be the same. */
-static int time_of(const struct lap *lap, long count) {
-    uint8_t block[MUDASGUP_COLUMN], after[MUDASGUP_COLUMN];
-    struct column c;
-    laps_through(lap, count / 4, block);
-    laps_in_place(lap, count / 4, &c);
-    double start = now();
-    laps_through(lap, count, block);
-    double middle = now();
-    laps_in_place(lap, count, &c);
-    double end = now();
-    block_of(&c, after);
-    printf("%f %f\n", (middle - start) / (double)count, (end - middle) / (double)count);
-    return memcmp(after, block, sizeof block) != 0;
-}
-
-/* The bytes of stack that an accepted call reaches down to, on a stack of its own that was painted, from where its caller has its packet. */
+/* The bytes of stack that an accepted call reaches down to, on a stack of its own that was painted. */
 static ucontext_t caller, callee;
-static struct lap called;
-static uint8_t called_block[MUDASGUP_COLUMN];
+static struct lap asked;
+static uint8_t asked_block[MUDASGUP_COLUMN];
 static size_t answered;
 static const uint8_t *top;
 
 static void on_own_stack(void) {
     top = __builtin_frame_address(0);
-    answered = through(called.letter, called.i, called_block);
+    answered = called(asked.letter, trees[0], asked.i, asked_block);
 }
 
 static size_t stack_of(struct lap lap) {
@@ -148,8 +105,8 @@ static size_t stack_of(struct lap lap) {
     callee.uc_stack.ss_sp = stack;
     callee.uc_stack.ss_size = sizeof stack;
     callee.uc_link = &caller;
-    called = lap;
-    block_of(&lap.state, called_block);
+    asked = lap;
+    column_out(&lap.state, asked_block);
     makecontext(&callee, on_own_stack, 0);
     swapcontext(&caller, &callee);
     if (answered >= MUDASGUP_REFUSED)
@@ -176,14 +133,25 @@ static size_t most_stack_of(const char *letters) {
     return most;
 }
 
+static void prepare(void) {
+    for (size_t k = 0; k < 2; k++) {
+        struct tree t = heap(16, 0);
+        t.up[15] = (uint8_t)(6 + k);
+        trees[k][MUDASGUP_AT_COLUMNS] = (uint8_t)t.columns, trees[k][MUDASGUP_AT_ROOT] = (uint8_t)t.root;
+        memcpy(trees[k] + MUDASGUP_AT_UP, t.up, sizeof t.up);
+        memcpy(trees[k] + MUDASGUP_AT_FIRST, t.first, sizeof t.first);
+    }
+    mudasgup_message(0, 1, 1000, doors, sizeof doors, message, sizeof message);
+    for (size_t k = 0; k < FRAME_PACKETS; k++)
+        memcpy(frame + k * sizeof message, message, sizeof message);
+}
+
 int main(int count, char **words) {
     if (count < 2)
         return 2;
-    mudasgup_message(0, 1, 1000, doors, sizeof doors, message, sizeof message);
-    for (size_t k = 0; k < 512; k++)
-        memcpy(frame + k * sizeof message, message, sizeof message);
+    prepare();
     if (count == 2)
         return printf("%zu\n", most_stack_of(words[1])) < 0;
     const struct lap lap = lap_of(*words[1]);
-    return time_of(&lap, strtol(words[2], NULL, 10));
+    return run(&lap, strtoull(words[2], NULL, 10));
 }

@@ -1,13 +1,16 @@
 """Rows of whole processes: scripts run, journals compared, losses counted, a fastest tree found. The start of a process has a row of its own for
 each program, and is taken off the others."""
 import os
+import tempfile
+
 from journals import JOURNALS
 from losses import TREES, table
-from measure import FOLDER, seconds
+from measure import FOLDER, Side, Work, built, plain
 from row import Row
 from scripts import SCRIPTS
 
-SCRIPT_MOST = 1.5
+# The most of their ratios; of scripts a list takes less than in C.
+SCRIPT_MOST, LIST_MOST, JOURNALS_MOST, LOSSES_MOST = 1.3, 1, 1.8, 1.3
 # Step counts of the trees of eight columns; and the columns of smaller bushes, with theirs.
 AFTER = (0, 4, 999)
 BUSHES = (5, 6, 7)
@@ -17,35 +20,51 @@ REQUEST = "columns=16\ndelay=2\ngap=1\n"
 PROCESSES = 20
 
 
-def milliseconds(proved, name, given, *words):
-    return [one * 1e3 for one in seconds(proved, name, given, *words, times=PROCESSES)]
+def sides(proved, name, given, *words):
+    """A proved program and the plain one of a name."""
+    return [Side(program, given, words) for program in (built(proved), plain(name))]
 
 
 def pulled(texts):
     """The paths of two journals with these texts."""
-    paths = [os.path.join(FOLDER.name, name) for name in ("one", "two")]
+    folder = tempfile.mkdtemp(dir=FOLDER.name)
+    paths = [os.path.join(folder, name) for name in ("one", "two")]
     for path, text in zip(paths, texts):
         with open(path, "w", encoding="ascii") as file:
             file.write(text)
     return paths
 
 
-def without_start(part, most, first, others, cost):
-    """Rows of names and inputs. The first is little more than the start of the process, which is taken off the others, measured anew for each."""
-    yield Row("start", f"{first[0]}, with the start of the process", "ms", None, lambda: cost(first[1]))
+def process(part, name, most, whole, start=lambda: ()):
+    """A row of a process, less one that does little more than start."""
+    def work():
+        return Work(whole(), start(), times=PROCESSES)
+    return Row(part, name, "ms", most, work, work)
+
+
+def without_start(part, most, first, others, pair):
+    """Rows of names and inputs, of which `most` tells the most of a ratio by its name. The first is little more than the start of the process, which is taken off the others, measured anew for each."""
+    yield process("start", f"{first[0]}, with the start of the process", None, lambda: pair(first[1]))
     for name, given in others:
-        yield Row(part, name, "ms", most, lambda given=given: [one - start for one, start in zip(cost(given), cost(first[1]))])
+        yield process(part, name, most(name), lambda given=given: pair(given), lambda: pair(first[1]))
+
+
+def script_sides(script):
+    return sides("lockers", "lockers", script)
 
 
 def scripts():
     names = [(f"script of {len(script)} bytes: {name}", script) for name, script in SCRIPTS]
-    return without_start("script", SCRIPT_MOST, names[0], names[1:], lambda script: milliseconds("lockers", "lockers", script))
+    return without_start("script", lambda name: LIST_MOST if "list" in name else SCRIPT_MOST, names[0], names[1:], script_sides)
+
+
+def compared(texts):
+    return sides("fitter", "journals", "", *pulled(texts))
 
 
 def journals():
     full = [(f"two full journals, {name}", texts) for name, *texts in JOURNALS]
-    return without_start("journals", None, ("two journals of no byte", ("", "")), full,
-                         lambda texts: milliseconds("fitter", "journals", "", *pulled(texts)))
+    return without_start("journals", lambda name: JOURNALS_MOST, ("two journals of no byte", ("", "")), full, compared)
 
 
 def banks():
@@ -55,13 +74,17 @@ def banks():
     return [(f"losses of {name}, after {steps}", f"{table(up)}after={steps}\n") for name, up, steps in asked]
 
 
+def loss_sides(given):
+    return sides("sales", "losses", given)
+
+
 def losses():
-    return without_start("losses", None, ("losses of no table", ""), banks(), lambda given: milliseconds("sales", "losses", given))
+    return without_start("losses", lambda name: LOSSES_MOST, ("losses of no table", ""), banks(), loss_sides)
 
 
 def fastest():
     """Its work is too little to be told from the start of the process."""
-    return without_start("fastest", None, ("fastest tree of 16 columns", REQUEST), [], lambda given: milliseconds("installer", "fastest", given))
+    return without_start("fastest", lambda name: None, ("fastest tree of 16 columns", REQUEST), [], lambda given: sides("installer", "fastest", given))
 
 
 def rows():

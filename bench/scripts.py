@@ -7,9 +7,9 @@ STEPS = ("order=0102000000000000\nsend=0\nsend=2\ntake=0\nsend=1\norder=01020000
          "ack=1\nnote=0,9\ntake=0\n")
 
 
-def filled(lines, before=""):
-    """A script of exactly the limit; the last line may be cut."""
-    return (TABLE + before + lines * (LIMIT // len(lines) + 1))[:LIMIT]
+def filled(lines, before="", size=LIMIT):
+    """A script of exactly so many bytes; the last line may be cut."""
+    return (TABLE + before + lines * (size // len(lines) + 1))[:size]
 
 
 SCRIPTS = [("the table alone", TABLE), ("`list=0`, no door", filled("list=0\n")), ("`list=0`, 64 doors", filled("list=0\n", ALL_DOORS)),

@@ -80,14 +80,14 @@ static inline bool numeral(struct cursor *c, int width, size_t *value) {
 }
 
 /* A line's numbers up to its end, and how many they are; past the sixteenth they are counted alone. */
-static inline bool numbers(struct cursor *c, size_t *list, size_t *count) {
+static inline bool numbers(struct cursor *c, uint8_t *list, size_t *count) {
     size_t number;
     *count = 0;
     do {
         if (!numeral(c, 2, &number))
             return false;
         if (*count < 16)
-            list[*count] = number;
+            list[*count] = (uint8_t)number;
         (*count)++;
     } while (literal(c, ","));
     return literal(c, "\n");

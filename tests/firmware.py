@@ -59,8 +59,8 @@ def exported():
 class Library:
     """Calls by name. Bytes are lent to be read, a bytearray to be read or written; answers come with every bytearray after the call."""
 
-    def __init__(self, folder):
-        self.functions = shared_object(folder)
+    def __init__(self, folder, made=shared_object):
+        self.functions = made(folder)
 
     def call(self, name, *arguments):
         words, lent = [], []

@@ -1,22 +1,57 @@
 #!/usr/bin/env python3
-"""Runs every test of this folder on what is built, and last which refusals they met; the last line is 'N passed, M failed'."""
+"""Runs every test of this folder on what is built, each file in a process and as many at a time as there are processors, and last which refusals they
+met; the last line is 'N passed, M failed'."""
+import concurrent.futures
+import contextlib
+import glob
+import io
 import os
 import sys
+import time
 import unittest
 
 import refusals
 
 HERE = os.path.dirname(os.path.abspath(__file__))
+# These take longest, so that they begin first.
+LONGEST = ["test_random", "test_firmware", "test_journals"]
+
+
+def names():
+    """The files of tests, the longest first."""
+    found = sorted(os.path.splitext(os.path.basename(path))[0] for path in glob.glob(os.path.join(HERE, "test_*.py")))
+    return [name for name in LONGEST if name in found] + [name for name in found if name not in LONGEST]
+
+
+def outcome(suite):
+    """What the tests of a suite printed, how many there were, and how many of them did not pass."""
+    printed = io.StringIO()
+    with contextlib.redirect_stdout(printed):
+        result = unittest.TextTestRunner(stream=printed, verbosity=2).run(suite)
+    failed = len(result.failures) + len(result.errors) + len(result.skipped) + len(result.unexpectedSuccesses)
+    return printed.getvalue(), result.testsRun, max(failed, result.testsRun == 0)
+
+
+def of_file(name):
+    """The outcome of a file, the refusals that its tests met, and the seconds that it took."""
+    refusals.MET.clear()
+    start = time.monotonic()
+    return *outcome(unittest.defaultTestLoader.loadTestsFromName(name)), refusals.MET, time.monotonic() - start
 
 
 def main():
-    loader = unittest.TestLoader()
-    suite = unittest.TestSuite([loader.discover(HERE, pattern="test_*.py"), loader.loadTestsFromTestCase(refusals.Met)])
-    result = unittest.TextTestRunner(stream=sys.stdout, verbosity=2).run(suite)
-    failed = len(result.failures) + len(result.errors) + len(result.skipped) + len(result.unexpectedSuccesses)
-    if result.testsRun == 0:
-        failed += 1
-    print(f"{result.testsRun - min(failed, result.testsRun)} passed, {failed} failed")
+    ran = failed = 0
+    with concurrent.futures.ProcessPoolExecutor(os.cpu_count()) as pool:
+        runs = [(name, pool.submit(of_file, name)) for name in names()]
+        for name, run in runs:
+            printed, count, wrong, met, seconds = run.result()
+            print(f"{printed}{name}: {seconds:.0f} s", flush=True)
+            refusals.MET.update(met)
+            ran, failed = ran + count, failed + wrong
+    printed, count, wrong = outcome(unittest.defaultTestLoader.loadTestsFromTestCase(refusals.Met))
+    print(printed)
+    ran, failed = ran + count, failed + wrong
+    print(f"{ran - min(failed, ran)} passed, {failed} failed")
     return 1 if failed else 0
 
 

@@ -17,7 +17,7 @@ sys.path.insert(0, os.path.join(ROOT, "bench"))
 import boundary
 import laps
 import processes
-from row import limits
+from row import HEADINGS, LIMITS, RATIO, limits
 from scripts import SCRIPTS
 from stack import ROUNDS, runs_in
 
@@ -265,11 +265,11 @@ class Readme(Citations):
         self.assertEqual(total, "1 refused for a fact, 0 not")
 
     def test_the_table_of_speed_is_that_of_its_command(self):
-        shown = [row for row in self.rows("Figures") if len(row) == 6]
+        shown = [row for row in self.rows("Figures") if len(row) == len(HEADINGS)]
         measured = [*laps.rows(1), *boundary.rows(1), *processes.rows()]
         self.assertEqual([row[0] for row in shown], [row.name for row in measured])
         for cells, row in zip(shown, measured):
-            self.assertEqual(cells[4:], limits(row, float(cells[3])), row.name)
+            self.assertEqual(cells[LIMITS:], limits(row, float(cells[RATIO] or 0)), row.name)
 
     def test_the_program_runs_in_the_stack_that_is_told(self):
         measured, *others = (re.search(rf"^\| stack in which `{name}`.*\| (\d+) KB \|$", self.text, re.M)[1] for name in ("lockers", "journals", "losses"))

@@ -106,11 +106,14 @@ class Walk:
 
 
 class Calls(unittest.TestCase):
+    # What is called, and for which program the refusals that are met count, if for any.
+    made, program = staticmethod(firmware.shared_object), "firmware"
+
     @classmethod
     def setUpClass(cls):
         cls.folder = tempfile.TemporaryDirectory()
         cls.addClassCleanup(cls.folder.cleanup)
-        cls.library = firmware.Library(cls.folder.name)
+        cls.library = firmware.Library(cls.folder.name, cls.made)
 
     def setUp(self):
         self.met, self.told, self.calls = collections.Counter(), collections.Counter(), []
@@ -122,8 +125,8 @@ class Calls(unittest.TestCase):
         plain = [bytes(argument) if isinstance(argument, bytearray) else argument for argument in arguments]
         self.assertEqual(ours, model.called(name, buffers, plain, lambda words: self.told.update([words])), (name, arguments))
         self.calls.append((name, buffers, plain, ours))
-        if ours[0] >= model.REFUSED:
-            refusals.MET["firmware", ours[0] - model.REFUSED] += 1
+        if self.program and ours[0] >= model.REFUSED:
+            refusals.MET[self.program, ours[0] - model.REFUSED] += 1
         self.met[name, ours[0] - model.REFUSED if ours[0] >= model.REFUSED else "left" if ours[0] >= model.LEFT and name == "take" else "done"] += 1
         return ours
 

@@ -1,13 +1,19 @@
-"""The plain C of bench/ answers as the proved programs: laps of the steps, of a lone column and of a bank, and of the reader of frames fold into the same
-number, and whole programs print the same for what bench/run hands them and for every example."""
+"""The plain C of bench/ answers as the proved programs: laps of the steps, of a lone column and of a bank, of the reader of frames and of every call through
+the boundary fold into the same number, whole programs print the same for what bench/run hands them and for every example, and random calls of the
+boundary answer and leave what the model does."""
+import ctypes
 import glob
 import os
+import subprocess
 import sys
 import unittest
 
+import firmware
+import test_firmware
 from test_scripts import ROOT
 
 sys.path.append(os.path.join(ROOT, "bench"))
+import boundary
 from journals import JOURNALS
 from measure import built, plain, run
 from processes import REQUEST, banks, pulled
@@ -16,7 +22,7 @@ from scripts import SCRIPTS
 LONE = [f"{letter} 1000\n" for letter in "osmealnhrf"]
 BANK = [f"{letter} {columns} {packets} 200\n" for letter, sizes in (("N", ("03", "16")), ("T", ("03", "16")), ("H", ("16",)), ("S", ("16",)))
         for columns in sizes for packets in ("002", "100", "400", "512")]
-DISPATCHED = [f"{letter} {laps}\n" for letter in "DFG" for laps in (1, 10)]
+DISPATCHED = [f"{letter} {columns} {laps}\n" for letter in "DFG" for columns in ("02", "03", "08", "16") for laps in (1, 10)]
 REQUESTS = [REQUEST, "columns=1\ndelay=255\ngap=255\n", "columns=9\ndelay=1\ngap=3\n", "columns=0\ndelay=1\ngap=1\n", "columns=2\ndelay=0\ngap=1\n", "columns=2\n"]
 
 
@@ -32,17 +38,23 @@ class Plain(unittest.TestCase):
         self.assertEqual(printed, {given: run(plain(name), given, *words)[0] for given in inputs})
         return printed
 
-    def laps_agree(self, lines):
-        self.assertGreater(len(set(self.agree("timing", "laps", lines).values())), len(lines) // 2)
+    def laps_agree(self, name, lines):
+        self.assertGreater(len(set(self.agree(f"{name}_timing", f"{name}_laps", lines).values())), len(lines) // 2)
 
     def test_every_step_of_a_column_agrees(self):
-        self.laps_agree(LONE)
+        self.laps_agree("column", LONE)
 
     def test_steps_of_a_bank_agree(self):
-        self.laps_agree(BANK)
+        self.laps_agree("bank", BANK)
 
     def test_dispatched_banks_agree(self):
-        self.laps_agree(DISPATCHED)
+        self.laps_agree("dispatch", DISPATCHED)
+
+    def test_every_call_through_the_boundary_agrees(self):
+        called = [letter for letter, _ in [*boundary.CALLS, boundary.FRAME]]
+        self.assertEqual(len(called), len(firmware.exported()))
+        printed = [[run(each(), "", letter, "10")[0] for letter in called] for each in (boundary.program, boundary.plain_program)]
+        self.assertEqual(*printed)
 
     def test_programs_agree(self):
         self.agree("lockers", "lockers", [*examples(), *(script for _, script in SCRIPTS)])
@@ -50,6 +62,17 @@ class Plain(unittest.TestCase):
         self.agree("installer", "fastest", REQUESTS)
         for _, *texts in JOURNALS:
             self.agree("fitter", "journals", [""], *pulled(texts))
+
+
+def plain_calls(folder):
+    """The calls in plain C as a shared object; its `send` is its own and not the system's."""
+    path = os.path.join(folder, "plain.so")
+    subprocess.run(["gcc", "-O3", "-shared", "-fPIC", "-Wl,-Bsymbolic", "-I", firmware.INCLUDE, "-o", path, *boundary.sources(*boundary.PLAIN)], check=True)
+    return ctypes.CDLL(path)
+
+
+class PlainCalls(test_firmware.Calls):
+    made, program = staticmethod(plain_calls), None
 
 
 if __name__ == "__main__":

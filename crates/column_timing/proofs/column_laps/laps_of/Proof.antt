@@ -1,0 +1,49 @@
+use borrow.Author.Needs.{needs}
+use Prim.Native.Nat.{_-_}
+use Rattle.column_timing.proofs.column_laps.laps_of.Statement.{statement}
+use Rattle.column_timing.proofs.column_laps.laps_of.Tie as tie
+
+abbrev Inv-loop : tie.InvT-loop
+Inv-loop letter even odd root laps sum₀ lap₀ sum lap = Unit {0}
+
+abbrev μ-loop : tie.MeasureT-loop
+μ-loop letter even odd root laps sum₀ lap₀ sum lap = laps - lap
+
+loop-holds : tie.Need-loop-holds Inv-loop μ-loop
+loop-holds c = search needs
+
+tree-requires : tie.Need-tree-requires Inv-loop μ-loop
+tree-requires c κs = search needs
+
+step-requires : tie.Need-step-requires Inv-loop μ-loop
+step-requires c κs = search needs
+
+folded-requires : tie.Need-folded-requires Inv-loop μ-loop
+folded-requires c κs = search needs
+
+add-lap : tie.Need-add-lap Inv-loop μ-loop
+add-lap c = search needs
+
+loop-less : tie.Need-loop-less Inv-loop μ-loop
+loop-less c = search needs
+
+loop-again : tie.Need-loop-again Inv-loop μ-loop
+loop-again c = search needs
+
+returns : tie.Need-returns Inv-loop μ-loop
+returns c = search needs
+
+pub laps-of-spec : {M : Type 1} → statement M
+laps-of-spec =
+    tie.close
+    (tie.spec
+    Inv-loop
+    μ-loop
+    loop-holds
+    tree-requires
+    step-requires
+    folded-requires
+    add-lap
+    loop-less
+    loop-again
+    returns)

@@ -1,0 +1,33 @@
+use Prim.Native.Nat.{_-_}
+use borrow.Author.Needs.{needs}
+use Rattle.dispatch_timing.proofs.dispatch_laps.send_all.Statement.{statement}
+use Rattle.dispatch_timing.proofs.dispatch_laps.send_all.Tie as tie
+
+abbrev Inv-loop : tie.InvT-loop
+Inv-loop i heads₀ doors₀ d₀ k₀ heads doors d k = Unit {0}
+
+abbrev μ-loop : tie.MeasureT-loop
+μ-loop i heads₀ doors₀ d₀ k₀ heads doors d k = 17 - k
+
+loop-holds : tie.Need-loop-holds Inv-loop μ-loop
+loop-holds c = search needs
+
+send-requires : tie.Need-send-requires Inv-loop μ-loop
+send-requires c κs = search needs
+
+add-k : tie.Need-add-k Inv-loop μ-loop
+add-k c = search needs
+
+loop-less : tie.Need-loop-less Inv-loop μ-loop
+loop-less c = search needs
+
+loop-again : tie.Need-loop-again Inv-loop μ-loop
+loop-again c = search needs
+
+returns : tie.Need-returns Inv-loop μ-loop
+returns c = search needs
+
+pub send-all-spec : {M : Type 1} → statement M
+send-all-spec =
+    tie.close
+    (tie.spec Inv-loop μ-loop loop-holds send-requires add-k loop-less loop-again returns)
