@@ -1,19 +1,19 @@
 -- Two journals that were read, compared test by test in the order of the refusals. Assumes nothing.
-use Prim.Native.Nat.{ℕ, _+_, _≤_, _<_}
+use Prim.Native.Nat.{ℕ, _+_, _≤_}
 use mathlib.Core.Path.{_≡_, refl, sym, ap, ap₂, _∙_}
 use mathlib.Core.Logic.{_≢_}
 use mathlib.Core.Bool.{Bool, true, false, _&&_, cond}
-use mathlib.Core.List.{List, _++_}
+use mathlib.Core.List.{List}
 use native.Mathlib.Omega.{arith}
 use lib.Dec.{eqb, leb}
-use lib.ListN.{length, replicate, length-replicate, getD-replicate, length-append}
-use borrow.Author.Tests.{eq-eqb, ne-eqb, le-leb, lt-leb, leb-true}
+use lib.ListN.{length, replicate, length-replicate, getD-replicate}
+use borrow.Author.Tests.{eq-eqb, ne-eqb, le-leb, lt-leb, leb-true, leb-false}
 use Rattle.column.specs.Refusals.{first, Given, given, refused}
 use Rattle.closing.specs.Text.{written}
 use Rattle.closing.specs.Writing.{Writes}
 use Rattle.closing.specs.Closing.{Listed, placed}
 use Rattle.journals.specs.Chains.{buckets, Indexed, Placed, lastWith}
-use Rattle.journals.specs.Journals.{Journal, linesLimit, journalOf, onceEach, allHeard, missingText, declined, pairConditions, pairCompared, bothCompared, compared}
+use Rattle.journals.specs.Journals.{Journal, linesLimit, journalOf, onceEach, allHeard, missing, missingText, declined, pairConditions, pairCompared, bothCompared, compared}
 use Rattle.journals.specs.JournalReads.{Holds}
 use Rattle.journals.specs.declared.comparison.Compared.{Compared}
 use Rattle.journals.specs.declared.comparison.Compared.the-variants as answer
@@ -24,9 +24,15 @@ comparedMeant (answer.Length n) out = record { answer = given n; buffer = out }
 comparedMeant (answer.Refused n) out = record { answer = refused n; buffer = out }
 
 -- the words of a journal's lines have their index
-pub record Ready (text : List ℕ) (owner : ℕ) (keys index : List ℕ) : Type 0 where
-  pub holds : Holds text owner keys
+pub record Ready (text : List ℕ) (owner : ℕ) (keys sizes index : List ℕ) : Type 0 where
+  pub holds : Holds text owner keys sizes
+  pub few : length keys ≤ linesLimit
   pub placed-in : Placed keys index
+
+-- how many bytes are missing in all
+abbrev pub missingSize : Journal → Journal → ℕ
+missingSize one two =
+    length (missing (one .owner) (two .owner) (one .entries) (two .entries)) + length (missing (two .owner) (one .owner) (two .entries) (one .entries))
 
 -- the places of an index
 abbrev pub indexSize : ℕ
@@ -84,18 +90,20 @@ module _ (j k : Journal) (old : List ℕ) where
         unfolding pairCompared
         pair-placed e = rw (ne-eqb (j .owner) (k .owner) apart, once, once-too, e)
 
--- ---- two texts, one after the other
+-- ---- with room and without
 
-module _ (old v w : List ℕ) where
-  pub placed-short : length old < length v + length w → placed old 0 (v ++ w) ≡ declined 11 old
-  unfolding placed
-  placed-short h = rw (lt-leb (0 + length (v ++ w)) (length old) (omega (arith, h, length-append v w)))
+module _ (old text : List ℕ) where
+  abbrev roomy : Bool
+  roomy = leb (length text) (length old)
 
-  pub placed-both : {r : ℕ} {new : List ℕ} → length v + length w ≤ length old → Writes r new old 0 (v ++ w)
-      → record { answer = given r; buffer = new } ≡ placed old 0 (v ++ w)
+  pub placed-short : roomy ≡ false → placed old 0 text ≡ declined 11 old
   unfolding placed
-  placed-both h x = rw (le-leb (0 + length (v ++ w)) (length old) (omega (arith, h, length-append v w)))
-      (ap₂ (λ (n : ℕ) (l : List ℕ). record { answer = given n; buffer = l }) (let e : 0 + length (v ++ w) ≡ length (v ++ w) = omega arith in x .place ∙ e) (x .left))
+  placed-short e = rw (lt-leb (0 + length text) (length old) (omega (arith, leb-false (length text) (length old) e)))
+
+  pub placed-all : {r : ℕ} {new : List ℕ} → roomy ≡ true → Writes r new old 0 text → record { answer = given r; buffer = new } ≡ placed old 0 text
+  unfolding placed
+  placed-all e x = rw (le-leb (0 + length text) (length old) (omega (arith, leb-true (length text) (length old) e)))
+      (ap₂ (λ (n : ℕ) (l : List ℕ). record { answer = given n; buffer = l }) (let z : 0 + length text ≡ length text = omega arith in x .place ∙ z) (x .left))
 
 -- ---- what was written lies within the buffer
 

@@ -12,7 +12,7 @@ use lib.ListN.{length, getD}
 use Rattle.journals.specs.Chains.{among}
 use Rattle.journals.specs.Journals.{line, Entry, allHeard}
 use Rattle.journals.specs.LineWords.{wayNumber, byteValues, keyOf, aboutKey, turned, about-key, turned-key}
-use Rattle.journals.specs.JournalKeys.{keysOf}
+use Rattle.journals.specs.JournalKeys.{valuesOf, keysOf}
 use Rattle.journals.specs.KeyLaws.{AllFit, among-has}
 use Rattle.journals.specs.declared.line.Way.the-variants.{Sent, Got}
 
@@ -62,7 +62,7 @@ module _ (a b : ℕ) (theirs : List ℕ) where
 
 pub heard-entries : (a b : ℕ) (mine theirs : List Entry) → a < byteValues → AllFit mine → AllFit theirs
     → heardKeys a b (keysOf mine) (length (keysOf mine)) (keysOf theirs) ≡ allHeard a b mine theirs
-unfolding heardKeys keysOf allHeard AllFit
+unfolding heardKeys valuesOf allHeard AllFit
 heard-entries a b [] theirs h f g = refl
 heard-entries a b (e ∷ l) theirs h f g =
     let x = e .line in

@@ -1,9 +1,9 @@
--- A whole journal that was read: its owner, the place of its second line, and the words of its lines. Assumes nothing.
-use Prim.Native.Nat.{ℕ, _+_, _-_, _≤_, _<_}
+-- A whole journal that was read: its owner, the place of its second line, and the words and sizes of its lines. Assumes nothing.
+use Prim.Native.Nat.{ℕ, suc, _+_, _-_, _≤_, _<_}
 use mathlib.Core.Path.{_≡_, refl, sym, ap, ap₂, subst, _∙_}
 use mathlib.Core.Logic.{_≢_}
 use mathlib.Core.Bool.{true, true≢false}
-use mathlib.Core.List.{List}
+use mathlib.Core.List.{List, [], _∷_}
 use native.Mathlib.Omega.{arith}
 use lib.ListN.{length, take, drop, length-drop}
 use lib.Seq.{length-take-le}
@@ -16,11 +16,11 @@ use Rattle.closing.specs.Readings.{rest-of}
 use Rattle.closing.specs.Cutting.{line-ended, line-unended}
 use Rattle.journals.specs.Journals.{Entry, Journal, withOwner, owned, headed, journalLimit, linesLimit, journalOf, onceEach, allHeard, missing}
 use Rattle.journals.specs.LineWords.{byteValues}
-use Rattle.journals.specs.JournalKeys.{keysOf, keysIn, entries-enough}
+use Rattle.journals.specs.JournalKeys.{entryKey, entrySize, valuesOf, valuesIn, keysOf, sizesOf, entries-enough}
 use Rattle.journals.specs.Chains.{distinct}
 use Rattle.journals.specs.KeyLaws.{AllFit, entries-fit, distinct-once}
 use Rattle.journals.specs.Hearing.{heardKeys, heard-entries}
-use Rattle.journals.specs.Missing.{isGiven, entriesGiven, entriesFrom, textFrom, missing-words}
+use Rattle.journals.specs.Missing.{isGiven, entriesGiven, entriesFrom, textFrom, missing-words, missedLength, missed-length, Walked}
 use Rattle.journals.specs.declared.journal.Heading.{Heading}
 use Rattle.journals.specs.declared.journal.Heading.the-variants as heading-is
 
@@ -31,34 +31,35 @@ linesIn owner text = entriesGiven (entriesFrom owner text 0)
 abbrev pub journalIn : ℕ → List ℕ → Journal
 journalIn owner text = record { owner = owner; entries = linesIn owner text }
 
--- a text is lines in the journal of an owner, and these are their words
-pub record Holds (text : List ℕ) (owner : ℕ) (keys : List ℕ) : Type 0 where
+-- a text is lines in the journal of an owner, and these are their words and sizes
+pub record Holds (text : List ℕ) (owner : ℕ) (keys sizes : List ℕ) : Type 0 where
   pub well : isGiven (entriesFrom owner text 0) ≡ true
   pub words : keys ≡ keysOf (linesIn owner text)
+  pub extents : sizes ≡ sizesOf (linesIn owner text)
   pub below : owner < 16
 
 -- a text from a place on, as a part of it is lent
 abbrev pub rest : List ℕ → ℕ → List ℕ
 rest text from = take (length text - from) (drop from text)
 
--- a text is the journal of an owner; its lines begin at a place, and the first words of an array are theirs
-pub record Headed (text : List ℕ) (owner from count : ℕ) (keys : List ℕ) : Type 0 where
+-- a text is the journal of an owner; its lines begin at a place, and the first words and sizes of two arrays are theirs
+pub record Headed (text : List ℕ) (owner from count : ℕ) (keys sizes : List ℕ) : Type 0 where
   pub journal : journalOf text ≡ given (journalIn owner (rest text from))
-  pub holds : Holds (rest text from) owner (take count keys)
+  pub holds : Holds (rest text from) owner (take count keys) (take count sizes)
   pub inside : from ≤ length text
   pub few : count ≤ length keys
 
--- what the reader answers of a text, and the words that it leaves
-abbrev pub IsRead : Heading → List ℕ → List ℕ → Type 0
-IsRead (heading-is.Is owner from count) text keys = Headed text owner from count keys
-IsRead (heading-is.Refused n) text keys = journalOf text ≡ refused n
+-- what the reader answers of a text, and the words and sizes that it leaves
+abbrev pub IsRead : Heading → List ℕ → List ℕ → List ℕ → Type 0
+IsRead (heading-is.Is owner from count) text keys sizes = Headed text owner from count keys sizes
+IsRead (heading-is.Refused n) text keys sizes = journalOf text ≡ refused n
 
-pub as-journal : {h : Heading} {owner from count : ℕ} (text keys : List ℕ) → h ≡ heading-is.Is owner from count → IsRead h text keys
-    → Headed text owner from count keys
-as-journal text keys e r = subst (λ (h : Heading). IsRead h text keys) e r
+pub as-journal : {h : Heading} {owner from count : ℕ} (text keys sizes : List ℕ) → h ≡ heading-is.Is owner from count → IsRead h text keys sizes
+    → Headed text owner from count keys sizes
+as-journal text keys sizes e r = subst (λ (h : Heading). IsRead h text keys sizes) e r
 
-pub as-refused : {h : Heading} {n : ℕ} (text keys : List ℕ) → h ≡ heading-is.Refused n → IsRead h text keys → journalOf text ≡ refused n
-as-refused text keys e r = subst (λ (h : Heading). IsRead h text keys) e r
+pub as-refused : {h : Heading} {n : ℕ} (text keys sizes : List ℕ) → h ≡ heading-is.Refused n → IsRead h text keys sizes → journalOf text ≡ refused n
+as-refused text keys sizes e r = subst (λ (h : Heading). IsRead h text keys sizes) e r
 
 -- as many words as an array of them holds
 pub few-words : {n : ℕ} (keys : List ℕ) → n ≤ length keys → length keys ≡ linesLimit → length (take n keys) ≤ linesLimit
@@ -98,30 +99,30 @@ clash : {A : Type 0} {n : ℕ} {x : A} → refused n ≡ given x → ⊥
 clash e = let z : _≡_ {A = ℕ} 0 1 = cc in omega arith
 
 module _ (owner : ℕ) where
-  -- lines that have words are lines
-  module _ (words : List ℕ) where
-    given-journal : (r : Given (List Entry)) → given words ≡ keysIn r → withOwner owner r ≡ given (record { owner = owner; entries = entriesGiven r })
-    unfolding keysIn withOwner entriesGiven
+  -- lines that have values are lines
+  module _ (f : Entry → ℕ) (values : List ℕ) where
+    given-journal : (r : Given (List Entry)) → given values ≡ valuesIn f r → withOwner owner r ≡ given (record { owner = owner; entries = entriesGiven r })
+    unfolding valuesIn withOwner entriesGiven
     given-journal (given l) e = refl
     given-journal (refused n) e = absurd (clash (sym e))
 
-    given-well : (r : Given (List Entry)) → given words ≡ keysIn r → isGiven r ≡ true
-    unfolding keysIn isGiven
+    given-well : (r : Given (List Entry)) → given values ≡ valuesIn f r → isGiven r ≡ true
+    unfolding valuesIn isGiven
     given-well (given l) e = refl
     given-well (refused n) e = absurd (clash (sym e))
 
-    given-words : (r : Given (List Entry)) → given words ≡ keysIn r → words ≡ keysOf (entriesGiven r)
-    unfolding keysIn entriesGiven
-    given-words (given l) e = cc
-    given-words (refused n) e = absurd (clash (sym e))
+    given-values : (r : Given (List Entry)) → given values ≡ valuesIn f r → values ≡ valuesOf f (entriesGiven r)
+    unfolding valuesIn entriesGiven
+    given-values (given l) e = cc
+    given-values (refused n) e = absurd (clash (sym e))
 
-  refused-journal : (n : ℕ) (r : Given (List Entry)) → refused n ≡ keysIn r → withOwner owner r ≡ refused n
-  unfolding keysIn withOwner
+  refused-journal : (n : ℕ) (r : Given (List Entry)) → refused n ≡ valuesIn entryKey r → withOwner owner r ≡ refused n
+  unfolding valuesIn withOwner
   refused-journal n (given l) e = absurd (clash e)
   refused-journal n (refused k) e = let z : k ≡ n = cc in ap (λ (i : ℕ). refused i) z
 
   module _ (s : List ℕ) (from : ℕ) (j : journalOf s ≡ withOwner owner (entriesFrom owner s from)) where
-    pub read-refused : (n : ℕ) → refused n ≡ keysIn (entriesFrom owner s from) → journalOf s ≡ refused n
+    pub read-refused : (n : ℕ) → refused n ≡ valuesIn entryKey (entriesFrom owner s from) → journalOf s ≡ refused n
     read-refused n e = j ∙ refused-journal n (entriesFrom owner s from) e
 
     -- the rest of a text has lines enough of its own
@@ -130,33 +131,56 @@ module _ (owner : ℕ) where
         entries-enough (length s) (length (drop from s)) owner (drop from s) (omega (arith, length-drop from s)) (omega arith)
         ∙ ap (λ (l : List ℕ). entriesFrom owner l 0) (sym (rest-of s from))
 
-    pub read-headed : (count : ℕ) (keys : List ℕ) → given (take count keys) ≡ keysIn (entriesFrom owner s from) → from ≤ length s → owner < 16 → count ≤ length keys
-        → Headed s owner from count keys
-    read-headed count keys e inside below few =
+    pub read-headed : (count : ℕ) (keys sizes : List ℕ) → given (take count keys) ≡ valuesIn entryKey (entriesFrom owner s from)
+        → given (take count sizes) ≡ valuesIn entrySize (entriesFrom owner s from) → from ≤ length s → owner < 16 → count ≤ length keys
+        → Headed s owner from count keys sizes
+    read-headed count keys sizes e g inside below few =
         let found = entriesFrom owner (rest s from) 0 in
-        let given-keys = e ∙ ap keysIn rest-entries in
+        let given-keys = e ∙ ap (valuesIn entryKey) rest-entries in
         record {
-          journal = j ∙ ap (withOwner owner) rest-entries ∙ given-journal (take count keys) found given-keys;
-          holds = record { well = given-well (take count keys) found given-keys; words = given-words (take count keys) found given-keys; below = below };
+          journal = j ∙ ap (withOwner owner) rest-entries ∙ given-journal entryKey (take count keys) found given-keys;
+          holds = record {
+            well = given-well entryKey (take count keys) found given-keys;
+            words = given-values entryKey (take count keys) found given-keys;
+            extents = given-values entrySize (take count sizes) found (g ∙ ap (valuesIn entrySize) rest-entries);
+            below = below;
+          };
           inside = inside;
           few = few;
         }
 
 -- ---- what the words say of the lines
 
+many : (f : Entry → ℕ) (l : List Entry) → length (valuesOf f l) ≡ length l
+unfolding valuesOf
+many f [] = refl
+many f (e ∷ l) = ap suc (many f l)
+
+given-lines : (r : Given (List Entry)) → isGiven r ≡ true → r ≡ given (entriesGiven r)
+unfolding isGiven entriesGiven
+given-lines (given m) e = refl
+given-lines (refused n) e = absurd (true≢false (sym e))
+
 given-fit : (r : Given (List Entry)) → ((m : List Entry) → r ≡ given m → AllFit m) → isGiven r ≡ true → AllFit (entriesGiven r)
 unfolding isGiven entriesGiven
 given-fit (given m) f e = f m refl
 given-fit (refused n) f e = absurd (true≢false (sym e))
 
-module _ {one : List ℕ} {a : ℕ} {keys : List ℕ} (h : Holds one a keys) where
+module _ {one : List ℕ} {a : ℕ} {keys sizes : List ℕ} (h : Holds one a keys sizes) where
   holds-fit : AllFit (linesIn a one)
   holds-fit = given-fit (entriesFrom a one 0) (entries-fit (length one) a one) (h .well)
 
   pub once-words : distinct keys (length keys) ≡ onceEach (linesIn a one)
   once-words = ap (λ (l : List ℕ). distinct l (length l)) (h .words) ∙ distinct-once (linesIn a one) holds-fit
 
-module _ {one : List ℕ} {a : ℕ} {keys : List ℕ} (h : Holds one a keys) {two : List ℕ} {b : ℕ} {theirs : List ℕ} (g : Holds two b theirs) where
+  pub as-many : length sizes ≡ length keys
+  as-many = ap length (h .extents) ∙ many entrySize (linesIn a one) ∙ sym (many entryKey (linesIn a one)) ∙ ap length (sym (h .words))
+
+  -- before the first line
+  pub walk-start : Walked a one keys sizes 0 0
+  walk-start = record { inside = omega arith; left = linesIn a one; lines = given-lines (entriesFrom a one 0) (h .well); words = h .words; extents = h .extents }
+
+module _ {one : List ℕ} {a : ℕ} {keys sizes : List ℕ} (h : Holds one a keys sizes) {two : List ℕ} {b : ℕ} {theirs extents : List ℕ} (g : Holds two b theirs extents) where
   small : a < byteValues
   small = omega (arith, h .below)
 
@@ -169,3 +193,9 @@ module _ {one : List ℕ} {a : ℕ} {keys : List ℕ} (h : Holds one a keys) {tw
   missing-text =
       ap (λ (l : List ℕ). textFrom a b l one 0) (g .words)
       ∙ missing-words a b (linesIn a one) (linesIn b two) small (holds-fit h) (holds-fit g)
+
+  pub missing-size : missedLength a b theirs keys sizes ≡ length (missing a b (linesIn a one) (linesIn b two))
+  missing-size =
+      ap₂ (missedLength a b theirs) (h .words) (h .extents)
+      ∙ missed-length a b theirs (linesIn a one)
+      ∙ ap length missing-text

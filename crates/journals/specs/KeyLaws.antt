@@ -16,7 +16,7 @@ use Rattle.closing.specs.Tables.{Cut, ended, unended, cut, pieces}
 use Rattle.journals.specs.Chains.{among, distinct}
 use Rattle.journals.specs.Journals.{sentKey, gotKey, line, messageKind, acknowledgementKind, goodLine, lineJudged, linePieces, lineIn, lineOf, Entry, withEntry, cutEntries, entriesIn, hasLine, onceEach}
 use Rattle.journals.specs.LineWords.{byteValues, keyOf, Fits, key-line}
-use Rattle.journals.specs.JournalKeys.{keysOf}
+use Rattle.journals.specs.JournalKeys.{valuesOf, keysOf}
 use Rattle.journals.specs.declared.line.Way.{Way}
 use Rattle.journals.specs.declared.line.Way.the-variants.{Sent, Got}
 use Rattle.journals.specs.declared.line.Line.{Line}
@@ -60,14 +60,14 @@ AllFit [] = Unit {0}
 AllFit (e ∷ l) = Fits (e .line) × AllFit l
 
 pub among-has : (l : List Entry) (x : Line) → AllFit l → Fits x → among (keysOf l) (length (keysOf l)) (keyOf x) ≡ hasLine l x
-unfolding among keysOf hasLine AllFit
+unfolding among valuesOf hasLine AllFit
 among-has [] x a f = refl
 among-has (e ∷ l) x a f =
     among-first (keyOf (e .line)) (keysOf l) (length (keysOf l)) (keyOf x)
     ∙ ap₂ (λ (b c : Bool). b || c) (key-line (e .line) x (a .0) f) (among-has l x (a .1) f)
 
 pub distinct-once : (l : List Entry) → AllFit l → distinct (keysOf l) (length (keysOf l)) ≡ onceEach l
-unfolding distinct keysOf onceEach AllFit
+unfolding distinct valuesOf onceEach AllFit
 distinct-once [] a = refl
 distinct-once (e ∷ l) a =
     distinct-first (keyOf (e .line)) (keysOf l) (length (keysOf l))

@@ -3,6 +3,7 @@ pub mod JournalLaws
 pub mod FieldLaws
 pub mod ComparisonLaws
 pub mod LineWords
+pub mod ShortestLine
 pub mod JournalKeys
 pub mod JournalReads
 pub mod Chains
@@ -12,4 +13,5 @@ pub mod KeyLaws
 pub mod Hearing
 pub mod Missing
 pub mod Comparing
+pub mod LinesLength
 pub mod MissingLength

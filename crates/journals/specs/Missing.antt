@@ -1,22 +1,22 @@
--- What one journal sent and the other never got, from its text and the other's words. Assumes nothing.
+-- What one journal sent and the other never got, from its text, its words and sizes, and the other's words. Assumes nothing.
 use Prim.Native.Nat.{ℕ, zero, suc, _+_, _-_, _≤_, _<_}
 use mathlib.Core.Path.{_≡_, refl, sym, ap, ap₂, subst, _∙_}
-use mathlib.Core.Bool.{Bool, true, false, not, _&&_, cond, true≢false}
+use mathlib.Core.Bool.{Bool, true, false, not, _&&_, cond}
 use mathlib.Core.List.{List, [], _∷_, _++_, append-assoc, append-nil}
 use native.Mathlib.Omega.{arith}
+use native.Mathlib.Numerals.{add-one}
 use lib.Dec.{eqb}
-use lib.ListN.{length, take, drop, length-drop, length-append, drop-of-length-le}
-use lib.Seq.{drop-drop, take-all}
+use lib.ListN.{length, getD, take, drop, length-drop, length-append, drop-of-length-le}
+use lib.Seq.{drop-drop, drop-cons, take-all}
 use borrow.Author.Tests.{eqb-true}
 use Rattle.column.specs.Refusals.{Given, given, refused}
 use Rattle.closing.specs.Text.{newline, written}
 use Rattle.closing.specs.Writing.{Writes, writes-none, writes-more}
 use Rattle.closing.specs.Tables.{Cut, ended, unended, withFirst, cut}
-use Rattle.closing.specs.Cutting.{line-length}
 use Rattle.journals.specs.Chains.{among}
-use Rattle.journals.specs.Journals.{line, lineOf, Entry, withEntry, cutEntries, entriesIn, about, hasLine, missing}
+use Rattle.journals.specs.Journals.{line, lineOf, Entry, entry, withEntry, cutEntries, entriesIn, about, hasLine, missing}
 use Rattle.journals.specs.LineWords.{wayNumber, byteValues, keyOf, aboutKey, turned, about-key, turned-key}
-use Rattle.journals.specs.JournalKeys.{keysOf, Next, nextOf, nextCut, cut-rest, entries-enough}
+use Rattle.journals.specs.JournalKeys.{valuesOf, keysOf, sizesOf, cut-rest, entries-enough}
 use Rattle.journals.specs.KeyLaws.{AllFit, among-has}
 use Rattle.journals.specs.declared.line.Way.the-variants.{Sent, Got}
 use Rattle.journals.specs.declared.line.Line.{Line}
@@ -46,6 +46,35 @@ missing-words a b (e ∷ l) theirs h f g =
     choice : (p : Bool) (t r : List ℕ) → (cond p t [] ++ r) ≡ cond p (t ++ r) r
     choice true t r = refl
     choice false t r = refl
+
+-- how many bytes the lines of these words and sizes take that are missed
+unfoldable pub missedLength : ℕ → ℕ → List ℕ → List ℕ → List ℕ → ℕ
+missedLength a b theirs [] sizes = 0
+missedLength a b theirs (k ∷ keys) [] = 0
+missedLength a b theirs (k ∷ keys) (n ∷ sizes) = cond (missedKey a b theirs k) n 0 + missedLength a b theirs keys sizes
+
+pub missed-length : (a b : ℕ) (theirs : List ℕ) (l : List Entry) → missedLength a b theirs (keysOf l) (sizesOf l) ≡ length (missingBy a b theirs l)
+unfolding missedLength missingBy valuesOf
+missed-length a b theirs [] = refl
+missed-length a b theirs (e ∷ l) =
+    ap₂ (λ (m n : ℕ). m + n) (choice (missedKey a b theirs (keyOf (e .line)))) (missed-length a b theirs l)
+    ∙ sym (length-append (cond (missedKey a b theirs (keyOf (e .line))) (e .text) []) (missingBy a b theirs l))
+  where
+    choice : (p : Bool) → cond p (length (e .text)) 0 ≡ length (cond p (e .text) [])
+    choice true = refl
+    choice false = refl
+
+module _ (a b : ℕ) (theirs keys sizes : List ℕ) (i : ℕ) where
+  pub missed-next : i < length keys → length sizes ≡ length keys
+      → missedLength a b theirs (drop i keys) (drop i sizes)
+      ≡ cond (missedKey a b theirs (getD keys i 0)) (getD sizes i 0) 0 + missedLength a b theirs (drop (i + 1) keys) (drop (i + 1) sizes)
+  unfolding missedLength
+  missed-next h e =
+      rw (add-one i) (ap₂ (missedLength a b theirs) (drop-cons keys i 0 h) (drop-cons sizes i 0 (omega (arith, h, e))))
+
+  pub missed-end : length keys ≤ i → missedLength a b theirs (drop i keys) (drop i sizes) ≡ 0
+  unfolding missedLength
+  missed-end h = rw (drop-of-length-le keys h)
 
 -- ---- line by line
 
@@ -87,105 +116,108 @@ cut-text (b ∷ l) text rest e = go (eqb b newline) refl e (cut l) refl (λ t r 
 clash : {A : Type 0} {n : ℕ} {x : A} → refused n ≡ given x → ⊥
 clash e = let z : _≡_ {A = ℕ} 0 1 = cc in omega arith
 
-module _ (a b : ℕ) (theirs : List ℕ) where
-  abbrev pub textFrom : List ℕ → ℕ → List ℕ
-  textFrom s at = missingBy a b theirs (entriesGiven (entriesFrom a s at))
+given-is : {A : Type 0} {x y : A} → given x ≡ given y → x ≡ y
+given-is e = cc
 
-  module _ (s : List ℕ) (at : ℕ) (h : at < length s) (ok : isGiven (entriesFrom a s at) ≡ true) where
-    from-cut : entriesFrom a s at ≡ cutEntries (entriesIn (length s) a) a (cut (drop at s))
-    unfolding entriesIn
-    from-cut =
-        let n = length-drop at s in
-        entries-enough (length s) (suc (length s)) a (drop at s) (omega (arith, n)) (omega (arith, n)) ∙ unfold-one (drop at s) (omega (arith, n, h))
-      where
-        unfold-one : (l : List ℕ) → 1 ≤ length l → entriesIn (suc (length s)) a l ≡ cutEntries (entriesIn (length s) a) a (cut l)
-        unfold-one [] k = absurd (omega arith)
-        unfold-one (x ∷ l) k = refl
+uncons : {A : Type 0} {x y : A} {l m : List A} → x ∷ l ≡ y ∷ m → (x ≡ y) × (l ≡ m)
+uncons e = (cc, cc)
 
-    pub record Went (key place : ℕ) : Type 0 where
-      pub inside : place ≤ length s
-      pub onward : at < place
-      pub still : isGiven (entriesFrom a s place) ≡ true
-      pub first-then : textFrom s at ≡ cond (missedKey a b theirs key) (take (place - at) (drop at s)) [] ++ textFrom s place
+none-some : {A : Type 0} {x : A} {l : List A} → [] ≡ x ∷ l → ⊥
+none-some e = let z : _≡_ {A = ℕ} 0 1 = cc in omega arith
 
-    pub went : (key place : ℕ) → nextCut at a (cut (drop at s)) ≡ given (record { key = key; place = place }) → Went key place
-    unfolding nextCut nextOf cutEntries withEntry isGiven entriesGiven missingBy
-    went key place e = go (cut (drop at s)) refl e
-      where
-        there : (text rest : List ℕ) (x : Line) (t : Given (List Entry)) → entriesFrom a s at ≡ withEntry text (given x) t → isGiven t ≡ true
-        there text rest x (given l) f = refl
-        there text rest x (refused n) f = sym (ap isGiven f) ∙ ok
+-- the first line of a text, and the lines after it
+record First (most owner : ℕ) (s : List ℕ) (e : Entry) (l : List Entry) : Type 0 where
+  inside : length (e .text) ≤ length s
+  stands : take (length (e .text)) s ≡ e .text
+  after : entriesIn most owner (drop (length (e .text)) s) ≡ given l
 
-        shown : (text : List ℕ) (x : Line) (t : Given (List Entry)) → isGiven t ≡ true
-            → missingBy a b theirs (entriesGiven (withEntry text (given x) t))
-            ≡ cond (missedKey a b theirs (keyOf x)) (text ++ (newline ∷ [])) [] ++ missingBy a b theirs (entriesGiven t)
-        shown text x (given l) f = refl
-        shown text x (refused n) f = absurd (true≢false (sym f))
+first-line : (most owner : ℕ) (s : List ℕ) (e : Entry) (l : List Entry) → length s ≤ most → entriesIn most owner s ≡ given (e ∷ l) → First most owner s e l
+unfolding entriesIn cutEntries withEntry
+first-line zero owner s e l h f = absurd (none-some (given-is f))
+first-line (suc most) owner [] e l h f = absurd (none-some (given-is f))
+first-line (suc most) owner (b ∷ s) e l h f = go (cut (b ∷ s)) refl f
+  where
+    whole : (text rest : List ℕ) → cut (b ∷ s) ≡ ended text rest → (x : Line) → entriesIn most owner rest ≡ given l → entry text x ≡ e
+        → First (suc most) owner (b ∷ s) e l
+    whole text rest q x g d =
+        let z = cut-rest (b ∷ s) text rest q in
+        let n : length text + 1 ≡ length (text ++ (newline ∷ [])) = omega (arith, length-append text (newline ∷ [])) in
+        let later : rest ≡ drop (length (text ++ (newline ∷ []))) (b ∷ s) = z .1 ∙ ap (λ (i : ℕ). drop i (b ∷ s)) n in
+        subst (λ (y : Entry). First (suc most) owner (b ∷ s) y l) d (record {
+          inside = omega (arith, n, z .0);
+          stands = ap (λ (i : ℕ). take i (b ∷ s)) (sym n) ∙ cut-text (b ∷ s) text rest q;
+          after = ap (entriesIn (suc most) owner) (sym later) ∙ entries-enough (suc most) most owner rest (omega (arith, z .0, h)) (omega (arith, z .0, h)) ∙ g;
+        })
 
-        good : (text rest : List ℕ) → cut (drop at s) ≡ ended text rest → (r : Given Line) → lineOf a text ≡ r
-            → nextOf (at + length text + 1) r ≡ given (record { key = key; place = place }) → Went key place
-        good text rest q (refused n) f e = absurd (clash e)
-        good text rest q (given x) f e =
-            let both : _≡_ {A = Next} (record { key = keyOf x; place = at + length text + 1 }) (record { key = key; place = place }) = cc in
-            let k : keyOf x ≡ key = ap (λ (n : Next). n .key) both in
-            let p : at + length text + 1 ≡ place = ap (λ (n : Next). n .place) both in
-            let z = cut-rest (drop at s) text rest q in
-            let to : at + (length text + 1) ≡ place = omega (arith, p) in
-            let later : rest ≡ drop place s = z .1 ∙ drop-drop (length text + 1) at s ∙ ap (λ (i : ℕ). drop i s) to in
-            let here : entriesFrom a s at ≡ withEntry text (given x) (entriesIn (length s) a rest) =
-            from-cut ∙ ap (cutEntries (entriesIn (length s) a) a) q ∙ ap (λ (r : Given Line). withEntry text r (entriesIn (length s) a rest)) f in
-            let yes = there text rest x (entriesIn (length s) a rest) here in
-            let gap : length text + 1 ≡ place - at = omega (arith, p) in
-            let same : text ++ (newline ∷ []) ≡ take (place - at) (drop at s) =
-            sym (cut-text (drop at s) text rest q) ∙ ap (λ (i : ℕ). take i (drop at s)) gap in
-            record {
-              inside = omega (arith, p, z .0, length-drop at s);
-              onward = omega (arith, p);
-              still = ap (λ (l : List ℕ). isGiven (entriesIn (length s) a l)) (sym later) ∙ yes;
-              first-then = ap (λ (r : Given (List Entry)). missingBy a b theirs (entriesGiven r)) here
-                  ∙ shown text x (entriesIn (length s) a rest) yes
-                  ∙ ap₂ (λ (i : ℕ) (t : List ℕ). cond (missedKey a b theirs i) t [] ++ missingBy a b theirs (entriesGiven (entriesIn (length s) a rest))) k same
-                  ∙ ap (λ (l : List ℕ). cond (missedKey a b theirs key) (take (place - at) (drop at s)) [] ++ missingBy a b theirs (entriesGiven (entriesIn (length s) a l))) later;
-            }
+    lines : (text rest : List ℕ) → cut (b ∷ s) ≡ ended text rest → (r : Given Line) (t : Given (List Entry)) → entriesIn most owner rest ≡ t
+        → withEntry text r t ≡ given (e ∷ l) → First (suc most) owner (b ∷ s) e l
+    lines text rest q (given x) (given m) g f =
+        let u = uncons (given-is f) in whole text rest q x (g ∙ ap given (u .1)) (u .0)
+    lines text rest q (given x) (refused n) g f = absurd (clash f)
+    lines text rest q (refused n) t g f = absurd (clash f)
 
-        go : (c : Cut) → cut (drop at s) ≡ c → nextCut at a c ≡ given (record { key = key; place = place }) → Went key place
-        go (ended text rest) q e = good text rest q (lineOf a text) refl e
-        go unended q e = absurd (clash e)
+    go : (c : Cut) → cut (b ∷ s) ≡ c → cutEntries (entriesIn most owner) owner c ≡ given (e ∷ l) → First (suc most) owner (b ∷ s) e l
+    go (ended text rest) q f = lines text rest q (lineOf owner text) (entriesIn most owner rest) refl f
+    go unended q f = absurd (clash f)
 
-    pub length-step : (key place : ℕ) → Went key place → (t : Bool) → t ≡ missedKey a b theirs key → (r : ℕ) → r ≡ cond t (place - at) 0
-        → length (textFrom s at) ≡ r + length (textFrom s place)
-    length-step key place w t q r k =
-        ap length (w .first-then) ∙ length-append (cond (missedKey a b theirs key) (take (place - at) (drop at s)) []) (textFrom s place)
-        ∙ ap (λ (n : ℕ). n + length (textFrom s place)) (go (missedKey a b theirs key) ∙ ap (λ (x : Bool). cond x (place - at) 0) (sym q) ∙ sym k)
-      where
-        go : (t : Bool) → length (cond t (take (place - at) (drop at s)) []) ≡ cond t (place - at) 0
-        go true = line-length s at place (w .inside)
-        go false = refl
+-- what of a text from a place on is missing
+abbrev pub textFrom : ℕ → ℕ → List ℕ → List ℕ → ℕ → List ℕ
+textFrom a b theirs s at = missingBy a b theirs (entriesGiven (entriesFrom a s at))
 
-    pub never-stops : (n : ℕ) → nextCut at a (cut (drop at s)) ≡ refused n → ⊥
-    unfolding nextCut nextOf cutEntries withEntry isGiven
-    never-stops n e = go (cut (drop at s)) refl e
-      where
-        bad : (text rest : List ℕ) (r : Given Line) → entriesFrom a s at ≡ withEntry text r (entriesIn (length s) a rest)
-            → nextOf (at + length text + 1) r ≡ refused n → ⊥
-        bad text rest (given x) f e = clash (sym e)
-        bad text rest (refused k) f e = true≢false (sym ok ∙ ap isGiven f)
+-- ---- line by line, by words and sizes
 
-        go : (c : Cut) → cut (drop at s) ≡ c → nextCut at a c ≡ refused n → ⊥
-        go (ended text rest) q e = bad text rest (lineOf a text) (from-cut ∙ ap (cutEntries (entriesIn (length s) a) a) q) e
-        go unended q e = true≢false (sym ok ∙ ap isGiven (from-cut ∙ ap (cutEntries (entriesIn (length s) a) a) q))
+-- the lines of a text from a place on have the words and sizes from the i-th on
+pub record Walked (a : ℕ) (s keys sizes : List ℕ) (i at : ℕ) : Type 0 where
+  pub inside : at ≤ length s
+  pub left : List Entry
+  pub lines : entriesFrom a s at ≡ given left
+  pub words : drop i keys ≡ keysOf left
+  pub extents : drop i sizes ≡ sizesOf left
 
-  pub text-end : (s : List ℕ) (at : ℕ) → length s ≤ at → textFrom s at ≡ []
-  unfolding entriesGiven missingBy entriesIn
-  text-end s at h = ap (λ (l : List ℕ). missingBy a b theirs (entriesGiven (entriesIn (length s) a l))) (drop-of-length-le s h) ∙ go (length s)
-    where
-      go : (n : ℕ) → missingBy a b theirs (entriesGiven (entriesIn n a [])) ≡ []
-      go zero = refl
-      go (suc n) = refl
+-- one line further
+pub record Went (a : ℕ) (s keys sizes : List ℕ) (i at : ℕ) : Type 0 where
+  pub walked : Walked a s keys sizes (i + 1) (at + getD sizes i 0)
+  pub first-then : (b : ℕ) (theirs : List ℕ) → textFrom a b theirs s at
+      ≡ cond (missedKey a b theirs (getD keys i 0)) (take (at + getD sizes i 0 - at) (drop at s)) [] ++ textFrom a b theirs s (at + getD sizes i 0)
 
-pub counted-few : (b : Bool) (n : ℕ) → cond b n 0 ≤ n
-counted-few true n = omega arith
-counted-few false n = omega arith
+pub went : {a : ℕ} {s keys sizes : List ℕ} {i at : ℕ} → Walked a s keys sizes i at → i < length keys → Went a s keys sizes i at
+unfolding valuesOf missingBy entriesGiven
+went {a} {s} {keys} {sizes} {i} {at} w h = go (w .left) (w .lines) (w .words) (w .extents)
+  where
+    go : (l : List Entry) → entriesFrom a s at ≡ given l → drop i keys ≡ keysOf l → drop i sizes ≡ sizesOf l → Went a s keys sizes i at
+    go [] f k n = absurd (omega (arith, ap length k, length-drop i keys, h))
+    go (e ∷ l) f k n =
+        let z = first-line (length s) a (drop at s) e l (omega (arith, length-drop at s)) f in
+        let more : i < length sizes = omega (arith, ap length n, length-drop i sizes) in
+        let ks = uncons (sym (drop-cons keys i 0 h) ∙ k) in
+        let ns = uncons (sym (drop-cons sizes i 0 more) ∙ n) in
+        let one : i + 1 ≡ suc i = add-one i in
+        let size : length (e .text) ≡ at + getD sizes i 0 - at = omega (arith, ns .0) in
+        let place : at + length (e .text) ≡ at + getD sizes i 0 = omega (arith, ns .0) in
+        let later : entriesFrom a s (at + getD sizes i 0) ≡ given l =
+        ap (λ (j : ℕ). entriesFrom a s j) (sym place) ∙ ap (entriesIn (length s) a) (sym (drop-drop (length (e .text)) at s)) ∙ z .after in
+        record {
+          walked = record {
+            inside = omega (arith, ns .0, z .inside, length-drop at s, w .inside);
+            left = l;
+            lines = later;
+            words = ap (λ (j : ℕ). drop j keys) one ∙ ks .1;
+            extents = ap (λ (j : ℕ). drop j sizes) one ∙ ns .1;
+          };
+          first-then = λ b theirs. ap (λ (r : Given (List Entry)). missingBy a b theirs (entriesGiven r)) f
+              ∙ ap₂ (λ (j : ℕ) (t : List ℕ). cond (missedKey a b theirs j) t [] ++ missingBy a b theirs l) (sym (ks .0))
+              (sym (z .stands) ∙ ap (λ (j : ℕ). take j (drop at s)) size)
+              ∙ ap (λ (r : Given (List Entry)). cond (missedKey a b theirs (getD keys i 0)) (take (at + getD sizes i 0 - at) (drop at s)) [] ++ missingBy a b theirs (entriesGiven r)) (sym later);
+        }
+
+-- no line is left
+pub walked-end : {a : ℕ} {s keys sizes : List ℕ} {i at : ℕ} (b : ℕ) (theirs : List ℕ) → Walked a s keys sizes i at → length keys ≤ i → textFrom a b theirs s at ≡ []
+unfolding valuesOf missingBy entriesGiven
+walked-end {a} {s} {keys} {sizes} {i} {at} b theirs w h = go (w .left) (w .lines) (w .words)
+  where
+    go : (l : List Entry) → entriesFrom a s at ≡ given l → drop i keys ≡ keysOf l → textFrom a b theirs s at ≡ []
+    go [] f k = ap (λ (r : Given (List Entry)). missingBy a b theirs (entriesGiven r)) f
+    go (e ∷ l) f k = absurd (none-some (sym (drop-of-length-le keys h) ∙ k))
 
 -- ---- written line by line
 
@@ -209,15 +241,17 @@ pub put-start : (a b : ℕ) (theirs : List ℕ) (s : List ℕ) (start : ℕ) (ol
 put-start a b theirs s start old h =
     record { front = []; wrote = writes-none old start; parts = refl; kept = refl; room = h }
 
-module _ (a b : ℕ) (theirs : List ℕ) (s : List ℕ) (at : ℕ) {start end : ℕ} {out old : List ℕ}
-    (h : at < length s) (ok : isGiven (entriesFrom a s at) ≡ true) (p : Put a b theirs s at start end out old) (key place : ℕ)
-    (w : Went a b theirs s at h ok key place) (t : Bool) (q : t ≡ missedKey a b theirs key) where
+module _ {a b : ℕ} {theirs : List ℕ} {s keys sizes : List ℕ} {i at : ℕ} {start end : ℕ} {out old : List ℕ}
+    (w : Went a s keys sizes i at) (p : Put a b theirs s at start end out old) (t : Bool) (q : t ≡ missedKey a b theirs (getD keys i 0)) where
+  abbrev place : ℕ
+  place = at + getD sizes i 0
+
   abbrev piece : List ℕ
   piece = cond t (take (place - at) (drop at s)) []
 
   all-of-it : textFrom a b theirs s 0 ≡ (p .front ++ piece) ++ textFrom a b theirs s place
   all-of-it =
-      p .parts ∙ ap (λ (l : List ℕ). p .front ++ l) (w .first-then ∙ ap (λ (x : Bool). cond x (take (place - at) (drop at s)) [] ++ textFrom a b theirs s place) (sym q))
+      p .parts ∙ ap (λ (l : List ℕ). p .front ++ l) (w .first-then b theirs ∙ ap (λ (x : Bool). cond x (take (place - at) (drop at s)) [] ++ textFrom a b theirs s place) (sym q))
       ∙ sym (append-assoc (p .front) piece (textFrom a b theirs s place))
 
   fits : start + length (p .front ++ piece) ≤ length old
@@ -235,7 +269,7 @@ module _ (a b : ℕ) (theirs : List ℕ) (s : List ℕ) (at : ℕ) {start end : 
     room = p .room;
   }
 
-pub put-end : (a b : ℕ) (theirs : List ℕ) (s : List ℕ) (at : ℕ) {start end : ℕ} {out old : List ℕ} → length s ≤ at
+pub put-end : {a b : ℕ} {theirs : List ℕ} {s keys sizes : List ℕ} {i at : ℕ} {start end : ℕ} {out old : List ℕ} → Walked a s keys sizes i at → length keys ≤ i
     → Put a b theirs s at start end out old → Writes end out old start (textFrom a b theirs s 0)
-put-end a b theirs s at {start} {end} {out} {old} h p =
-    subst (Writes end out old start) (sym (p .parts ∙ ap (λ (l : List ℕ). p .front ++ l) (text-end a b theirs s at h) ∙ append-nil (p .front))) (p .wrote)
+put-end {a} {b} {theirs} {start = start} {end} {out} {old} w h p =
+    subst (Writes end out old start) (sym (p .parts ∙ ap (λ (l : List ℕ). p .front ++ l) (walked-end b theirs w h) ∙ append-nil (p .front))) (p .wrote)

@@ -1,64 +1,24 @@
 -- What is missing is never longer than both journals together: a buffer as long as both holds it, and 11 does not occur. Assumes nothing.
-use Prim.Native.Nat.{ℕ, zero, suc, _+_, _≤_}
+use Prim.Native.Nat.{ℕ, _+_, _≤_}
 use mathlib.Core.Path.{_≡_, subst}
-use mathlib.Core.Bool.{Bool, true, false, not, _&&_, cond}
-use mathlib.Core.List.{List, [], _∷_, _++_}
+use mathlib.Core.Bool.{Bool, true, false, cond}
+use mathlib.Core.List.{List}
 use native.Mathlib.Omega.{arith}
-use lib.Dec.{eqb, ltb}
+use lib.Dec.{ltb}
 use lib.ListN.{length, length-append}
 use borrow.Author.Tests.{eq-eqb, le-leb}
 use Rattle.column.specs.Refusals.{first, Given, given, refused}
-use Rattle.closing.specs.Text.{newline, columnKey, Reading, read, unread, written}
-use Rattle.closing.specs.Tables.{Cut, ended, unended, withFirst, cut, keyed}
+use Rattle.closing.specs.Text.{columnKey, Reading, read, unread, written}
+use Rattle.closing.specs.Tables.{Cut, ended, unended, cut, keyed}
 use Rattle.closing.specs.Closing.{placed}
-use Rattle.journals.specs.Journals.{about, line, hasLine, Entry, lineOf, withEntry, cutEntries, entriesIn, Journal, withOwner, owned, headed, journalLimit, journalOf, missing, missingText, pairConditions, pairCompared, bothCompared, compared}
-use Rattle.journals.specs.declared.line.Way.the-variants.{Sent, Got}
-use Rattle.journals.specs.declared.line.Line.{Line}
+use Rattle.journals.specs.Journals.{Entry, entriesIn, Journal, withOwner, owned, headed, journalLimit, journalOf, missing, missingText, pairConditions, pairCompared, bothCompared, compared}
+use Rattle.journals.specs.LinesLength.{entriesLength, cutLength, linesLength, cut-within, entries-within, missing-length}
 
--- ---- the bytes of the lines of a journal
-
-unfoldable pub entriesLength : List Entry → ℕ
-entriesLength [] = 0
-entriesLength (e ∷ l) = length (e .text) + entriesLength l
-
-abbrev cutLength : Cut → ℕ
-cutLength (ended text rest) = length text + 1 + length rest
-cutLength unended = 0
-
-abbrev linesLength : Given (List Entry) → ℕ
-linesLength (given l) = entriesLength l
-linesLength (refused n) = 0
+-- ---- the bytes of a journal's lines
 
 abbrev journalLength : Given Journal → ℕ
 journalLength (given j) = entriesLength (j .entries)
 journalLength (refused n) = 0
-
-cut-within : (s : List ℕ) → cutLength (cut s) ≤ length s
-unfolding cut withFirst
-cut-within [] = omega arith
-cut-within (b ∷ l) = go (eqb b newline) (cut l) (cut-within l)
-  where
-    go : (ends : Bool) (c : Cut) → cutLength c ≤ length l → cutLength (cond ends (ended [] l) (withFirst b c)) ≤ length (b ∷ l)
-    go true c h = omega arith
-    go false (ended text rest) h = omega (arith, h)
-    go false unended h = omega arith
-
-entry-length : (text : List ℕ) (x : Given Line) (l : Given (List Entry)) → linesLength (withEntry text x l) ≤ length text + 1 + linesLength l
-unfolding withEntry entriesLength
-entry-length text (given x) (given l) = omega (arith, length-append text (newline ∷ []))
-entry-length text (given x) (refused n) = omega arith
-entry-length text (refused n) l = omega arith
-
-entries-within : (most owner : ℕ) (s : List ℕ) → linesLength (entriesIn most owner s) ≤ length s
-unfolding entriesIn cutEntries entriesLength
-entries-within zero owner s = omega arith
-entries-within (suc most) owner [] = omega arith
-entries-within (suc most) owner (b ∷ l) = go (entries-within most owner) (cut (b ∷ l)) (cut-within (b ∷ l))
-  where
-    go : ((r : List ℕ) → linesLength (entriesIn most owner r) ≤ length r) → (c : Cut) → cutLength c ≤ length (b ∷ l)
-        → linesLength (cutEntries (entriesIn most owner) owner c) ≤ length (b ∷ l)
-    go more (ended text rest) h = omega (arith, h, entry-length text (lineOf owner text) (entriesIn most owner rest), more rest)
-    go more unended h = omega arith
 
 owner-within : (owner : ℕ) (l : Given (List Entry)) → journalLength (withOwner owner l) ≤ linesLength l
 unfolding withOwner
@@ -84,17 +44,6 @@ journal-within s = go (ltb journalLimit (length s)) (cut s) (cut-within s)
     go false unended h = omega arith
 
 -- ---- what is missing
-
-missing-length : (a b : ℕ) (mine theirs : List Entry) → length (missing a b mine theirs) ≤ entriesLength mine
-unfolding missing entriesLength
-missing-length a b [] theirs = omega arith
-missing-length a b (e ∷ l) theirs =
-    go (about b Sent (e .line) && not (hasLine theirs (line Got (e .line .kind) a (e .line .number)))) (missing-length a b l theirs)
-  where
-    go : (listed : Bool) → length (missing a b l theirs) ≤ entriesLength l
-        → length (cond listed (e .text ++ missing a b l theirs) (missing a b l theirs)) ≤ length (e .text) + entriesLength l
-    go true h = omega (arith, h, length-append (e .text) (missing a b l theirs))
-    go false h = omega (arith, h)
 
 lines-within : (s : List ℕ) (j : Journal) → journalOf s ≡ given j → entriesLength (j .entries) ≤ length s
 lines-within s j e = subst (λ (g : Given Journal). journalLength g ≤ length s) e (journal-within s)

@@ -9,73 +9,125 @@ use crate::missing::missing_length;
 use crate::missing::put_missing;
 ghost use Prim.Native.Nat.{_≤_};
 ghost use mathlib.Core.Path.{_≡_};
+ghost use lib.Dec.{leb};
 ghost use lib.ListN.{length};
 ghost use Rattle.closing.specs.Closing.{placed};
 ghost use Rattle.journals.specs.Journals.{linesLimit, missingText, pairCompared, compared};
 ghost use Rattle.journals.specs.JournalReads.{journalIn, Holds};
-ghost use Rattle.journals.specs.Comparing.{comparedMeant, Ready};
+ghost use Rattle.journals.specs.Comparing.{comparedMeant, Ready, missingSize};
 
 pub enum Compared {
     Length(usize),
     Refused(u8),
 }
 
-// All is counted before the first byte is written.
-fn write_missing(
+// Whether what is missing has room. It is never longer than both texts, so that in as much room nothing is counted.
+fn has_room(
     one: &[u8],
     a: usize,
     mine: &[u64],
+    sizes: &[u16],
     index: &[u64],
     two: &[u8],
     b: usize,
     theirs: &[u64],
+    their_sizes: &[u16],
+    their_index: &[u64],
+    room: usize,
+) -> bool
+    requires { ⌜ Ready (now one) a (now mine) (now sizes) (now index) × Ready (now two) b (now theirs) (now «their_sizes») (now «their_index») ⌝ }
+    ensures { λ r. ⌜ r ≡ leb (missingSize (journalIn a (now (one .entry))) (journalIn b (now (two .entry)))) room ⌝ }
+{
+    if one.len() + two.len() <= room {
+        return true;
+    }
+    let first = missing_length(a, b, mine, sizes, theirs, their_index);
+    if room < first {
+        return false;
+    }
+    let second = missing_length(b, a, theirs, their_sizes, mine, index);
+    if room - first < second {
+        return false;
+    }
+    true
+}
+
+// 11 is known before the first byte is written.
+fn write_missing(
+    one: &[u8],
+    a: usize,
+    mine: &[u64],
+    sizes: &[u16],
+    index: &[u64],
+    two: &[u8],
+    b: usize,
+    theirs: &[u64],
+    their_sizes: &[u16],
     their_index: &[u64],
     out: &mut [u8],
 ) -> Compared
-    requires { ⌜ Ready (now one) a (now mine) (now index) × Ready (now two) b (now theirs) (now «their_index») ⌝ }
+    requires { ⌜ Ready (now one) a (now mine) (now sizes) (now index) × Ready (now two) b (now theirs) (now «their_sizes») (now «their_index») ⌝ }
     ensures { λ r. ⌜ comparedMeant r (now (out .exit)) ≡ placed (now (out .entry)) 0 (missingText (journalIn a (now (one .entry))) (journalIn b (now (two .entry)))) ⌝ }
 {
-    let first = missing_length(one, a, b, theirs, their_index);
-    if out.len() < first {
+    if !has_room(
+        one,
+        a,
+        mine,
+        sizes,
+        index,
+        two,
+        b,
+        theirs,
+        their_sizes,
+        their_index,
+        out.len(),
+    ) {
         return Compared::Refused(11);
     }
-    let second = missing_length(two, b, a, mine, index);
-    if out.len() - first < second {
-        return Compared::Refused(11);
-    }
-    let end = put_missing(one, a, b, theirs, their_index, out, 0);
-    let last = put_missing(two, b, a, mine, index, out, end);
+    let end = put_missing(one, a, b, mine, sizes, theirs, their_index, out, 0);
+    let last = put_missing(two, b, a, theirs, their_sizes, mine, index, out, end);
     Compared::Length(last)
 }
 
-// The lines of journals that were read, with their words.
+// The lines of journals that were read, with their words and sizes.
 fn compare_read(
     one: &[u8],
     a: usize,
     mine: &[u64],
+    sizes: &[u16],
     two: &[u8],
     b: usize,
     theirs: &[u64],
+    their_sizes: &[u16],
     out: &mut [u8],
 ) -> Compared
-    requires { ⌜ Holds (now one) a (now mine) × (length (now mine) ≤ linesLimit) × Holds (now two) b (now theirs) × (length (now theirs) ≤ linesLimit) ⌝ }
+    requires { ⌜ Holds (now one) a (now mine) (now sizes) × (length (now mine) ≤ linesLimit) × Holds (now two) b (now theirs) (now «their_sizes») × (length (now theirs) ≤ linesLimit) ⌝ }
     ensures { λ r. ⌜ comparedMeant r (now (out .exit)) ≡ pairCompared (journalIn a (now (one .entry))) (journalIn b (now (two .entry))) (now (out .entry)) ⌝ }
 {
     if a == b {
         return Compared::Refused(19);
     }
     let mut index = [0u64; INDEX];
-    if !chain(mine, &mut index) {
-        return Compared::Refused(20);
-    }
     let mut their_index = [0u64; INDEX];
-    if !chain(theirs, &mut their_index) {
+    if !(chain(mine, &mut index) & chain(theirs, &mut their_index)) {
         return Compared::Refused(20);
     }
     if !both_heard(a, mine, &index, b, theirs, &their_index) {
         return Compared::Refused(21);
     }
-    write_missing(one, a, mine, &index, two, b, theirs, &their_index, out)
+    write_missing(
+        one,
+        a,
+        mine,
+        sizes,
+        &index,
+        two,
+        b,
+        theirs,
+        their_sizes,
+        &their_index,
+        out,
+    )
 }
 
 // The lines of what one of two columns sent to the other and the other never got, from the buffer's start; answers their length.
@@ -83,19 +135,23 @@ pub fn compare(one: &[u8], two: &[u8], out: &mut [u8]) -> Compared
     ensures { λ r. ⌜ comparedMeant r (now (out .exit)) ≡ compared (now (one .entry)) (now (two .entry)) (now (out .entry)) ⌝ }
 {
     let mut keys_one = [0u64; LINES];
+    let mut sizes_one = [0u16; LINES];
     let mut keys_two = [0u64; LINES];
-    match read_journal(one, &mut keys_one) {
+    let mut sizes_two = [0u16; LINES];
+    match read_journal(one, &mut keys_one, &mut sizes_one) {
         Heading::Refused(n) => Compared::Refused(n),
-        Heading::Is(a, from, n) => match read_journal(two, &mut keys_two) {
+        Heading::Is(a, from, n) => match read_journal(two, &mut keys_two, &mut sizes_two) {
             Heading::Refused(m) => Compared::Refused(m),
             Heading::Is(b, start, m) => {
                 compare_read(
                     &one[from..],
                     a,
                     &keys_one[..n],
+                    &sizes_one[..n],
                     &two[start..],
                     b,
                     &keys_two[..m],
+                    &sizes_two[..m],
                     out,
                 )
             }

@@ -1,4 +1,4 @@
-// The lines of a journal as words, one for each.
+// The lines of a journal as words and sizes, one of each for each.
 use crate::line::JOURNAL;
 use crate::line::LineAnswer;
 use crate::line::read_line;
@@ -11,7 +11,7 @@ ghost use mathlib.Core.Path.{_≡_};
 ghost use lib.ListN.{length, drop};
 ghost use Rattle.closing.specs.Tables.{cut};
 ghost use Rattle.journals.specs.Journals.{entriesIn, journalLimit, shortestLine};
-ghost use Rattle.journals.specs.JournalKeys.{keysIn, nextCut, nextMeant, countMeant, countOf};
+ghost use Rattle.journals.specs.JournalKeys.{entryKey, entrySize, valuesIn, nextCut, nextMeant, countMeant, countOf};
 ghost use Rattle.journals.specs.JournalReads.{IsRead};
 
 // The bytes of the shortest line, `got=1,0,0`, with its byte 10.
@@ -52,10 +52,17 @@ pub fn next_key(text: &[u8], at: usize, owner: usize) -> NextKey
     }
 }
 
-// The words of the lines from a place on.
-fn read_entries(text: &[u8], from: usize, owner: usize, keys: &mut [u64]) -> Count
-    requires { ⌜ (from ≤ length (now text)) × (length (now text) ≤ shortestLine * length (now keys)) ⌝ }
-    ensures { λ r. ⌜ countMeant r (now (keys .exit)) ≡ keysIn (entriesIn (length (now (text .entry))) owner (drop from (now (text .entry)))) ⌝ }
+// The words of the lines from a place on, and how many bytes each line has.
+fn read_entries(
+    text: &[u8],
+    from: usize,
+    owner: usize,
+    keys: &mut [u64],
+    sizes: &mut [u16],
+) -> Count
+    requires { ⌜ (from ≤ length (now text)) × (length (now text) ≤ journalLimit) × (length (now text) ≤ shortestLine * length (now keys)) × (length (now sizes) ≡ length (now keys)) ⌝ }
+    ensures { λ r. ⌜ countMeant r (now (keys .exit)) ≡ valuesIn entryKey (entriesIn (length (now (text .entry))) owner (drop from (now (text .entry)))) ⌝ }
+    ensures { λ r. ⌜ countMeant r (now (sizes .exit)) ≡ valuesIn entrySize (entriesIn (length (now (text .entry))) owner (drop from (now (text .entry)))) ⌝ }
     ensures { λ r. ⌜ countOf r ≤ length (now (keys .exit)) ⌝ }
 {
     let mut at = from;
@@ -64,7 +71,9 @@ fn read_entries(text: &[u8], from: usize, owner: usize, keys: &mut [u64]) -> Cou
         match next_key(text, at, owner) {
             NextKey::Refused(n) => return Count::Refused(n),
             NextKey::Is(key, next) => {
+                let size = (next - at) as u16;
                 keys[count] = key;
+                sizes[count] = size;
                 count += 1;
                 at = next;
             }
@@ -73,10 +82,10 @@ fn read_entries(text: &[u8], from: usize, owner: usize, keys: &mut [u64]) -> Cou
     Count::Is(count)
 }
 
-// Reads a journal, and leaves the words of its lines.
-pub fn read_journal(text: &[u8], keys: &mut [u64]) -> Heading
-    requires { ⌜ journalLimit ≤ shortestLine * length (now keys) ⌝ }
-    ensures { λ r. ⌜ IsRead r (now (text .entry)) (now (keys .exit)) ⌝ }
+// Reads a journal, and leaves the words and sizes of its lines.
+pub fn read_journal(text: &[u8], keys: &mut [u64], sizes: &mut [u16]) -> Heading
+    requires { ⌜ (journalLimit ≤ shortestLine * length (now keys)) × (length (now sizes) ≡ length (now keys)) ⌝ }
+    ensures { λ r. ⌜ IsRead r (now (text .entry)) (now (keys .exit)) (now (sizes .exit)) ⌝ }
 {
     if JOURNAL < text.len() {
         return Heading::Refused(19);
@@ -91,7 +100,7 @@ pub fn read_journal(text: &[u8], keys: &mut [u64]) -> Heading
             if 16 <= owner {
                 return Heading::Refused(19);
             }
-            match read_entries(text, end + 1, owner, keys) {
+            match read_entries(text, end + 1, owner, keys, sizes) {
                 Count::Refused(n) => Heading::Refused(n),
                 Count::Is(count) => Heading::Is(owner, end + 1, count),
             }

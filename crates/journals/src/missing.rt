@@ -1,16 +1,15 @@
 // What one column sent to another and the other never got: the lines, as they are.
 use crate::index::missed_one;
-use crate::journal::NextKey;
-use crate::journal::next_key;
 use bytes::copy;
 ghost use Prim.Native.Nat.{_+_, _≤_, _<_};
 ghost use mathlib.Core.Path.{_≡_};
-ghost use mathlib.Core.Bool.{true, cond};
+ghost use mathlib.Core.Bool.{cond};
 ghost use mathlib.Core.List.{[]};
 ghost use lib.ListN.{length};
 ghost use Rattle.closing.specs.Writing.{Writes};
 ghost use Rattle.journals.specs.Chains.{Placed};
-ghost use Rattle.journals.specs.Missing.{isGiven, entriesFrom, textFrom};
+ghost use Rattle.journals.specs.Journals.{linesLimit};
+ghost use Rattle.journals.specs.Missing.{missedLength, textFrom, Walked};
 
 fn counted(missed: bool, n: usize) -> usize
     ensures { λ r. ⌜ (r ≡ cond missed n 0) × (r ≤ n) ⌝ }
@@ -21,21 +20,24 @@ fn counted(missed: bool, n: usize) -> usize
     0
 }
 
-// How many bytes the lines of a text take that a sent to b and b never got.
-pub fn missing_length(text: &[u8], a: usize, b: usize, theirs: &[u64], index: &[u64]) -> usize
-    requires { ⌜ (isGiven (entriesFrom a (now text) 0) ≡ true) × (a < 16) × Placed (now theirs) (now index) ⌝ }
-    ensures { λ r. ⌜ r ≡ length (textFrom a b (now (theirs .entry)) (now (text .entry)) 0) ⌝ }
+// How many bytes the lines of these words and sizes take that a sent to b and b never got.
+pub fn missing_length(
+    a: usize,
+    b: usize,
+    keys: &[u64],
+    sizes: &[u16],
+    theirs: &[u64],
+    index: &[u64],
+) -> usize
+    requires { ⌜ (a < 16) × (length (now keys) ≤ linesLimit) × (length (now sizes) ≡ length (now keys)) × Placed (now theirs) (now index) ⌝ }
+    ensures { λ r. ⌜ r ≡ missedLength a b (now (theirs .entry)) (now (keys .entry)) (now (sizes .entry)) ⌝ }
 {
-    let mut at: usize = 0;
+    let mut i: usize = 0;
     let mut count: usize = 0;
-    while at < text.len() {
-        match next_key(text, at, a) {
-            NextKey::Refused(_) => return count,
-            NextKey::Is(key, place) => {
-                count += counted(missed_one(a, b, key, theirs, index), place - at);
-                at = place;
-            }
-        }
+    while i < keys.len() {
+        let size = sizes[i] as usize;
+        count += counted(missed_one(a, b, keys[i], theirs, index), size);
+        i += 1;
     }
     count
 }
@@ -56,25 +58,25 @@ pub fn put_missing(
     text: &[u8],
     a: usize,
     b: usize,
+    keys: &[u64],
+    sizes: &[u16],
     theirs: &[u64],
     index: &[u64],
     out: &mut [u8],
     start: usize,
 ) -> usize
-    requires { ⌜ (isGiven (entriesFrom a (now text) 0) ≡ true) × (a < 16) × Placed (now theirs) (now index) × (start + length (textFrom a b (now theirs) (now text) 0) ≤ length (now out)) ⌝ }
+    requires { ⌜ Walked a (now text) (now keys) (now sizes) 0 0 × (length (now sizes) ≡ length (now keys)) × (a < 16) × Placed (now theirs) (now index) × (start + length (textFrom a b (now theirs) (now text) 0) ≤ length (now out)) ⌝ }
     ensures { λ r. ⌜ Writes r (now (out .exit)) (now (out .entry)) start (textFrom a b (now (theirs .entry)) (now (text .entry)) 0) ⌝ }
 {
+    let mut i: usize = 0;
     let mut at: usize = 0;
     let mut end = start;
-    while at < text.len() {
-        match next_key(text, at, a) {
-            NextKey::Refused(_) => return end,
-            NextKey::Is(key, place) => {
-                let missed = missed_one(a, b, key, theirs, index);
-                end = put_piece(out, end, missed, &text[at..place]);
-                at = place;
-            }
-        }
+    while i < keys.len() {
+        let place = at + (sizes[i] as usize);
+        let missed = missed_one(a, b, keys[i], theirs, index);
+        end = put_piece(out, end, missed, &text[at..place]);
+        at = place;
+        i += 1;
     }
     end
 }

@@ -1,7 +1,9 @@
-use mathlib.Core.Path.{_≡_, sym, ap₂, _∙_}
-use mathlib.Core.Bool.{Bool, true, _&&_}
+use mathlib.Core.Path.{_≡_, sym, ap, ap₂, _∙_}
+use mathlib.Core.Bool.{Bool, true, false, _&&_}
 use native.Mathlib.Omega.{arith}
 use borrow.Author.Tests.{not-true, not-false}
+use mathlib.Core.Logic.{⊎-elim}
+use Rattle.column.specs.Cases.{truth, and-left, and-right}
 use Rattle.journals.specs.Chains.{Placed}
 use Rattle.journals.specs.Journals.{Journal, onceEach, allHeard}
 use Rattle.journals.specs.JournalReads.{journalIn, once-words, heard-words}
@@ -12,7 +14,7 @@ use Rattle.journals.proofs.comparison.compare_read.Tie as tie
 
 module _ (c : tie.After-slice-known) where
   abbrev start : tie.Start
-  start = c .before .before .before .before .before
+  start = c .before .before .before .before .before .before .before
 
   abbrev one : Journal
   one = journalIn (start .args .a) (start .args .one .now)
@@ -20,10 +22,10 @@ module _ (c : tie.After-slice-known) where
   abbrev two : Journal
   two = journalIn (start .args .b) (start .args .two .now)
 
--- the first journal has its index
-module _ (c : tie.Else2) where
+-- each chain answers whether its journal repeats no line
+module _ (c : tie.After-chain2) where
   abbrev chained : tie.After-chain
-  chained = c .before .before
+  chained = c .before .before .before
 
   abbrev apart : tie.Else1
   apart = chained .before .before
@@ -31,49 +33,46 @@ module _ (c : tie.Else2) where
   abbrev known : tie.After-slice-known
   known = apart .before
 
-  first-well : chained .chain .result ≡ true
-  first-well = not-false (chained .chain .result) (c .if2 .left)
+  first-once : onceEach (one known .entries) ≡ chained .chain .result
+  first-once = sym (once-words (start known .pre .0)) ∙ sym (chained .chain .ensures .answer)
 
-  first-once : onceEach (one known .entries) ≡ true
-  first-once = sym (once-words (start known .pre .0)) ∙ sym (chained .chain .ensures .answer) ∙ first-well
+  second-once : onceEach (two known .entries) ≡ c .chain2 .result
+  second-once = sym (once-words (start known .pre .2)) ∙ sym (c .chain2 .ensures .answer)
 
-  first-placed : Placed (start known .args .mine .now) (chained .chain .last .1 .0)
+-- both journals have their index
+module _ (c : tie.Else2) where
+  abbrev both : tie.After-chain2
+  both = c .before .before
+
+  well : (chained both .chain .result && both .chain2 .result) ≡ true
+  well = not-false _ (c .if2 .left)
+
+  first-well : chained both .chain .result ≡ true
+  first-well = and-left _ _ well
+
+  second-well : both .chain2 .result ≡ true
+  second-well = and-right (chained both .chain .result) _ well
+
+  first-placed : Placed (start (known both) .args .mine .now) (chained both .chain .last .1 .0)
   first-placed = record {
-    indexed = chained .chain .ensures .indexed first-well;
-    room = omega (arith, start known .pre .1, chained .chain .kept .1 .0);
+    indexed = chained both .chain .ensures .indexed first-well;
+    room = omega (arith, start (known both) .pre .1, chained both .chain .kept .1 .0);
   }
 
--- the second journal has its index
-module _ (c : tie.Else3) where
-  abbrev chained-too : tie.After-chain2
-  chained-too = c .before .before
-
-  abbrev first-chained : tie.Else2
-  first-chained = chained-too .before .before
-
-  abbrev known-too : tie.After-slice-known
-  known-too = known first-chained
-
-  second-well : chained-too .chain2 .result ≡ true
-  second-well = not-false (chained-too .chain2 .result) (c .if3 .left)
-
-  second-once : onceEach (two known-too .entries) ≡ true
-  second-once = sym (once-words (start known-too .pre .2)) ∙ sym (chained-too .chain2 .ensures .answer) ∙ second-well
-
-  second-placed : Placed (start known-too .args .theirs .now) (chained-too .chain2 .last .1 .0)
+  second-placed : Placed (start (known both) .args .theirs .now) (both .chain2 .last .1 .0)
   second-placed = record {
-    indexed = chained-too .chain2 .ensures .indexed second-well;
-    room = omega (arith, start known-too .pre .3, chained-too .chain2 .kept .1 .0);
+    indexed = both .chain2 .ensures .indexed second-well;
+    room = omega (arith, start (known both) .pre .3, both .chain2 .kept .1 .0);
   }
 
-abbrev indexed : tie.After-both-heard → tie.Else3
+abbrev indexed : tie.After-both-heard → tie.Else2
 indexed c = c .before .before .before
 
-heard-is : (c : tie.After-both-heard) → let k = known-too (indexed c) in
+heard-is : (c : tie.After-both-heard) → let k = known (both (indexed c)) in
     (allHeard (one k .owner) (two k .owner) (one k .entries) (two k .entries) && allHeard (two k .owner) (one k .owner) (two k .entries) (one k .entries))
     ≡ c .both-heard .result
 heard-is c =
-    let p = start (known-too (indexed c)) .pre in
+    let p = start (known (both (indexed c))) .pre in
     ap₂ (λ (x y : Bool). x && y) (sym (heard-words (p .0) (p .2))) (sym (heard-words (p .2) (p .0)))
     ∙ sym (c .both-heard .ensures)
 
@@ -89,28 +88,23 @@ chain-requires : tie.Need-chain-requires
 chain-requires c κs =
     (index-room (start (c .before .before) .pre .1), index-none _)
 
-returns-2 : tie.Need-returns-2
-returns-2 c =
-    let x = c .before .before in
-    let e = x .before .before in
-    let k = e .before in
-    sym (first-twice (one k) (two k) _ (e .if1 .left)
-    (sym (once-words (start k .pre .0)) ∙ sym (x .chain .ensures .answer) ∙ not-true (x .chain .result) (c .if2 .taken)))
-
 slice-aggregate-chain-2 : tie.Need-slice-aggregate-chain-2
 slice-aggregate-chain-2 c = search needs
 
 chain-requires-2 : tie.Need-chain-requires-2
 chain-requires-2 c κs =
-    (index-room (start (known (c .before)) .pre .3), index-none _)
+    (index-room (start (c .before .before .before .before .before) .pre .3), index-none _)
 
-returns-3 : tie.Need-returns-3
-returns-3 c =
+returns-2 : tie.Need-returns-2
+returns-2 c =
     let x = c .before .before in
-    let d = x .before .before in
-    let k = known d in
-    sym (second-twice (one k) (two k) _ (apart d .if1 .left) (first-once d)
-    (sym (once-words (start k .pre .2)) ∙ sym (x .chain2 .ensures .answer) ∙ not-true (x .chain2 .result) (c .if3 .taken)))
+    let k = known x in
+    let one-fails : (chained x .chain .result && x .chain2 .result) ≡ false = not-true _ (c .if2 .taken) in
+    sym (⊎-elim
+    (λ p. second-twice (one k) (two k) _ (apart x .if1 .left) (first-once x ∙ p)
+    (second-once x ∙ sym (ap (λ (b : Bool). b && x .chain2 .result) p) ∙ one-fails))
+    (λ p. first-twice (one k) (two k) _ (apart x .if1 .left) (first-once x ∙ p))
+    (truth (chained x .chain .result)))
 
 slice-aggregate-both-heard : tie.Need-slice-aggregate-both-heard
 slice-aggregate-both-heard c = search needs
@@ -121,16 +115,17 @@ slice-aggregate-both-heard-2 c = search needs
 both-heard-requires : tie.Need-both-heard-requires
 both-heard-requires c κs =
     let f = c .before .before in
-    let p = start (known-too f) .pre in
-    (p .0 .below, first-placed (first-chained f), p .2 .below, second-placed f)
+    let p = start (known (both f)) .pre in
+    (p .0 .below, first-placed f, p .2 .below, second-placed f)
 
-returns-4 : tie.Need-returns-4
-returns-4 c =
+-- neither journal repeats a line, and whether all was heard
+returns-3 : tie.Need-returns-3
+returns-3 c =
     let h = c .before in
     let f = indexed h in
-    let d = first-chained f in
-    let k = known d in
-    sym (pair-unheard (one k) (two k) _ (apart d .if1 .left) (first-once d) (second-once f) (heard-is h ∙ not-true (h .both-heard .result) (c .if4 .taken)))
+    let x = both f in
+    sym (pair-unheard (one (known x)) (two (known x)) _ (apart x .if1 .left) (first-once x ∙ first-well f) (second-once x ∙ second-well f)
+    (heard-is h ∙ not-true (h .both-heard .result) (c .if3 .taken)))
 
 slice-aggregate-write-missing : tie.Need-slice-aggregate-write-missing
 slice-aggregate-write-missing c = search needs
@@ -141,24 +136,24 @@ slice-aggregate-write-missing-2 c = search needs
 write-missing-requires : tie.Need-write-missing-requires
 write-missing-requires c κs =
     let f = indexed (c .before .before .before .before) in
-    let p = start (known-too f) .pre in (
-      record { holds = p .0; placed-in = first-placed (first-chained f) },
-      record { holds = p .2; placed-in = second-placed f },
+    let p = start (known (both f)) .pre in (
+      record { holds = p .0; few = p .1; placed-in = first-placed f },
+      record { holds = p .2; few = p .3; placed-in = second-placed f },
     )
 
 same-length : tie.Need-same-length
 same-length c = search needs
 
-returns-5 : tie.Need-returns-5
-returns-5 c =
+returns-4 : tie.Need-returns-4
+returns-4 c =
     let w = c .before .before in
     let g = w .before .before .before .before in
     let h = g .before in
     let f = indexed h in
-    let d = first-chained f in
-    let k = known d in
+    let x = both f in
     w .write-missing .ensures
-    ∙ sym (pair-placed (one k) (two k) _ (apart d .if1 .left) (first-once d) (second-once f) (heard-is h ∙ not-false (h .both-heard .result) (g .if4 .left)))
+    ∙ sym (pair-placed (one (known x)) (two (known x)) _ (apart x .if1 .left) (first-once x ∙ first-well f) (second-once x ∙ second-well f)
+    (heard-is h ∙ not-false (h .both-heard .result) (g .if3 .left)))
 
 pub compare-read-spec : {M : Type 1} → statement M
 compare-read-spec =
@@ -167,16 +162,15 @@ compare-read-spec =
     returns
     slice-aggregate-chain
     chain-requires
-    returns-2
     slice-aggregate-chain-2
     chain-requires-2
-    returns-3
+    returns-2
     slice-aggregate-both-heard
     slice-aggregate-both-heard-2
     both-heard-requires
-    returns-4
+    returns-3
     slice-aggregate-write-missing
     slice-aggregate-write-missing-2
     write-missing-requires
     same-length
-    returns-5)
+    returns-4)

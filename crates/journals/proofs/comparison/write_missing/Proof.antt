@@ -1,20 +1,23 @@
 use Prim.Native.Nat.{ℕ, _+_, _≤_}
-use mathlib.Core.Path.{_≡_, sym, ap, ap₂, subst}
+use mathlib.Core.Path.{_≡_, sym, ap, ap₂, subst, _∙_}
+use mathlib.Core.Bool.{true}
 use mathlib.Core.List.{List, _++_}
 use native.Mathlib.Omega.{arith}
+use lib.Dec.{leb}
 use lib.ListN.{length, length-append}
+use borrow.Author.Tests.{not-true, not-false, leb-true}
 use Rattle.closing.specs.Writing.{Writes, writes-more}
 use Rattle.journals.specs.Missing.{textFrom}
 use Rattle.journals.specs.Journals.{missing}
-use Rattle.journals.specs.JournalReads.{linesIn, missing-text}
-use Rattle.journals.specs.Comparing.{placed-short, placed-both}
+use Rattle.journals.specs.JournalReads.{linesIn, missing-text, as-many, walk-start}
+use Rattle.journals.specs.Comparing.{placed-short, placed-all}
 use borrow.Author.Needs.{needs}
 use Rattle.journals.proofs.comparison.write_missing.Statement.{statement}
 use Rattle.journals.proofs.comparison.write_missing.Tie as tie
 
 module _ (c : tie.After-slice-known) where
   abbrev start : tie.Start
-  start = c .before .before .before .before .before .before .before
+  start = c .before .before .before .before .before .before .before .before .before
 
   -- what the words say, and what the lines say
   abbrev first-text : List ℕ
@@ -35,70 +38,70 @@ module _ (c : tie.After-slice-known) where
   second-is : second-text ≡ second
   second-is = missing-text (start .pre .1 .holds) (start .pre .0 .holds)
 
--- both texts fit
-room : (c : tie.Else2) → let k = c .before .before .before .before in length (first-text k) + length (second-text k) ≤ length (start k .args .out .now)
-room c =
-    omega (arith, c .before .before .if1 .left, c .if2 .left, c .before .before .before .missing-length .ensures, c .before .missing-length2 .ensures)
+roomy : (c : tie.After-has-room) → leb (length (first (c .before) ++ second (c .before))) (length (start (c .before) .args .out .now)) ≡ c .has-room .result
+roomy c =
+    let k = c .before in
+    ap (λ (n : ℕ). leb n (length (start k .args .out .now))) (length-append (first k) (second k)) ∙ sym (c .has-room .ensures)
 
-missing-length-requires : tie.Need-missing-length-requires
-missing-length-requires c κs = search needs
+-- both texts have room
+module _ (c : tie.Else1) where
+  abbrev known : tie.After-slice-known
+  known = c .before .before
+
+  all-fits : leb (length (first known ++ second known)) (length (start known .args .out .now)) ≡ true
+  all-fits = roomy (c .before) ∙ not-false (c .before .has-room .result) (c .if1 .left)
+
+  room : length (first-text known) + length (second-text known) ≤ length (start known .args .out .now)
+  room = omega (
+    arith,
+    leb-true (length (first known ++ second known)) (length (start known .args .out .now)) all-fits,
+    length-append (first known) (second known),
+    ap length (first-is known),
+    ap length (second-is known),
+  )
+
+has-room-requires : tie.Need-has-room-requires
+has-room-requires c κs = search needs
 
 returns : tie.Need-returns
 returns c =
-    let m = c .before in
-    let k = m .before in
-    sym (placed-short (start k .args .out .now) (first k) (second k) (omega (arith, c .if1 .taken, m .missing-length .ensures, ap length (first-is k))))
-
-missing-length-requires-2 : tie.Need-missing-length-requires-2
-missing-length-requires-2 c κs = search needs
-
-sub-if2 : tie.Need-sub-if2
-sub-if2 c = search needs
-
-returns-2 : tie.Need-returns-2
-returns-2 c =
-    let n = c .before in
-    let m = n .before .before in
-    let k = m .before in
-    sym (placed-short (start k .args .out .now) (first k) (second k)
-    (omega (arith, n .before .if1 .left, c .if2 .taken, m .missing-length .ensures, n .missing-length2 .ensures, ap length (first-is k), ap length (second-is k))))
+    let h = c .before in
+    let k = h .before in
+    sym (placed-short (start k .args .out .now) (first k ++ second k) (roomy h ∙ not-true (h .has-room .result) (c .if1 .taken)))
 
 put-missing-requires : tie.Need-put-missing-requires
 put-missing-requires c κs =
     let e = c .before in
-    let p = start (e .before .before .before .before) .pre in
-    (p .0 .holds .well, p .0 .holds .below, p .1 .placed-in, omega (arith, room e))
+    let p = start (known e) .pre in
+    (walk-start (p .0 .holds), as-many (p .0 .holds), p .0 .holds .below, p .1 .placed-in, omega (arith, room e))
 
 put-missing-requires-2 : tie.Need-put-missing-requires-2
 put-missing-requires-2 c κs =
     let w = c .before .before .before in
     let e = w .before .before in
-    let p = start (e .before .before .before .before) .pre in
-    (p .1 .holds .well, p .1 .holds .below, p .0 .placed-in, omega (arith, room e, w .put-missing .ensures .place, w .put-missing .kept .1 .1 .1 .1 .1 .0))
+    let p = start (known e) .pre in
+    (walk-start (p .1 .holds), as-many (p .1 .holds), p .1 .holds .below, p .0 .placed-in, omega (arith, room e, w .put-missing .ensures .place, w .put-missing .kept .1 .1 .1 .1 .1 .1 .1 .0))
 
 same-length : tie.Need-same-length
 same-length c = search needs
 
-returns-3 : tie.Need-returns-3
-returns-3 c =
+returns-2 : tie.Need-returns-2
+returns-2 c =
     let y = c .before .before in
     let w = y .before .before .before .before in
     let e = w .before .before in
-    let k = e .before .before .before .before in
-    placed-both (start k .args .out .now) (first k) (second k) (omega (arith, room e, ap length (first-is k), ap length (second-is k)))
-    (subst (Writes (y .put-missing2 .result) (y .put-missing2 .last .1 .1 .1 .1 .1 .0) (start k .args .out .now) 0) (ap₂ (λ (x z : List ℕ). x ++ z) (first-is k) (second-is k))
+    let k = known e in
+    placed-all (start k .args .out .now) (first k ++ second k) (all-fits e)
+    (subst (Writes (y .put-missing2 .result) (y .put-missing2 .last .1 .1 .1 .1 .1 .1 .1 .0) (start k .args .out .now) 0) (ap₂ (λ (x z : List ℕ). x ++ z) (first-is k) (second-is k))
     (writes-more (first-text k) (second-text k) (omega (arith, room e, length-append (first-text k) (second-text k))) (w .put-missing .ensures) (y .put-missing2 .ensures)))
 
 pub write-missing-spec : {M : Type 1} → statement M
 write-missing-spec =
     tie.close
     (tie.spec
-    missing-length-requires
+    has-room-requires
     returns
-    missing-length-requires-2
-    sub-if2
-    returns-2
     put-missing-requires
     put-missing-requires-2
     same-length
-    returns-3)
+    returns-2)

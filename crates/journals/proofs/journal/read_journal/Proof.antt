@@ -63,8 +63,8 @@ enum-known-n c = search needs
 enum-known-count : tie.Need-enum-known-count
 enum-known-count c = search needs
 
-add-t23 : tie.Need-add-t23
-add-t23 c = search needs
+add-t26 : tie.Need-add-t26
+add-t26 c = search needs
 
 returns-4 : tie.Need-returns-4
 returns-4 c =
@@ -76,11 +76,14 @@ returns-4 c =
 same-length : tie.Need-same-length
 same-length c = search needs
 
+same-length-2 : tie.Need-same-length-2
+same-length-2 c = search needs
+
 returns-5 : tie.Need-returns-5
 returns-5 c =
     let n = c .before in
-    let x = n .before .before .before .before in
-    let t = x .before .before in
+    let x = n .before .before .before .before .before .before in
+    let t = x .before .before .before in
     let o = t .before .before in
     let k = o .before .before in
     let e = k .before .before .before in
@@ -89,23 +92,27 @@ returns-5 c =
     (journal-owned _ (e .before .before .if1 .left) _ (f .0) (f .1) (e .if2 .left) _ (sym (k .read-keyed .ensures) ∙ ap numberMeant (o .owner .given .1)) (t .if3 .left))
     _ (ap (λ (r : Count). countMeant r (x .read-entries .last .1 .1 .1 .0)) (sym (n .n .given .1)) ∙ x .read-entries .ensures .0)
 
-same-length-2 : tie.Need-same-length-2
-same-length-2 c = search needs
+same-length-3 : tie.Need-same-length-3
+same-length-3 c = search needs
+
+same-length-4 : tie.Need-same-length-4
+same-length-4 c = search needs
 
 returns-6 : tie.Need-returns-6
 returns-6 c =
     let n = c .before in
-    let x = n .before .before .before .before in
-    let t = x .before .before in
+    let x = n .before .before .before .before .before .before in
+    let t = x .before .before .before in
     let o = t .before .before in
     let k = o .before .before in
     let e = k .before .before .before in
     let f = e .before .find .ensures in
     read-headed _ _ (e .before .find .result + 1)
     (journal-owned _ (e .before .before .if1 .left) _ (f .0) (f .1) (e .if2 .left) _ (sym (k .read-keyed .ensures) ∙ ap numberMeant (o .owner .given .1)) (t .if3 .left))
-    _ _ (ap (λ (r : Count). countMeant r (x .read-entries .last .1 .1 .1 .0)) (sym (n .count .given .1)) ∙ x .read-entries .ensures .0)
+    _ _ _ (ap (λ (r : Count). countMeant r (x .read-entries .last .1 .1 .1 .0)) (sym (n .count .given .1)) ∙ x .read-entries .ensures .0)
+    (ap (λ (r : Count). countMeant r (x .read-entries .last .1 .1 .1 .1 .0)) (sym (n .count .given .1)) ∙ x .read-entries .ensures .1 .0)
     (omega (arith, f .1, e .if2 .left)) (t .if3 .left)
-    (subst (λ (r : Count). countOf r ≤ length (x .read-entries .last .1 .1 .1 .0)) (n .count .given .1) (x .read-entries .ensures .1))
+    (subst (λ (r : Count). countOf r ≤ length (x .read-entries .last .1 .1 .1 .0)) (n .count .given .1) (x .read-entries .ensures .1 .1))
 
 pub read-journal-spec : {M : Type 1} → statement M
 read-journal-spec =
@@ -126,9 +133,11 @@ read-journal-spec =
     read-entries-requires
     enum-known-n
     enum-known-count
-    add-t23
+    add-t26
     returns-4
     same-length
-    returns-5
     same-length-2
+    returns-5
+    same-length-3
+    same-length-4
     returns-6)

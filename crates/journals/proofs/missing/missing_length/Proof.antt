@@ -1,97 +1,74 @@
-use Prim.Native.Nat.{_+_, _-_, _≤_}
-use mathlib.Core.Path.{_≡_, sym, ap, _∙_}
-use mathlib.Core.Bool.{true}
+use Prim.Native.Nat.{_+_, _-_, _*_, _≤_}
+use mathlib.Core.Path.{_≡_, ap, _∙_}
+use mathlib.Core.Bool.{Bool, cond}
 use native.Mathlib.Omega.{arith}
-use lib.ListN.{length}
-use Rattle.journals.specs.JournalKeys.{nextMeant}
-use Rattle.journals.specs.Missing.{isGiven, entriesFrom, textFrom, went, length-step, never-stops, text-end}
+use lib.ListN.{length, getD, drop}
+use Rattle.journals.specs.Missing.{missedKey, missedLength, missed-next, missed-end}
 use borrow.Author.Needs.{needs}
 use Rattle.journals.proofs.missing.missing_length.Statement.{statement}
 use Rattle.journals.proofs.missing.missing_length.Tie as tie
 
 abbrev Inv-loop : tie.InvT-loop
-Inv-loop text a b theirs index at₀ count₀ at count =
-    (at ≤ length text) × (count ≤ at) × (isGiven (entriesFrom a text at) ≡ true)
-    × (length (textFrom a b theirs text 0) ≡ count + length (textFrom a b theirs text at))
+Inv-loop a b keys sizes theirs index i₀ count₀ i count =
+    (i ≤ length keys) × (count ≤ 65535 * i) × (missedLength a b theirs keys sizes ≡ count + missedLength a b theirs (drop i keys) (drop i sizes))
 
 abbrev μ-loop : tie.MeasureT-loop
-μ-loop text a b theirs index at₀ count₀ at count = length text - at
+μ-loop a b keys sizes theirs index i₀ count₀ i count = length keys - i
 
 loop-holds : tie.Need-loop-holds Inv-loop μ-loop
-loop-holds c =
-    let s = c .before .before .before in
-    (omega arith, omega arith, s .pre .0, omega arith)
+loop-holds c = (omega arith, omega arith, omega arith)
 
-next-key-requires : tie.Need-next-key-requires Inv-loop μ-loop
-next-key-requires c κs = search needs
+mul-size : tie.Need-mul-size Inv-loop μ-loop
+mul-size c = search needs
 
-enum-told : tie.Need-enum-told Inv-loop μ-loop
-enum-told c = search needs
+shared-slice-read-size : tie.Need-shared-slice-read-size Inv-loop μ-loop
+shared-slice-read-size c = search needs
 
-returns : tie.Need-returns Inv-loop μ-loop
-returns c =
-    let k = c .before .before in
-    let l = k .before .before in
-    let a = l .before .before .before .before .args in
-    absurd (never-stops (a .a) (a .b) (a .theirs .now) (a .text .now) (l .loop .at) (k .before .loop-test .taken) (l .loop .inv .2) _
-    (sym (k .next-key .ensures) ∙ ap nextMeant (c .enum-told .given .1)))
+cast-size : tie.Need-cast-size Inv-loop μ-loop
+cast-size c = omega (arith, c .shared-slice-known5 .given (c .before .before .loop .i))
 
-enum-known-key : tie.Need-enum-known-key Inv-loop μ-loop
-enum-known-key c = search needs
+mul-missed-one : tie.Need-mul-missed-one Inv-loop μ-loop
+mul-missed-one c = search needs
+
+shared-slice-read-missed-one : tie.Need-shared-slice-read-missed-one Inv-loop μ-loop
+shared-slice-read-missed-one c = search needs
 
 missed-one-requires : tie.Need-missed-one-requires Inv-loop μ-loop
 missed-one-requires c κs = search needs
-
-sub-counted : tie.Need-sub-counted Inv-loop μ-loop
-sub-counted c =
-    let x = c .before in
-    let k = x .before .before .before in
-    let l = k .before .before in
-    let a = l .before .before .before .before .args in
-    let w = went (a .a) (a .b) (a .theirs .now) (a .text .now) (l .loop .at) (k .before .loop-test .taken) (l .loop .inv .2) _ _
-    (sym (k .next-key .ensures) ∙ ap nextMeant (x .before .key .given .1)) in
-    search (needs, w .onward)
 
 counted-requires : tie.Need-counted-requires Inv-loop μ-loop
 counted-requires c κs = search needs
 
 add-count : tie.Need-add-count Inv-loop μ-loop
 add-count c =
-    let x = c .before .before in
-    let k = x .before .before .before in
+    let k = c .before .before .before in
     let l = k .before .before in
-    let a = l .before .before .before .before .args in
-    let w = went (a .a) (a .b) (a .theirs .now) (a .text .now) (l .loop .at) (k .before .loop-test .taken) (l .loop .inv .2) _ _
-    (sym (k .next-key .ensures) ∙ ap nextMeant (x .before .key .given .1)) in
-    search (needs, w .onward, w .inside, c .counted .ensures .1)
+    omega (arith, l .loop .inv .1, c .counted .ensures .1, k .shared-slice-known5 .given (l .loop .i))
+
+add-i : tie.Need-add-i Inv-loop μ-loop
+add-i c = search needs
 
 loop-less : tie.Need-loop-less Inv-loop μ-loop
-loop-less c =
-    let x = c .before .before in
-    let k = x .before .before .before in
-    let l = k .before .before in
-    let a = l .before .before .before .before .args in
-    let w = went (a .a) (a .b) (a .theirs .now) (a .text .now) (l .loop .at) (k .before .loop-test .taken) (l .loop .inv .2) _ _
-    (sym (k .next-key .ensures) ∙ ap nextMeant (x .before .key .given .1)) in
-    omega (arith, w .onward, w .inside)
+loop-less c = search needs
 
 loop-again : tie.Need-loop-again Inv-loop μ-loop
 loop-again c =
-    let x = c .before .before in
-    let k = x .before .before .before in
+    let m = c .before in
+    let k = m .before .before in
     let l = k .before .before in
-    let a = l .before .before .before .before .args in
-    let w = went (a .a) (a .b) (a .theirs .now) (a .text .now) (l .loop .at) (k .before .loop-test .taken) (l .loop .inv .2) _ _
-    (sym (k .next-key .ensures) ∙ ap nextMeant (x .before .key .given .1)) in
-    let e = length-step (a .a) (a .b) (a .theirs .now) (a .text .now) (l .loop .at) (k .before .loop-test .taken) (l .loop .inv .2) _ _ w
-    _ (c .before .missed-one .ensures) _ (c .counted .ensures .0) in
-    (w .inside, omega (arith, l .loop .inv .1, w .onward, c .counted .ensures .1), w .still, omega (arith, l .loop .inv .3, e))
+    let s = l .before .before .before .before .before in
+    let a = s .args in
+    let e = missed-next (a .a) (a .b) (a .theirs .now) (a .keys .now) (a .sizes .now) (l .loop .i) (k .before .loop-test .taken) (s .pre .2) in
+    let size = getD (a .sizes .now) (l .loop .i) 0 in
+    let r : c .counted .result ≡ cond (missedKey (a .a) (a .b) (a .theirs .now) (getD (a .keys .now) (l .loop .i) 0)) size 0 =
+    c .counted .ensures .0 ∙ ap (λ (t : Bool). cond t size 0) (m .missed-one .ensures) in
+    (omega arith, omega (arith, l .loop .inv .1, c .counted .ensures .1, k .shared-slice-known5 .given (l .loop .i)), omega (arith, l .loop .inv .2, e, r))
 
-returns-2 : tie.Need-returns-2 Inv-loop μ-loop
-returns-2 c =
+returns : tie.Need-returns Inv-loop μ-loop
+returns c =
     let l = c .before in
-    let a = l .before .before .before .before .args in
-    omega (arith, l .loop .inv .3, ap length (text-end (a .a) (a .b) (a .theirs .now) (a .text .now) (l .loop .at) (c .loop-test .left)))
+    let a = l .before .before .before .before .before .args in
+    omega (arith, l .loop .inv .2, missed-end (a .a) (a .b) (a .theirs .now) (a .keys .now) (a .sizes .now) (l .loop .i) (c .loop-test .left))
 
 pub missing-length-spec : {M : Type 1} → statement M
 missing-length-spec =
@@ -100,14 +77,15 @@ missing-length-spec =
     Inv-loop
     μ-loop
     loop-holds
-    next-key-requires
-    enum-told
-    returns
-    enum-known-key
+    mul-size
+    shared-slice-read-size
+    cast-size
+    mul-missed-one
+    shared-slice-read-missed-one
     missed-one-requires
-    sub-counted
     counted-requires
     add-count
+    add-i
     loop-less
     loop-again
-    returns-2)
+    returns)
