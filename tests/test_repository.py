@@ -85,8 +85,8 @@ class Repository(unittest.TestCase):
 
     def test_nothing_but_the_bank_calls_what_the_core_leaves_untested(self):
         callers = {os.path.relpath(path, os.path.join(ROOT, "crates")) for path in sources("*/src/*.rt")
-                   if re.search(r"\b(column::returning|unchecked_for_bank|fresh_under)\b", read(path))}
-        self.assertEqual({path for path in callers if not path.startswith("column/")}, {"bank/src/bank.rt", "bank/src/returning.rt", "bank/src/step.rt"})
+                   if re.search(r"\b(column::returning|column::effect|unchecked_for_bank|fresh_under)\b", read(path))}
+        self.assertEqual({path for path in callers if not path.startswith("column/")}, {"bank/src/bank.rt", "bank/src/dispatch.rt", "bank/src/returning.rt", "bank/src/step.rt"})
 
     def test_no_module_rests_on_one_that_rests_on_it(self):
         for crate in CRATES:

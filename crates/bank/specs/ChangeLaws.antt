@@ -280,7 +280,7 @@ pub lit-running : (b : Bank) {m : ℕ} → m ≡ selected (runs b) (b .tree .col
 lit-running b e j h = ap (λ (m : ℕ). has m j) e ∙ selected-has (runs b) (b .tree .columns) j h
 
 -- a column that runs has a place
-placed : (l : List Column) (i : ℕ) → getD l i noColumn .running ≡ true → i < length l
+pub placed : (l : List Column) (i : ℕ) → getD l i noColumn .running ≡ true → i < length l
 placed [] i e = absurd (true≢false (sym e))
 placed (c ∷ l) zero e = omega arith
 placed (c ∷ l) (suc i) e = let h = placed l i e in omega (arith, h)

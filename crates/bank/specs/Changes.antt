@@ -15,7 +15,7 @@ use Rattle.column.specs.declared.state.Column.{Column}
 use Rattle.column.specs.declared.packet.Packet.{Packet}
 use Rattle.column.specs.declared.outcome.Outcome as core-outcome
 use Rattle.bank.specs.Banks.{State, state, columnAt, runs, packetAt, bankRefusal}
-use Rattle.bank.specs.Standing.{newestStands, stillStands}
+use Rattle.bank.specs.Standing.{newestStands}
 use Rattle.bank.specs.Networks.{put, removed}
 use Rattle.bank.specs.Steps.{Outcome, accepted, refused, withColumn, fitting, settled, delivered}
 use Rattle.bank.specs.Steady.{Steady, Aimed}
@@ -116,7 +116,3 @@ abbrev pub TellsNewest : Bool → ℕ → ℕ → Bool → ℕ → ℕ → List 
 TellsNewest r columns root watch running count heads =
     (b : Bank) (doors : List ℕ) → b .tree .columns ≡ columns → b .tree .root ≡ root → b .tree .watch ≡ watch → Lit running b → b .count ≡ count
     → r ≡ newestStands (state b heads doors)
-
-abbrev pub TellsStill : Bool → Tree → ℕ → ℕ → Column → ℕ → List ℕ → Type 0
-TellsStill r t running i c count heads =
-    (b : Bank) (doors : List ℕ) → Handed b t running i c count → r ≡ stillStands (state b heads doors) i

@@ -119,6 +119,10 @@ module _ (s : State) where
       go true e h = h
       go false e h = inr e
 
+  pub turn-accepted : isTake (turn s) ≡ false → isRefused (perform s (turn s)) ≡ false
+  unfolding turn
+  turn-accepted e = ⊎-elim (λ z. absurd (true≢false (sym (ap isTake z) ∙ e))) (λ z. z) (first-taken (offered s n) (Take 0))
+
   module _ (none : s .bank .count ≡ 0) where
     take-refused : (x : Step) → isTake x ≡ true → isRefused (perform s x) ≡ true
     unfolding perform
@@ -139,18 +143,15 @@ module _ (s : State) where
       where
         go : (b : Bool) → isTake (turn s) ≡ b → b ≡ atRest s
         go true e = sym (stops-rest none (take-refused (turn s) e))
-        go false e =
-            let goes : isRefused (perform s (turn s)) ≡ false =
-            ⊎-elim (λ z. absurd (true≢false (sym (ap isTake z) ∙ e))) (λ z. z) (first-taken (offered s n) (Take 0)) in
-            sym (⊎-elim (λ r. absurd (true≢false (sym (rest-stops r) ∙ goes))) (λ r. r) (truth (atRest s)))
+        go false e = sym (⊎-elim (λ r. absurd (true≢false (sym (rest-stops r) ∙ turn-accepted e))) (λ r. r) (truth (atRest s)))
 
 -- ---- the take of a packet
 
-module _ (s : State) (st : Stands s) (place : ℕ) (held : place < s .bank .count) (room : s .bank .count < capacity) where
+module _ (s : State) (st : Stands s) (place : ℕ) (held : place < s .bank .count) where
   abbrev p : Packet
   p = packetAt s place
 
-  core-takes : core.takeRefusal (s .bank .tree) (receiver p) (columnAt (s .bank) (receiver p)) p ≡ 0
+  pub core-takes : core.takeRefusal (s .bank .tree) (receiver p) (columnAt (s .bank) (receiver p)) p ≡ 0
   unfolding core.takeRefusal
   core-takes = simp (
     st .tree,
@@ -160,9 +161,9 @@ module _ (s : State) (st : Stands s) (place : ℕ) (held : place < s .bank .coun
     st .receivers place held,
   )
 
-  pub take-accepted : isRefused (take s place) ≡ false
+  pub take-accepted : s .bank .count < capacity → isRefused (take s place) ≡ false
   unfolding perform
-  take-accepted =
+  take-accepted room =
       let not-full : overfull s (Take place) ≡ false =
       ap (λ (b : Bool). raised s (Take place) && b) (ne-eqb (s .bank .count) capacity (λ e. omega (arith, e, room))) ∙ and-false (raised s (Take place)) in
       refused-exactly s (Take place) ∙ simp (stands-passes s st, lt-leb (s .bank .count) place held, core-takes, not-full)

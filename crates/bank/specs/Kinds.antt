@@ -3,6 +3,17 @@ use mathlib.Core.Bool.{Bool, true, false, _||_}
 use Rattle.bank.specs.declared.bank.Step.{Step}
 use Rattle.bank.specs.declared.bank.Step.the-variants.{Order, Send, Take, Ack, All, Note, Halt, Back, Write}
 
+abbrev pub isOrder : Step → Bool
+isOrder (Order doors) = true
+isOrder (Send i) = false
+isOrder (Take place) = false
+isOrder (Ack i) = false
+isOrder (All i) = false
+isOrder (Note i j) = false
+isOrder (Halt m) = false
+isOrder (Back j) = false
+isOrder (Write i offset value) = false
+
 abbrev pub isHalt : Step → Bool
 isHalt (Order doors) = false
 isHalt (Send i) = false

@@ -34,6 +34,7 @@ pub mod RestLaws
 pub mod ReturnLaws
 pub mod Kinds
 pub mod Places
+pub mod ColumnOn
 pub mod StandingOn
 pub mod StepExamples
 pub mod Dispatch
@@ -45,6 +46,7 @@ pub mod QuickLaws
 pub mod QuickTurn
 pub mod Offers
 pub mod ChangeLaws
+pub mod Moves
 pub mod SurveyLaws
 pub mod ReadyTurn
 pub mod ReadyLaws

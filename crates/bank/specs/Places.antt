@@ -78,7 +78,7 @@ put-kept s p = go (runs (s .bank) (receiver p))
     go true = (refl, refl)
     go false = (refl, refl)
 
-puts-kept : (l : List Packet) (s : State) → (puts s l .bank .tree ≡ s .bank .tree) × (puts s l .bank .columns ≡ s .bank .columns)
+pub puts-kept : (l : List Packet) (s : State) → (puts s l .bank .tree ≡ s .bank .tree) × (puts s l .bank .columns ≡ s .bank .columns)
 unfolding puts
 puts-kept [] s = (refl, refl)
 puts-kept (p ∷ l) s =

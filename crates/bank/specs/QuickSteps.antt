@@ -11,7 +11,7 @@ use borrow.Author.Tests.{eqb-true, ltb-true, ltb-false}
 use Rattle.column.specs.TreeLaws.{tree-sixteen}
 use Rattle.column.specs.declared.tree.Tree.{Tree}
 use Rattle.bank.specs.Banks.{State, state, columnAt, runs, runningOf, bankRefusal}
-use Rattle.bank.specs.Standing.{stillStands}
+use Rattle.bank.specs.Standing.{newestStands}
 use Rattle.bank.specs.StandingLaws.{stands}
 use Rattle.bank.specs.StandingOn.{room-on, tree-on, runs-on, actor-on, stands-on}
 use Rattle.bank.specs.Steps.{Outcome, accepted, refused, answered}
@@ -78,7 +78,7 @@ pub record Turned (limit steps : ℕ) (s m m' : State) (i : ℕ) : Type 0 where
   pub within : (m' .bank .tree .columns ≤ 16) × (m' .bank .count ≤ 512)
   pub same : (j : ℕ) → runs (m' .bank) j ≡ runs (m .bank) j
   pub actor : (i < m .bank .tree .columns) × (runs (m .bank) i ≡ true)
-  pub test : stillStands m' i ≡ eqb (bankRefusal m') 0
+  pub test : newestStands m' ≡ eqb (bankRefusal m') 0
 
 -- what the function answers then
 pub over : {r : Dispatched} {b : Bank} {heads doors : List ℕ} {limit steps : ℕ} {s : State} → Ended r b steps → Over limit steps s (state b heads doors)

@@ -1,5 +1,5 @@
--- A bank that stands and takes a step of one column stands after it exactly where the column that acted does, and the newest packet:
--- no other column is rewritten, every other packet was held before, and who runs is the same. Assumes nothing.
+-- A bank that stands and takes a step of one column stands after it exactly where the newest packet does: the column that acted passes row 4,
+-- no other is rewritten, every other packet was held before, and who runs is the same. Assumes nothing.
 use Prim.Native.Nat.{ℕ, _+_, _-_, _≤_, _<_}
 use mathlib.Core.Path.{_≡_, refl, sym, ap, ap₂, subst, _∙_}
 use mathlib.Core.Bool.{Bool, true, false, _&&_, _||_, cond, true≢false}
@@ -22,8 +22,9 @@ use Rattle.bank.specs.Words.{packetOf}
 use Rattle.bank.specs.Steady.{Steady, steady-cond, steady-send, steady-take}
 use Rattle.bank.specs.Lists.{closedUp}
 use Rattle.bank.specs.ListLaws.{closed-up-before, closed-up-after, set-keeps}
-use Rattle.bank.specs.Banks.{State, columnAt, runs, packetAt, columnStands, packetStands, capacity, noColumn, bankRefusal, actingRefusal}
-use Rattle.bank.specs.Standing.{newestStands, stillStands}
+use Rattle.bank.specs.Banks.{State, columnAt, runs, packetAt, packetStands, capacity, noColumn, bankRefusal, actingRefusal}
+use Rattle.bank.specs.Standing.{newestStands}
+use Rattle.bank.specs.ColumnOn.{column-on}
 use Rattle.bank.specs.StandingLaws.{Stands, stands, stands-passes}
 use Rattle.bank.specs.Networks.{withPacket, put, puts, removed}
 use Rattle.bank.specs.Steps.{Outcome, accepted, refused, after, unless, withColumn, fitting, settled, acted, delivered, noteRefusal, takeRefusal}
@@ -155,8 +156,8 @@ module _ (s : State) where
 packet-stands : (s : State) → Stands s → (k : ℕ) → k < s .bank .count → packetStands (s .bank) (packetAt s k) ≡ true
 packet-stands s w k h = ap₂ _&&_ (eq-eqb _ 0 (w .packets k h)) (w .receivers k h)
 
-pub stands-still : (s : State) (i : ℕ) → Stands s → i < s .bank .tree .columns → stillStands s i ≡ true
-stands-still s i w h = ap₂ _&&_ (eq-eqb _ 0 (w .columns i h)) (go (eqb (s .bank .count) 0) refl)
+pub stands-still : (s : State) → Stands s → newestStands s ≡ true
+stands-still s w = go (eqb (s .bank .count) 0) refl
   where
     go : (b : Bool) → eqb (s .bank .count) 0 ≡ b → (b || packetStands (s .bank) (packetAt s (s .bank .count - 1))) ≡ true
     go true e = refl
@@ -190,21 +191,19 @@ module _ (s : State) (x : Step) (s' : State) (i : ℕ) (moves : byNoColumn x ≡
       let z = acting-is s x none i actor in
       (z .0, z .1 (or-none (isHalt x) (ofHalted x) moves))
 
-  actor-below : i < s' .bank .tree .columns
-  actor-below = subst (λ (t : Tree). i < t .columns) (sym tree-on) (actor-on .0)
-
   older-stands : (p : Packet) → Held s p → packetStands (s' .bank) p ≡ true
   older-stands p q =
       ap₂ (λ (t : Tree) (r : Bool). eqb (core.packetRefusal t p) 0 && r) tree-on (carried .1 .running (receiver p))
       ∙ subst (λ (p : Packet). packetStands (s .bank) p ≡ true) (q .2) (packet-stands s before (q .0) (q .1))
 
-  module _ (still : stillStands s' i ≡ true) where
+  module _ (still : newestStands s' ≡ true) where
     each-column : (j : ℕ) → j < s' .bank .tree .columns → stateRefusal (s' .bank .tree) j (columnAt (s' .bank) j) ≡ 0
     each-column j h = go (equal-cases j i)
       where
         go : (j ≡ i) ⊎ (j ≡ i → ⊥) → stateRefusal (s' .bank .tree) j (columnAt (s' .bank) j) ≡ 0
         go (inl e) =
-            subst (λ k. stateRefusal (s' .bank .tree) k (columnAt (s' .bank) k) ≡ 0) (sym e) (eqb-true _ 0 (and-left (columnStands (s' .bank) i) (newestStands s') still))
+            subst (λ k. stateRefusal (s' .bank .tree) k (columnAt (s' .bank) k) ≡ 0) (sym e)
+            (ap (λ (t : Tree). stateRefusal t i (columnAt (s' .bank) i)) tree-on ∙ column-on s x s' i moves done actor (actor-on .1))
         go (inr other) =
             ap₂ (λ (t : Tree) (c : Column). stateRefusal t j c) tree-on (same-column j other)
             ∙ before .columns j (subst (λ (t : Tree). j < t .columns) tree-on h)
@@ -212,7 +211,7 @@ module _ (s : State) (x : Step) (s' : State) (i : ℕ) (moves : byNoColumn x ≡
     newest : 0 < s' .bank .count → packetStands (s' .bank) (packetAt s' (s' .bank .count - 1)) ≡ true
     newest some =
         let held : eqb (s' .bank .count) 0 ≡ false = ne-eqb (s' .bank .count) 0 (λ e. omega (arith, some, e)) in
-        sym (ap (λ (b : Bool). b || packetStands (s' .bank) (packetAt s' (s' .bank .count - 1))) held) ∙ and-right (columnStands (s' .bank) i) (newestStands s') still
+        sym (ap (λ (b : Bool). b || packetStands (s' .bank) (packetAt s' (s' .bank .count - 1))) held) ∙ still
 
     each-packet : (k : ℕ) → k < s' .bank .count → packetStands (s' .bank) (packetAt s' k) ≡ true
     each-packet k h = go (truth (ltb (k + 1) (s' .bank .count)))
@@ -233,8 +232,8 @@ module _ (s : State) (x : Step) (s' : State) (i : ℕ) (moves : byNoColumn x ≡
       receivers = λ k h. and-right (eqb (core.packetRefusal (s' .bank .tree) (packetAt s' k)) 0) _ (each-packet k h);
     })
 
-  pub stands-on : stillStands s' i ≡ eqb (bankRefusal s') 0
+  pub stands-on : newestStands s' ≡ eqb (bankRefusal s') 0
   stands-on =
-      same-truth (stillStands s' i) (eqb (bankRefusal s') 0)
+      same-truth (newestStands s') (eqb (bankRefusal s') 0)
       (λ e. eq-eqb (bankRefusal s') 0 (still-stands e))
-      (λ e. stands-still s' i (stands s' (eqb-true (bankRefusal s') 0 e)) actor-below)
+      (λ e. stands-still s' (stands s' (eqb-true (bankRefusal s') 0 e)))

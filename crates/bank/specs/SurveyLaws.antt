@@ -1,15 +1,16 @@
 -- What the two passes of a survey gather is what row 4 asks of each column and of each packet; and what who runs tells of a set. Assumes nothing.
-use Prim.Native.Nat.{ℕ, _≤_, _<_, _^_}
-use mathlib.Core.Path.{_≡_, refl, sym, ap, ap₂, _∙_}
+use Prim.Native.Nat.{ℕ, _+_, _≤_, _<_, _^_}
+use mathlib.Core.Path.{_≡_, refl, sym, ap, ap₂, subst, _∙_}
 use mathlib.Core.Logic.{_⊎_, inl, inr, ⊎-elim}
 use mathlib.Core.Bool.{Bool, true, false, not, _&&_, _||_, cond, true≢false}
+use native.Mathlib.Numerals.{add-one}
 use native.Mathlib.Omega.{arith}
 use lib.Bits.{bitOr, xor-lt, and-le-l, and-le-r, or-add-and}
 use lib.Dec.{eqb, leb, ltb}
 use lib.Pow.{pow-pos}
 use borrow.Author.Tests.{eq-eqb, ne-eqb, lt-leb, lt-ltb, ltb-true, ltb-false}
 use Rattle.column.specs.Cases.{truth, equal-cases, and-left}
-use Rattle.column.specs.Sets.{has, single, join, insert, minus, whole, within}
+use Rattle.column.specs.Sets.{has, single, join, insert, minus, whole, within, selected}
 use Rattle.column.specs.SetLaws.{has-none, has-above, has-join, has-single, has-insert, has-minus, single-lt, join-lt, insert-lt, within-lt, lt-within, within-join, member-lt, same-members, selected-lt, selected-has}
 use Rattle.column.specs.SequenceLaws.{whole-has}
 use Rattle.column.specs.Columns.{stateRefusal}
@@ -18,10 +19,11 @@ use Rattle.column.specs.TreeLaws.{every-at, every-all}
 use Rattle.column.specs.declared.tree.Tree.{Tree}
 use Rattle.column.specs.declared.state.Column.{Column}
 use Rattle.bank.specs.Words.{acknowledging, receiverIn, senderIn}
-use Rattle.bank.specs.Banks.{runs, runningOf, haltedOf}
-use Rattle.bank.specs.Standing.{endsStand, pairStands, headStands}
+use Rattle.bank.specs.Banks.{columnAt, runs, runningOf, haltedOf, columnStands}
+use Rattle.bank.specs.Standing.{endsStand, pairStands, headStands, placesOf, unseen, seeing, Saw, Passing}
 use Rattle.bank.specs.StandingLaws.{not-below}
 use Rattle.bank.specs.declared.bank.Bank.{Bank}
+use Rattle.bank.specs.declared.survey.Seen.{Seen}
 
 -- ---- who does not run
 
@@ -89,6 +91,51 @@ column-joined t i c members stand h =
     )
     (column-table (within members n) stand (within (c .send) n) (within (c .awaited) n) (within (c .owed) n) (within (c .noted) n)
     (has (c .owed) i) (eqb i (t .root)) (c .whole) (ltb (c .sender) n))
+
+-- ---- the columns, one after the other
+
+pub saw-none : (b : Bank) → Saw unseen b 0
+unfolding every selected
+saw-none b = record { stand-so = rw (lt-within 0 (b .tree .columns) (pow-pos (b .tree .columns))); running-so = refl }
+
+pub saw-more : (b : Bank) (v : Seen) (i : ℕ) → i < b .tree .columns → Saw v b i
+    → Saw (seeing v (b .tree .columns) (b .tree .root) i (columnAt b i)) b (i + 1)
+unfolding every selected
+saw-more b v i h so =
+    record {
+      stand-so =
+          rw (add-one i) (column-joined (b .tree) i (columnAt b i) (v .members) (v .stand) h ∙ ap (λ (x : Bool). x && columnStands b i) (so .stand-so));
+      running-so = rw (add-one i) (ap (λ (m : ℕ). cond (runs b i) (insert m i) m) (so .running-so));
+    }
+
+-- the pass goes over all columns of a tree, and over no place that is not there
+places-few : (n : ℕ) → (placesOf n ≤ 16) × ((placesOf n ≤ n) × (n ≤ 16 → placesOf n ≡ n))
+unfolding placesOf
+places-few n = go (ltb 16 n) refl
+  where
+    go : (b : Bool) → ltb 16 n ≡ b → (cond b 16 n ≤ 16) × ((cond b 16 n ≤ n) × (n ≤ 16 → cond b 16 n ≡ n))
+    go true e = let h = ltb-true 16 n e in (omega arith, (omega (arith, h), λ z. omega (arith, h, z)))
+    go false e = (ltb-false 16 n e, (omega arith, λ z. refl))
+
+module _ (b : Bank) {n : ℕ} (is : n ≡ placesOf (b .tree .columns)) where
+  pub passing-start : {v : Seen} → v ≡ unseen → Passing v b n 0
+  passing-start e =
+      let few = places-few (b .tree .columns) in
+      (omega arith, (omega (arith, is, few .0), (omega (arith, is, few .1 .0), subst (λ (v : Seen). Saw v b 0) (sym e) (saw-none b))))
+
+  pub passing-end : {v : Seen} {j : ℕ} → Passing v b n j → n ≤ j → b .tree .columns ≤ 16 → Saw v b (b .tree .columns)
+  passing-end {v} {j} p over six =
+      let all = places-few (b .tree .columns) .1 .1 six in
+      let end : j ≡ b .tree .columns = omega (arith, is, all, p .0, over) in
+      subst (Saw v b) end (p .1 .1 .1)
+
+pub passing-on : (b : Bank) {n j : ℕ} {v w : Seen} → Passing v b n j → j < n → w ≡ seeing v (b .tree .columns) (b .tree .root) j (columnAt b j) → Passing w b n (j + 1)
+passing-on b {n} {j} {v} p h e =
+    (omega (arith, h), (p .1 .0, (p .1 .1 .0, subst (λ (x : Seen). Saw x b (j + 1)) (sym e) (saw-more b v j (omega (arith, h, p .1 .1 .0)) (p .1 .1 .1)))))
+
+-- who runs is told by as many digits
+pub saw-lt : {v : Seen} (b : Bank) → Saw v b (b .tree .columns) → v .running < 2 ^ b .tree .columns
+saw-lt b so = rw (so .running-so) (selected-lt (runs b) (b .tree .columns) (b .tree .columns) (omega arith))
 
 -- ---- a packet
 

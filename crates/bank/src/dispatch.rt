@@ -6,27 +6,34 @@ use crate::bank::Step;
 use crate::settling::Change;
 use crate::settling::is_refusal;
 use crate::settling::settle;
-use crate::standing::still_stands;
-use crate::step::core_step;
-use crate::step::taken;
+use crate::settling::settle_taken;
+use crate::standing::newest_stands;
 use crate::survey::halted;
 use crate::survey::survey;
 use crate::turn::is_take;
 use crate::turn::ready_after;
 use crate::turn::ready_columns;
 use crate::turn::step_of;
+use crate::words::packet;
 use crate::words::receiver_in;
+use column::effect::ack_effect;
+use column::effect::all_effect;
+use column::effect::note_effect;
+use column::effect::send_effect;
+use column::effect::take_effect;
 use column::members::lowest;
+use column::outcome::Outcome;
 use column::state::Column;
 use column::tree::Tree;
 ghost use mathlib.Core.Path.{_≡_};
 ghost use Prim.Native.Nat.{_≤_, _<_};
 ghost use mathlib.Core.Bool.{true};
+ghost use Rattle.column.specs.Steps.{meant, refused};
 ghost use Rattle.bank.specs.Banks.{state, runningOf, bankRefusal};
 ghost use Rattle.bank.specs.Dispatch.{dispatch, dispatchOutcome};
 ghost use Rattle.bank.specs.Steps.{accepted};
 ghost use Rattle.bank.specs.Quick.{isTake, actingIn};
-ghost use Rattle.bank.specs.Turns.{TakesTurn};
+ghost use Rattle.bank.specs.Turns.{turnEffect, TakesTurn};
 ghost use Rattle.bank.specs.Dispatches.{Dispatches, Ended};
 
 // The bank after the steps that were taken, and how many they were.
@@ -61,6 +68,33 @@ fn ended(b: Bank, steps: usize) -> Dispatched
     }
 }
 
+// What no turn takes is refused.
+fn no_turn(c: Column) -> Outcome
+    ensures { λ r. ⌜ meant r ≡ refused 10 c ⌝ }
+{
+    Outcome {
+        column: c,
+        answer: column::outcome::Answer::Refused(10),
+    }
+}
+
+// What the turn's step x, which takes no packet, makes of column i, which is c: it is accepted, and is not tested again.
+fn effect_of(t: Tree, x: Step, i: usize, c: Column) -> Outcome
+    ensures { λ r. ⌜ meant r ≡ turnEffect t x i c ⌝ }
+{
+    match x {
+        Step::Send(_) => send_effect(t, i, c),
+        Step::Ack(_) => ack_effect(t, i, c),
+        Step::All(_) => all_effect(t, i, c),
+        Step::Note(_, j) => note_effect(t, i, c, j),
+        Step::Order(_) => no_turn(c),
+        Step::Take(_) => no_turn(c),
+        Step::Halt(_) => no_turn(c),
+        Step::Back(_) => no_turn(c),
+        Step::Write(_, _, _) => no_turn(c),
+    }
+}
+
 // What the turn's step x makes of column i, which is c, and of the network, in a bank that stands; a take asks for a packet.
 fn take_turn(
     t: Tree,
@@ -75,15 +109,17 @@ fn take_turn(
     requires { ⌜ (count ≤ 512) × (isTake x ≡ true → 0 < count) ⌝ }
     ensures { λ r. ⌜ TakesTurn r t running x i c count (now (heads .entry)) (now (doors .entry)) (now (heads .exit)) (now (doors .exit)) ⌝ }
 {
-    if !is_take(x) {
-        let o = core_step(t, running, x, i, c);
-        return settle(running, o, count, heads, doors);
+    if is_take(x) {
+        let p = packet(heads[0], doors[0]);
+        let o = take_effect(t, i, c, p);
+        return settle_taken(running, 0, o, count, heads, doors);
     }
-    taken(t, running, 0, i, c, count, heads, doors)
+    let o = effect_of(t, x, i, c);
+    settle(running, o, count, heads, doors)
 }
 
-// Steps of a bank that stands until it rests, until the limit, or until one is refused. A step changes one column and puts one packet at
-// most, so that these alone are tested for the next turn, who runs stays the same, and that column alone may become or cease to be ready.
+// Steps of a bank that stands until it rests, until the limit, or until one is refused. A step changes one column, which keeps row 4, and puts one
+// packet at most, so that this alone is tested for the next turn, who runs stays the same, and that column alone may become or cease to be ready.
 fn take_turns(
     b: Bank,
     running: u16,
@@ -114,7 +150,7 @@ fn take_turns(
         d.columns[i] = c;
         d.count = r.count;
         steps += 1;
-        if !still_stands(t, running, i, c, d.count, heads) {
+        if !newest_stands(t.columns, t.root, t.watch, running, d.count, heads) {
             return ended(d, steps);
         }
         ready = ready_after(ready, t, full, dark, i, c);

@@ -2,6 +2,7 @@
 pub mod bank;
 pub mod dispatch;
 mod network;
+mod opening;
 pub mod page;
 pub mod rest;
 mod returning;

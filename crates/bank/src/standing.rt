@@ -5,13 +5,10 @@ use crate::survey::survey;
 use crate::words::receiver_in;
 use column::members::has;
 use column::precedence::refuse_if;
-use column::state::Column;
-use column::state::state_refusal;
-use column::tree::Tree;
 ghost use mathlib.Core.Path.{_≡_};
 ghost use Prim.Native.Nat.{_≤_};
 ghost use Rattle.bank.specs.Standing.{headStands, RefusesBank, RefusesActing};
-ghost use Rattle.bank.specs.Changes.{TellsNewest, TellsStill};
+ghost use Rattle.bank.specs.Changes.{TellsNewest};
 
 // Row 4 of a packet, by its head.
 fn head_stands(columns: usize, root: usize, watch: bool, running: u16, head: u64) -> bool
@@ -38,8 +35,8 @@ pub fn acting_refusal(b: Bank, i: usize, heads: &[u64; 512]) -> u8
     refuse_if(bank_refusal(b, heads), t.columns <= i, 4)
 }
 
-// Row 4 of the newest packet, where there is one.
-fn newest_stands(
+// Row 4 of the newest packet, where there is one: all of what a step can have broken.
+pub(crate) fn newest_stands(
     columns: usize,
     root: usize,
     watch: bool,
@@ -54,22 +51,4 @@ fn newest_stands(
         return true;
     }
     head_stands(columns, root, watch, running, heads[count - 1])
-}
-
-// Row 4 of what a step of column i, which is now c, can have changed.
-pub(crate) fn still_stands(
-    t: Tree,
-    running: u16,
-    i: usize,
-    c: Column,
-    count: usize,
-    heads: &[u64; 512],
-) -> bool
-    requires { ⌜ (t .columns ≤ 16) × (count ≤ 512) ⌝ }
-    ensures { λ r. ⌜ TellsStill r t running i c count (now (heads .entry)) ⌝ }
-{
-    if state_refusal(t, i, c) != 0 {
-        return false;
-    }
-    newest_stands(t.columns, t.root, t.watch, running, count, heads)
 }

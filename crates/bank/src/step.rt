@@ -1,10 +1,12 @@
 // The steps of a bank: refused and unchanged, or the core's step on one place with its packet.
+use crate::bank::Answer;
 use crate::bank::Bank;
 use crate::bank::Result;
 use crate::bank::Step;
-use crate::bank::done;
-use crate::bank::refused;
 use crate::network::vanish;
+use crate::opening::opening;
+use crate::opening::place_in;
+use crate::opening::receiver_at;
 use crate::page::write_byte;
 use crate::returning::bring_back;
 use crate::settling::Change;
@@ -13,14 +15,15 @@ use crate::settling::settle;
 use crate::settling::settle_taken;
 use crate::strip::halt_refusal;
 use crate::strip::stop;
-use crate::survey::survey;
+use crate::survey::places;
+use crate::survey::see;
+use crate::survey::seen_refusal;
+use crate::survey::unseen;
+use crate::turn::is_take;
 use crate::words::packet;
-use crate::words::receiver_in;
 use column::members::has;
-use column::outcome::Answer;
 use column::outcome::Outcome;
 use column::precedence::earlier;
-use column::precedence::refuse_if;
 use column::refusal::note_refusal;
 use column::state::Column;
 use column::tree::Tree;
@@ -30,10 +33,11 @@ ghost use mathlib.Core.Bool.{true};
 ghost use Prim.Native.Nat.{_≤_, _<_};
 ghost use Rattle.column.specs.Steps.{meant, refused};
 ghost use Rattle.bank.specs.Banks.{state};
-ghost use Rattle.bank.specs.Changes.{isOwn, StepsCore, Takes};
+ghost use Rattle.bank.specs.Changes.{StepsCore, Takes};
+ghost use Rattle.bank.specs.Moves.{isMove, placeIn, Moving, Moves};
 ghost use Rattle.bank.specs.Pages.{write};
 ghost use Rattle.bank.specs.Performs.{perform};
-ghost use Rattle.bank.specs.Places.{acts};
+ghost use Rattle.bank.specs.Quick.{isTake};
 ghost use Rattle.bank.specs.Returns.{back};
 ghost use Rattle.bank.specs.Steps.{outcome, order, send, take, ack, all, note, halt};
 ghost use Rattle.bank.specs.declared.bank.Step.the-variants.{Note};
@@ -48,7 +52,7 @@ fn noted(t: Tree, running: u16, i: usize, c: Column, j: usize) -> Outcome
     let n = earlier(note_refusal(t, i, c, j), 6);
     Outcome {
         column: c,
-        answer: Answer::Refused(n),
+        answer: column::outcome::Answer::Refused(n),
     }
 }
 
@@ -58,7 +62,7 @@ fn no_step(c: Column) -> Outcome
 {
     Outcome {
         column: c,
-        answer: Answer::Refused(10),
+        answer: column::outcome::Answer::Refused(10),
     }
 }
 
@@ -77,31 +81,6 @@ pub(crate) fn core_step(t: Tree, running: u16, x: Step, i: usize, c: Column) -> 
         Step::Back(_) => no_step(c),
         Step::Write(_, _, _) => no_step(c),
     }
-}
-
-// The step x of column i, which takes no packet off. The bank is tested as it is lent, and one copy of it is changed.
-fn act(b: Bank, x: Step, i: usize, heads: &mut [u64; 512], doors: &mut [u64; 512]) -> Result
-    requires { ⌜ (isOwn x ≡ true) × (acts (state b (now heads) (now doors)) x i ≡ true) ⌝ }
-    ensures { λ r. ⌜ outcome r (now (heads .exit)) (now (doors .exit)) ≡ perform (state b (now (heads .entry)) (now (doors .entry))) x ⌝ }
-{
-    let v = survey(b, heads);
-    let t = b.tree;
-    let n = refuse_if(v.refusal, t.columns <= i, 4);
-    if n != 0 {
-        return refused(b, n);
-    }
-    let mut d = b;
-    let c = d.columns[i];
-    let o = core_step(t, v.running, x, i, c);
-    let r = settle(v.running, o, d.count, heads, doors);
-    let answer = r.answer;
-    if is_refusal(answer) {
-        return Result { bank: b, answer };
-    }
-    let changed = r.column;
-    d.columns[i] = changed;
-    d.count = r.count;
-    Result { bank: d, answer }
 }
 
 // The packet at a place goes to column i, which is c and its receiver.
@@ -123,26 +102,55 @@ pub(crate) fn taken(
     settle_taken(running, place, o, count, heads, doors)
 }
 
-// The packet at a place goes to its receiver.
-fn take_packet(b: Bank, place: usize, heads: &mut [u64; 512], doors: &mut [u64; 512]) -> Result
-    ensures { λ r. ⌜ outcome r (now (heads .exit)) (now (doors .exit)) ≡ take (state b (now (heads .entry)) (now (doors .entry))) place ⌝ }
+// What the step x makes of column i, which is c, and of the network, in a bank that stands.
+fn change(
+    t: Tree,
+    running: u16,
+    x: Step,
+    i: usize,
+    c: Column,
+    count: usize,
+    heads: &mut [u64; 512],
+    doors: &mut [u64; 512],
+) -> Change
+    requires { ⌜ (isMove x ≡ true) × ((count ≤ 512) × (isTake x ≡ true → placeIn x < count)) ⌝ }
+    ensures { λ r. ⌜ Moves r t running x i c count (now (heads .entry)) (now (doors .entry)) (now (heads .exit)) (now (doors .exit)) ⌝ }
 {
-    let v = survey(b, heads);
-    let n = refuse_if(v.refusal, b.count <= place, 10);
-    if n != 0 {
-        return refused(b, n);
+    if is_take(x) {
+        let place = place_in(x);
+        return taken(t, running, place, i, c, count, heads, doors);
     }
+    let o = core_step(t, running, x, i, c);
+    settle(running, o, count, heads, doors)
+}
+
+// The step x of column i. The bank is copied twice, in and out: from its first line on only the copy is read, and there is one result.
+fn act(b: Bank, x: Step, i: usize, heads: &mut [u64; 512], doors: &mut [u64; 512]) -> Result
+    requires { ⌜ Moving (state b (now heads) (now doors)) x i ⌝ }
+    ensures { λ r. ⌜ outcome r (now (heads .exit)) (now (doors .exit)) ≡ perform (state b (now (heads .entry)) (now (doors .entry))) x ⌝ }
+{
     let mut d = b;
-    let i = receiver_in(heads[place]);
-    let c = d.columns[i];
-    let r = taken(d.tree, v.running, place, i, c, d.count, heads, doors);
-    let answer = r.answer;
-    if is_refusal(answer) {
-        return Result { bank: b, answer };
+    let t = d.tree;
+    let seen_places = places(t.columns);
+    let mut v = unseen();
+    let mut j: usize = 0;
+    while j < seen_places {
+        let c = d.columns[j];
+        v = see(v, t.columns, t.root, j, c);
+        j += 1;
     }
-    let changed = r.column;
-    d.columns[i] = changed;
-    d.count = r.count;
+    let tested = seen_refusal(t, v, d.count, heads);
+    let n = opening(tested, t.columns, x, i, d.count);
+    let mut answer = Answer::Refused(n);
+    if n == 0 {
+        let r = change(t, v.running, x, i, d.columns[i], d.count, heads, doors);
+        answer = r.answer;
+        if !is_refusal(answer) {
+            let changed = r.column;
+            d.columns[i] = changed;
+            d.count = r.count;
+        }
+    }
     Result { bank: d, answer }
 }
 
@@ -150,15 +158,25 @@ fn take_packet(b: Bank, place: usize, heads: &mut [u64; 512], doors: &mut [u64; 
 fn halt_columns(b: Bank, m: u32, heads: &mut [u64; 512], doors: &mut [u64; 512]) -> Result
     ensures { λ r. ⌜ outcome r (now (heads .exit)) (now (doors .exit)) ≡ halt (state b (now (heads .entry)) (now (doors .entry))) m ⌝ }
 {
-    let v = survey(b, heads);
-    let t = b.tree;
-    let n = halt_refusal(v.refusal, t.columns, v.running, m);
-    if n != 0 {
-        return refused(b, n);
-    }
     let mut d = b;
-    d.count = vanish(m, d.count, heads, doors);
-    done(stop(d, m))
+    let t = d.tree;
+    let seen_places = places(t.columns);
+    let mut v = unseen();
+    let mut j: usize = 0;
+    while j < seen_places {
+        let c = d.columns[j];
+        v = see(v, t.columns, t.root, j, c);
+        j += 1;
+    }
+    let tested = seen_refusal(t, v, d.count, heads);
+    let n = halt_refusal(tested, t.columns, v.running, m);
+    let mut answer = Answer::Refused(n);
+    if n == 0 {
+        d.count = vanish(m, d.count, heads, doors);
+        d = stop(d, m);
+        answer = Answer::Done;
+    }
+    Result { bank: d, answer }
 }
 
 // The bank after any of the nine steps.
@@ -169,7 +187,7 @@ pub fn perform(b: Bank, x: Step, heads: &mut [u64; 512], doors: &mut [u64; 512])
     match x {
         Step::Order(_) => act(b, x, t.root, heads, doors),
         Step::Send(i) => act(b, x, i, heads, doors),
-        Step::Take(place) => take_packet(b, place, heads, doors),
+        Step::Take(place) => act(b, x, receiver_at(place, heads), heads, doors),
         Step::Ack(i) => act(b, x, i, heads, doors),
         Step::All(i) => act(b, x, i, heads, doors),
         Step::Note(i, _) => act(b, x, i, heads, doors),
@@ -198,7 +216,8 @@ pub fn send(b: Bank, i: usize, heads: &mut [u64; 512], doors: &mut [u64; 512]) -
 pub fn take(b: Bank, place: usize, heads: &mut [u64; 512], doors: &mut [u64; 512]) -> Result
     ensures { λ r. ⌜ outcome r (now (heads .exit)) (now (doors .exit)) ≡ take (state b (now (heads .entry)) (now (doors .entry))) place ⌝ }
 {
-    take_packet(b, place, heads, doors)
+    let i = receiver_at(place, heads);
+    act(b, Step::Take(place), i, heads, doors)
 }
 
 // The bank after column i acknowledged its record to the lowest owed.

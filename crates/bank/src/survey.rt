@@ -6,45 +6,57 @@ use crate::words::ACKNOWLEDGING;
 use crate::words::receiver_in;
 use crate::words::sender_in;
 use column::members::within;
+use column::state::Column;
 use column::topology::tree_refusal;
+use column::tree::Tree;
 ghost use mathlib.Core.Path.{_≡_};
 ghost use Prim.Native.Nat.{ℕ, _^_, _≤_, _<_};
 ghost use lib.ListN.{getD};
 ghost use Rattle.column.specs.Sets.{minus, whole};
 ghost use Rattle.column.specs.Trees.{every};
-ghost use Rattle.bank.specs.Banks.{columnsStand, runningOf};
-ghost use Rattle.bank.specs.Standing.{endsStand, pairStands, headStands, Surveys};
+ghost use Rattle.bank.specs.Standing.{endsStand, pairStands, headStands, placesOf, unseen, seeing, RefusesSeen, Surveys};
 
-// What the pass over the columns tells: whether all of them stand by row 4, and who runs.
-struct Columns {
-    stand: bool,
-    running: u16,
+// What a pass over the columns has gathered: the members of all sets, whether each column stands but for these, and who runs.
+pub(crate) struct Seen {
+    pub members: u16,
+    pub stand: bool,
+    pub running: u16,
 }
 
-// The members of all sets are joined, and compared with the columns once.
-fn survey_columns(b: Bank) -> Columns
-    requires { ⌜ b .tree .columns ≤ 16 ⌝ }
-    ensures { λ r. ⌜ (r .stand ≡ columnsStand b) × (r .running ≡ runningOf b) ⌝ }
+pub(crate) fn unseen() -> Seen
+    ensures { λ r. ⌜ r ≡ unseen ⌝ }
 {
-    let t = b.tree;
-    let n = t.columns;
-    let root = t.root;
-    let mut members: u16 = 0;
-    let mut stand = true;
-    let mut running: u16 = 0;
-    let mut i: usize = 0;
-    while i < n {
-        let c = b.columns[i];
-        let sender = c.sender;
-        members = members | (c.send | c.awaited | c.owed | c.noted);
-        stand = stand & (!((c.owed >> i) % 2 == 1) & (((i != root) | c.whole) & (sender < n)));
-        if c.running {
-            running = running | (1u16 << i);
-        }
-        i += 1;
+    Seen {
+        members: 0,
+        stand: true,
+        running: 0,
     }
-    Columns {
-        stand: within(members, n) & stand,
+}
+
+// The pass goes over so many places: the tree is tested after it.
+pub(crate) fn places(columns: usize) -> usize
+    ensures { λ r. ⌜ r ≡ placesOf columns ⌝ }
+{
+    if 16 < columns {
+        return 16;
+    }
+    columns
+}
+
+// Column i, which is c, is seen too. The members of all sets are joined, to be compared with the columns once.
+pub(crate) fn see(v: Seen, columns: usize, root: usize, i: usize, c: Column) -> Seen
+    requires { ⌜ i < 16 ⌝ }
+    ensures { λ r. ⌜ r ≡ seeing v columns root i c ⌝ }
+{
+    let sender = c.sender;
+    let mut running = v.running;
+    if c.running {
+        running = running | (1u16 << i);
+    }
+    Seen {
+        members: v.members | (c.send | c.awaited | c.owed | c.noted),
+        stand: v.stand
+            & (!((c.owed >> i) % 2 == 1) & (((i != root) | c.whole) & (sender < columns))),
         running,
     }
 }
@@ -131,37 +143,43 @@ pub struct Surveyed {
     pub running: u16,
 }
 
-fn broken(n: u8) -> Surveyed
-    ensures { λ r. ⌜ r .refusal ≡ n ⌝ }
+// By which of 2, 3 and 4 a bank is refused whose columns are seen, else 0. The doors that packets carry are not looked at.
+pub(crate) fn seen_refusal(t: Tree, v: Seen, count: usize, heads: &[u64; 512]) -> u8
+    requires { ⌜ (t .columns ≤ 16 → v .running < 2 ^ t .columns) ⌝ }
+    ensures { λ r. ⌜ RefusesSeen r t v count (now (heads .entry)) ⌝ }
 {
-    Surveyed {
-        refusal: n,
-        running: 0,
+    let n = tree_refusal(t);
+    if n != 0 {
+        return n;
     }
+    if !(within(v.members, t.columns) & v.stand) {
+        return 4;
+    }
+    if CAPACITY < count {
+        return 4;
+    }
+    if !heads_stand(t.columns, t.root, t.watch, v.running, count, heads) {
+        return 4;
+    }
+    0
 }
 
-// The doors that packets carry are not looked at.
+// What a step needs to know of a bank. Steps that go on to change it have a pass of their own: the bank is by value, and each call would copy it.
 pub fn survey(b: Bank, heads: &[u64; 512]) -> Surveyed
     ensures { λ r. ⌜ Surveys r b (now (heads .entry)) ⌝ }
 {
     let t = b.tree;
-    let n = tree_refusal(t);
-    if n != 0 {
-        return broken(n);
+    let n = places(t.columns);
+    let mut v = unseen();
+    let mut j: usize = 0;
+    while j < n {
+        let c = b.columns[j];
+        v = see(v, t.columns, t.root, j, c);
+        j += 1;
     }
-    let v = survey_columns(b);
-    if !v.stand {
-        return broken(4);
-    }
-    if CAPACITY < b.count {
-        return broken(4);
-    }
-    let running = v.running;
-    if !heads_stand(t.columns, t.root, t.watch, running, b.count, heads) {
-        return broken(4);
-    }
+    let refusal = seen_refusal(t, v, b.count, heads);
     Surveyed {
-        refusal: 0,
-        running,
+        refusal,
+        running: v.running,
     }
 }

@@ -40,4 +40,5 @@ pub mod StateLaws
 pub mod Unchecked
 pub mod UncheckedLaws
 pub mod UncheckedExamples
+pub mod KeptLaws
 pub mod StepExamples

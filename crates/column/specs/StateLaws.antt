@@ -5,14 +5,17 @@ use mathlib.Core.Path.{_≡_, sym, ap, _∙_}
 use mathlib.Core.Bool.{true, false, not, _&&_, true≢false}
 use mathlib.Core.Logic.{_⊎_, inl, inr}
 use native.Mathlib.Omega.{arith}
+use native.Mathlib.Nat.{lt-of-lt-of-le}
 use lib.Dec.{eqb}
+use lib.Pow.{pow-mono}
 use borrow.Author.Tests.{eq-eqb, ne-eqb, eqb-true, eqb-false, leb-false, lt-leb, le-leb, not-false}
 use Rattle.column.specs.Cases.{truth, and-none, none-and}
 use Rattle.column.specs.RefusalLaws.{passed, passes, earlier-none}
-use Rattle.column.specs.Sets.{has, within}
+use Rattle.column.specs.Sets.{has, lowest, within}
 use Rattle.column.specs.SetLaws.{within-lt, lt-within, member-lt, members-lt}
 use Rattle.column.specs.Trees.{treeRefusal, choose}
 use Rattle.column.specs.TreeLaws.{tree-sixteen}
+use Rattle.column.specs.LowestLaws.{lowest-lt}
 use Rattle.column.specs.ChoiceLaws.{choose-lt}
 use Rattle.column.specs.Packets.{isMessage, sender, receiver}
 use Rattle.column.specs.Columns.{stateConditions, stateRefusal, standing}
@@ -180,3 +183,13 @@ module _ (t : Tree) (i : ℕ) (c : Column) (good : standing t i c ≡ 0) where
   -- the one that a send serves
   pub standing-choice : 0 < c .send → choose t (c .send) < 16
   standing-choice some = omega (arith, standing-sixteen, choose-lt t standing-tree (c .send) standing-send some)
+
+  pub standing-owed : c .owed < 2 ^ t .columns
+  unfolding stateRefusal
+  standing-owed =
+      let p = passed (stateConditions t i c) tt (earlier-none (treeRefusal t) (stateRefusal t i c) good .1) in
+      within-lt (c .owed) (t .columns) (not-false (within (c .owed) (t .columns)) (p .1 .1 .1 .0))
+
+  -- the one that an acknowledgement is for
+  pub standing-lowest : 0 < c .owed → lowest (c .owed) < 16
+  standing-lowest some = lowest-lt 16 (c .owed) (lt-of-lt-of-le standing-owed (pow-mono standing-sixteen)) some

@@ -1,4 +1,5 @@
--- What the steps of `unchecked_for_bank` answer to states that rows 2 to 4 refuse, beside what the steps answer: two of them are accepted. Assumes nothing.
+-- What the steps of `unchecked_for_bank` answer to states that rows 2 to 4 refuse, beside what the steps answer: two of them are accepted. And what an effect
+-- answers to one that the step's own conditions refuse. Assumes nothing.
 use Prim.Native.Nat.{ℕ}
 use mathlib.Core.Path.{_≡_, refl}
 use mathlib.Core.Bool.{Bool, true, false}
@@ -9,7 +10,7 @@ use Rattle.column.specs.Sets.{selected}
 use Rattle.column.specs.Trees.{treeOf, every, climbsIn, treeRefusal}
 use Rattle.column.specs.Columns.{stateRefusal}
 use Rattle.column.specs.Steps.{Result, accepted, refused, ack, send, sendRefusal, ackRefusal, sendEffect, ackEffect}
-use Rattle.column.specs.Unchecked.{sendUnchecked, ackUnchecked}
+use Rattle.column.specs.Unchecked.{boundedAck, sendUnchecked, ackUnchecked}
 use Rattle.column.specs.declared.tree.Tree.{Tree}
 use Rattle.column.specs.declared.state.Column.{Column}
 use Rattle.column.specs.declared.packet.Packet.the-variants.{Message, Acknowledgement}
@@ -42,3 +43,12 @@ circle-three = refl
 pub circle-unchecked : sendUnchecked circle 1 (column 4 0) ≡ accepted (record { running = true; number = 4; doors = 9; send = 0; awaited = 4; owed = 0; noted = 0; whole = false; sender = 0; mask = 0; pending = 0 }) (Message 1 2 4 9 ∷ []) false
 unfolding sendEffect
 circle-unchecked = refl
+
+-- an ack while the column sends, and its goal is its own subtree, is 6; by `effect::ack_effect` it is accepted
+pub owing-while-sending : ack three 1 (column 4 1) ≡ refused 6 (column 4 1)
+unfolding ackRefusal stateRefusal treeRefusal every climbsIn
+owing-while-sending = refl
+
+pub owing-while-sending-effect : boundedAck three 1 (column 4 1) ≡ accepted (column 4 0) (Acknowledgement 1 0 4 ∷ []) false
+unfolding ackEffect trailingZeros
+owing-while-sending-effect = refl

@@ -1,9 +1,13 @@
-// What each step does where nothing refuses it.
+// What each step does once it is accepted. The bank's, whose dispatcher chooses a step that is accepted and tests it no second time, and no buyer's: neither rows
+// 2 to 4 nor the step's own conditions are tested, but for what keeps a number inside a mask. Handed in what those refuse, a step may accept it; it still
+// answers, and reaches outside nothing.
+use crate::choice::choose;
 use crate::members::has;
 use crate::members::lowest;
 use crate::outcome::Answer;
 use crate::outcome::Outcome;
 use crate::outcome::done;
+use crate::outcome::refused;
 use crate::packet::Number;
 use crate::packet::Packet;
 use crate::packet::sender;
@@ -20,11 +24,17 @@ ghost use mathlib.Core.Bool.{false};
 ghost use mathlib.Core.Path.{_≡_};
 ghost use mathlib.Core.List.{[], _∷_};
 ghost use Prim.Native.Nat.{_<_, _≤_};
-ghost use Rattle.column.specs.Packets.{sender};
 ghost use Rattle.column.specs.declared.packet.Packet.the-variants.{Acknowledgement};
-ghost use Rattle.column.specs.Trees.{choose};
 ghost use Rattle.column.specs.Columns.{highest};
-ghost use Rattle.column.specs.Steps.{meant, accepted, orderEffect, sendEffect, acknowledgementEffect, acknowledgeLowest, messageEffect, takeEffect, ackEffect, allEffect, noteEffect, haltEffect};
+ghost use Rattle.column.specs.Steps.{meant, accepted, orderEffect, acknowledgementEffect, acknowledgeLowest, messageEffect, haltEffect};
+ghost use Rattle.column.specs.Unchecked.{bounded, boundedSend, boundedTake, boundedAck, boundedAll, boundedNote};
+
+// Whether the tree has no more than sixteen columns, and both are one of sixteen.
+pub(crate) fn bounded(t: Tree, i: usize, k: usize) -> bool
+    ensures { λ r. ⌜ r ≡ bounded t i k ⌝ }
+{
+    (t.columns <= 16) & ((i < 16) & (k < 16))
+}
 
 fn putting(c: Column, p: Packet) -> Outcome
     ensures { λ r. ⌜ meant r ≡ accepted c (p ∷ []) false ⌝ }
@@ -45,7 +55,7 @@ fn acknowledgement(i: usize, k: usize, number: Number) -> Packet
 }
 
 // The root holds the order under the next number, and is to send it to its children.
-pub fn order_effect(t: Tree, i: usize, mut c: Column, doors: u64) -> Outcome
+pub(crate) fn order_effect(t: Tree, i: usize, mut c: Column, doors: u64) -> Outcome
     requires { ⌜ (t .columns ≤ 16) × ((i < 16) × (c .number < highest)) ⌝ }
     ensures { λ r. ⌜ meant r ≡ orderEffect t i c doors ⌝ }
 {
@@ -56,12 +66,15 @@ pub fn order_effect(t: Tree, i: usize, mut c: Column, doors: u64) -> Outcome
     done(c)
 }
 
-// The earliest that the column is to send to, which is k, is served: passed over where it is the column itself, its children to be sent to where it is
-// noted, else sent a message and awaited.
-pub fn send_effect(t: Tree, i: usize, mut c: Column, k: usize) -> Outcome
-    requires { ⌜ (t .columns ≤ 16) × ((i < 16) × ((k < 16) × (k ≡ choose t (c .send)))) ⌝ }
-    ensures { λ r. ⌜ meant r ≡ sendEffect t i c ⌝ }
+// The earliest that the column is to send to is served: passed over where it is the column itself, its children to be sent to where it is noted, else sent a
+// message and awaited.
+pub fn send_effect(t: Tree, i: usize, mut c: Column) -> Outcome
+    ensures { λ r. ⌜ meant r ≡ boundedSend t i c ⌝ }
 {
+    let k = choose(t, c.send);
+    if !bounded(t, i, k) {
+        return refused(c, 4);
+    }
     c.send = without(c.send, k);
     if k == i {
         return done(c);
@@ -144,10 +157,12 @@ fn message_effect(
 
 // What a packet makes of the column that it is for.
 pub fn take_effect(t: Tree, i: usize, c: Column, p: Packet) -> Outcome
-    requires { ⌜ (t .columns ≤ 16) × ((i < 16) × (sender p < 16)) ⌝ }
-    ensures { λ r. ⌜ meant r ≡ takeEffect t i c p ⌝ }
+    ensures { λ r. ⌜ meant r ≡ boundedTake t i c p ⌝ }
 {
     let from = sender(p);
+    if !bounded(t, i, from) {
+        return refused(c, 4);
+    }
     match p {
         Packet::Message { number, doors, .. } => message_effect(t, i, c, from, number, doors),
         Packet::Acknowledgement { number, .. } => acknowledgement_effect(c, from, number),
@@ -155,18 +170,22 @@ pub fn take_effect(t: Tree, i: usize, c: Column, p: Packet) -> Outcome
 }
 
 // The lowest owed is sent its acknowledgement, and owed no longer.
-pub fn ack_effect(i: usize, c: Column) -> Outcome
-    requires { ⌜ (i < 16) × (0 < c .owed) ⌝ }
-    ensures { λ r. ⌜ meant r ≡ ackEffect i c ⌝ }
+pub fn ack_effect(t: Tree, i: usize, c: Column) -> Outcome
+    ensures { λ r. ⌜ meant r ≡ boundedAck t i c ⌝ }
 {
+    if !bounded(t, i, lowest(c.owed)) {
+        return refused(c, 4);
+    }
     acknowledge_lowest(i, c, false)
 }
 
 // The column takes over: it is to send to the root, and its goal is the whole bank.
-pub fn all_effect(t: Tree, mut c: Column) -> Outcome
-    requires { ⌜ t .root < 16 ⌝ }
-    ensures { λ r. ⌜ meant r ≡ allEffect t c ⌝ }
+pub fn all_effect(t: Tree, i: usize, mut c: Column) -> Outcome
+    ensures { λ r. ⌜ meant r ≡ boundedAll t i c ⌝ }
 {
+    if !bounded(t, i, t.root) {
+        return refused(c, 4);
+    }
     c.send = single(t.root);
     c.whole = true;
     c.pending |= TOOK_OVER;
@@ -174,10 +193,12 @@ pub fn all_effect(t: Tree, mut c: Column) -> Outcome
 }
 
 // Column j is noted; where it was awaited, its children are to be sent to in its place.
-pub fn note_effect(t: Tree, mut c: Column, j: usize) -> Outcome
-    requires { ⌜ (t .columns ≤ 16) × (j < 16) ⌝ }
-    ensures { λ r. ⌜ meant r ≡ noteEffect t c j ⌝ }
+pub fn note_effect(t: Tree, i: usize, mut c: Column, j: usize) -> Outcome
+    ensures { λ r. ⌜ meant r ≡ boundedNote t i c j ⌝ }
 {
+    if !bounded(t, i, j) {
+        return refused(c, 4);
+    }
     c.noted = insert(c.noted, j);
     c.pending |= HALT_NOTED;
     if has(c.awaited, j) {

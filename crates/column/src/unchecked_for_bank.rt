@@ -1,9 +1,9 @@
 // The steps for the bank, which has tested the tree, its columns and its packets by rows 2 to 4: nothing of that is tested again. No buyer's: left untested are
 // whether `t` is a tree, whether i and the members of its sets are columns, whether it owes itself, the root's goal, and of a packet its ends, its addressee and
 // whether it is a message to the root. Handed in what those rows refuse, a step may accept it; it still answers, and reaches outside nothing.
-use crate::choice::choose;
 use crate::effect::ack_effect;
 use crate::effect::all_effect;
+use crate::effect::bounded;
 use crate::effect::note_effect;
 use crate::effect::order_effect;
 use crate::effect::send_effect;
@@ -11,7 +11,6 @@ use crate::effect::take_effect;
 use crate::outcome::Outcome;
 use crate::outcome::refused;
 use crate::packet::Packet;
-use crate::packet::sender;
 use crate::precedence::refuse_if;
 use crate::refusal::ack_conditions;
 use crate::refusal::all_conditions;
@@ -23,13 +22,7 @@ use crate::state::Column;
 use crate::tree::Tree;
 ghost use mathlib.Core.Path.{_≡_};
 ghost use Rattle.column.specs.Steps.{meant};
-ghost use Rattle.column.specs.Unchecked.{bounded, orderUnchecked, sendUnchecked, takeUnchecked, ackUnchecked, allUnchecked, noteUnchecked};
-
-fn bounded(t: Tree, i: usize, k: usize) -> bool
-    ensures { λ r. ⌜ r ≡ bounded t i k ⌝ }
-{
-    (t.columns <= 16) & ((i < 16) & (k < 16))
-}
+ghost use Rattle.column.specs.Unchecked.{orderUnchecked, sendUnchecked, takeUnchecked, ackUnchecked, allUnchecked, noteUnchecked};
 
 // The root with the next number, these doors, and its children to send to.
 pub fn order(t: Tree, i: usize, c: Column, doors: u64) -> Outcome
@@ -50,18 +43,14 @@ pub fn send(t: Tree, i: usize, c: Column) -> Outcome
     if n != 0 {
         return refused(c, n);
     }
-    let k = choose(t, c.send);
-    if !bounded(t, i, k) {
-        return refused(c, 4);
-    }
-    send_effect(t, i, c, k)
+    send_effect(t, i, c)
 }
 
 // Column i after a packet, what it answers at once, and whether the packet is left for another take.
 pub fn take(t: Tree, i: usize, c: Column, p: Packet) -> Outcome
     ensures { λ r. ⌜ meant r ≡ takeUnchecked t i c p ⌝ }
 {
-    let n = refuse_if(take_conditions(0, t, i, c, p), !bounded(t, i, sender(p)), 4);
+    let n = take_conditions(0, t, i, c, p);
     if n != 0 {
         return refused(c, n);
     }
@@ -72,31 +61,31 @@ pub fn take(t: Tree, i: usize, c: Column, p: Packet) -> Outcome
 pub fn ack(t: Tree, i: usize, c: Column) -> Outcome
     ensures { λ r. ⌜ meant r ≡ ackUnchecked t i c ⌝ }
 {
-    let n = refuse_if(ack_conditions(0, t, i, c), !bounded(t, i, i), 4);
+    let n = ack_conditions(0, t, i, c);
     if n != 0 {
         return refused(c, n);
     }
-    ack_effect(i, c)
+    ack_effect(t, i, c)
 }
 
 // Column i with the whole bank as its goal, and the root alone to send to.
 pub fn all(t: Tree, i: usize, c: Column) -> Outcome
     ensures { λ r. ⌜ meant r ≡ allUnchecked t i c ⌝ }
 {
-    let n = refuse_if(all_conditions(0, t, i, c), !bounded(t, i, t.root), 4);
+    let n = all_conditions(0, t, i, c);
     if n != 0 {
         return refused(c, n);
     }
-    all_effect(t, c)
+    all_effect(t, i, c)
 }
 
 // Column i with j noted; where j was awaited, its children are to be sent to instead.
 pub fn note(t: Tree, i: usize, c: Column, j: usize) -> Outcome
     ensures { λ r. ⌜ meant r ≡ noteUnchecked t i c j ⌝ }
 {
-    let n = refuse_if(note_conditions(0, t, i, c, j), !bounded(t, i, j), 4);
+    let n = note_conditions(0, t, i, c, j);
     if n != 0 {
         return refused(c, n);
     }
-    note_effect(t, c, j)
+    note_effect(t, i, c, j)
 }

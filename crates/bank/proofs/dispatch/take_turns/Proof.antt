@@ -15,7 +15,7 @@ use Rattle.bank.specs.SurveyLaws.{others-halted}
 use Rattle.bank.specs.Banks.{State, state, haltedOf, bankRefusal}
 use Rattle.bank.specs.Performs.{perform}
 use Rattle.bank.specs.Changes.{stored, changed, Lit}
-use Rattle.bank.specs.ChangeLaws.{changed-refused, changed-done, lit-running, stored-at, lit-on, halted-on}
+use Rattle.bank.specs.ChangeLaws.{changed-refused, changed-done, lit-running, lit-on, halted-on}
 use Rattle.bank.specs.Quick.{isTake, readyOf, quickTurn}
 use Rattle.bank.specs.ReadyTurn.{ready-some, ready-turn}
 use Rattle.bank.specs.ReadyLaws.{ready-kept}
@@ -172,28 +172,23 @@ add-steps c =
     let s = at (chosen (c .before .before .before)) .before .before .before .before in
     search (needs, turned (c .before) .on .within, s .fits .limit)
 
-still-stands-requires : tie.Need-still-stands-requires Inv-loop μ-loop
-still-stands-requires c κs =
+newest-stands-requires : tie.Need-newest-stands-requires Inv-loop μ-loop
+newest-stands-requires c κs =
     let q = c .before .before in
     let w = turned q .within in
     (subst (λ (t : Tree). t .columns ≤ 16) (at (chosen (q .before .before)) .loop .inv .1 .1 .0) (w .0), w .1)
 
 -- whether the bank stands, as it is tested
-tested : (c : tie.After-still-stands Inv-loop μ-loop)
+tested : (c : tie.After-newest-stands Inv-loop μ-loop)
     → let p = c .before .before .before .before .before in
-    c .still-stands .result ≡ eqb (bankRefusal (after p)) 0
+    c .newest-stands .result ≡ eqb (bankRefusal (after p)) 0
 tested c =
     let q = c .before .before .before in
     let p = q .before .before in
     let inv = at (chosen p) .loop .inv .1 .1 in
     let w = turned q in
-    c .still-stands .ensures (after p .bank) (after p .doors)
-    (record {
-      tree-is = inv .0;
-      lit = lit-on (before (chosen p) .bank) (after p .bank) refl (w .same) _ (inv .1 .0);
-      column-is = stored-at (before (chosen p) .bank) (actor p) (p .take-turn .result) (w .actor .1);
-      count-is = refl;
-    })
+    c .newest-stands .ensures (after p .bank) (after p .doors) (ap (λ (t : Tree). t .columns) (inv .0)) (ap (λ (t : Tree). t .root) (inv .0)) (ap (λ (t : Tree). t .watch) (inv .0))
+    (lit-on (before (chosen p) .bank) (after p .bank) refl (w .same) _ (inv .1 .0)) refl
     ∙ w .test
 
 ended-requires-2 : tie.Need-ended-requires-2 Inv-loop μ-loop
@@ -287,7 +282,7 @@ take-turns-spec =
     mul-c
     element-set-from-c
     add-steps
-    still-stands-requires
+    newest-stands-requires
     ended-requires-2
     returns-2
     ready-after-requires

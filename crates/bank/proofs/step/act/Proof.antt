@@ -1,125 +1,174 @@
 use borrow.Author.Needs.{needs}
-use mathlib.Core.Path.{_≡_, refl, sym, _∙_}
-use mathlib.Core.List.{[], _∷_}
+use borrow.Author.Tests.{not-true, not-false}
+use mathlib.Core.Path.{_≡_, refl, sym, ap, _∙_}
 use native.Mathlib.Omega.{arith}
-use Prim.Native.Nat.{_<_}
-use lib.Dec.{leb}
-use Rattle.column.specs.Refusals.{first}
-use Rattle.column.specs.RefusalLaws.{earlier-none}
+use Prim.Native.Nat.{ℕ, _<_, _≤_, _-_}
 use Rattle.column.specs.TreeLaws.{tree-sixteen}
-use Rattle.bank.specs.Banks.{State, state, bankRefusal, actingRefusal}
-use Rattle.bank.specs.StandingLaws.{Stands, acting}
-use Rattle.bank.specs.Changes.{Lit, changed}
-use Rattle.bank.specs.ChangeLaws.{stands-at, own-done, own-refused, lit-running, changed-refused, changed-done}
+use Rattle.bank.specs.Banks.{State, state}
+use Rattle.bank.specs.Standing.{Passing, Saw}
+use Rattle.bank.specs.StandingLaws.{stands-passes}
+use Rattle.bank.specs.SurveyLaws.{passing-start, passing-on, passing-end, saw-lt}
+use Rattle.bank.specs.Changes.{changed}
+use Rattle.bank.specs.ChangeLaws.{lit-running, changed-refused, changed-done}
+use Rattle.bank.specs.Moves.{openingRefusal, opening, Opened, opened, opening-refused}
 use Rattle.bank.specs.Performs.{perform}
+use Rattle.bank.specs.declared.bank.Answer.the-variants.{Refused}
 use Rattle.bank.proofs.step.act.Statement.{statement}
 use Rattle.bank.proofs.step.act.Tie as tie
 
-abbrev given : tie.Start → State
-given c = let a = c .args in state (a .b) (a .heads .now) (a .doors .now)
+abbrev Inv-loop : tie.InvT-loop
+Inv-loop x i heads doors d t seen-places v₀ j₀ v j = Passing v d seen-places j
 
-refusal : (c : tie.After-refuse-if) → let s = c .before .before .before .before .before in c .refuse-if .result ≡ actingRefusal (given s) (s .args .i)
+abbrev μ-loop : tie.MeasureT-loop
+μ-loop x i heads doors d t seen-places v₀ j₀ v j = seen-places - j
+
+places-requires : tie.Need-places-requires Inv-loop μ-loop
+places-requires c κs = search needs
+
+unseen-requires : tie.Need-unseen-requires Inv-loop μ-loop
+unseen-requires c κs = search needs
+
+loop-holds : tie.Need-loop-holds Inv-loop μ-loop
+loop-holds c = passing-start (c .before .before .before .args .b) (c .before .places .ensures) (c .unseen .ensures)
+
+mul-c : tie.Need-mul-c Inv-loop μ-loop
+mul-c c = search needs
+
+element-copy-out-c : tie.Need-element-copy-out-c Inv-loop μ-loop
+element-copy-out-c c = search needs
+
+see-requires : tie.Need-see-requires Inv-loop μ-loop
+see-requires c κs = search needs
+
+add-j : tie.Need-add-j Inv-loop μ-loop
+add-j c = search needs
+
+loop-less : tie.Need-loop-less Inv-loop μ-loop
+loop-less c = search needs
+
+loop-again : tie.Need-loop-again Inv-loop μ-loop
+loop-again c =
+    let l = c .before .before .before in
+    passing-on (l .before .before .before .before .args .b) (l .loop .inv) (omega arith) (c .see .ensures)
+
+-- all columns are seen
+sees : (c : tie.After-loop Inv-loop μ-loop) → let l = c .before in
+    let b = l .before .before .before .before .args .b in
+    b .tree .columns ≤ 16 → Saw (l .loop .v) b (b .tree .columns)
+sees c six =
+    let l = c .before in
+    let p = l .before .before in
+    let over : p .places .result ≤ l .loop .j = omega arith in
+    passing-end (p .before .before .args .b) (p .places .ensures) (l .loop .inv) over six
+
+seen-refusal-requires : tie.Need-seen-refusal-requires Inv-loop μ-loop
+seen-refusal-requires c κs six = saw-lt (c .before .before .before .before .before .before .args .b) (sees (c .before) six)
+
+opening-requires : tie.Need-opening-requires Inv-loop μ-loop
+opening-requires c κs = search needs
+
+abbrev start : tie.After-opening Inv-loop μ-loop → tie.Start Inv-loop μ-loop
+start c = c .before .before .before .before .before .before .before .before
+
+abbrev given : tie.After-opening Inv-loop μ-loop → State
+given c = let a = start c .args in state (a .b) (a .heads .now) (a .doors .now)
+
+refusal : (c : tie.After-opening Inv-loop μ-loop) → let a = start c .args in c .opening .result ≡ opening (given c) (a .x) (a .i)
 refusal c =
-    let v = c .before .before .before in
-    rw (c .refuse-if .ensures, v .survey .ensures .refuses (v .before .before .args .doors .now))
-
-abbrev start : tie.Else1 → tie.Start
-start c = c .before .before .before .before .before .before
-
-passes : (c : tie.Else1) → actingRefusal (given (start c)) (start c .args .i) ≡ 0
-passes c = sym (refusal (c .before)) ∙ c .if1 .left
-
-stood : (c : tie.Else1) → Stands (given (start c)) × (start c .args .i < start c .args .b .tree .columns)
-stood c = acting (given (start c)) (start c .args .i) (passes c)
-
-small : (c : tie.Else1) → start c .args .i < 16
-small c = let e = stood c in omega (arith, e .1, tree-sixteen _ (e .0 .tree))
-
-lit : (c : tie.Else1) → Lit (c .before .before .before .before .survey .result .running) (start c .args .b)
-lit c =
-    let v = c .before .before .before .before in
+    let k = c .before in
     let a = start c .args in
-    let none = earlier-none (bankRefusal (given (start c))) (first ((4, leb (a .b .tree .columns) (a .i)) ∷ [])) (passes c) .0 in
-    lit-running (a .b) (v .survey .ensures .running-is (v .survey .ensures .refuses (a .doors .now) ∙ none))
+    c .opening .ensures
+    ∙ ap (λ (n : ℕ). openingRefusal n (a .b .tree .columns) (a .x) (a .i) (a .b .count))
+    (k .seen-refusal .ensures (a .b .columns) (sees (k .before .before)) (a .doors .now))
 
-survey-requires : tie.Need-survey-requires
-survey-requires c κs = search needs
+-- what the refusal has tested
+known : (c : tie.Then1 Inv-loop μ-loop) → let a = start (c .before) .args in Opened (given (c .before)) (a .x) (a .i)
+known c =
+    let k = c .before in
+    let s = start k in
+    opened (given k) (s .args .x) (s .args .i) (s .pre) (sym (refusal k) ∙ c .if1 .taken)
 
-refuse-if-requires : tie.Need-refuse-if-requires
-refuse-if-requires c κs = search needs
+sixteen : (c : tie.Then1 Inv-loop μ-loop) → start (c .before) .args .b .tree .columns ≤ 16
+sixteen c = tree-sixteen _ (known c .stood .tree)
 
-refused-requires : tie.Need-refused-requires
-refused-requires c κs = search needs
+small : (c : tie.Then1 Inv-loop μ-loop) → start (c .before) .args .i < 16
+small c = omega (arith, known c .below, sixteen c)
 
-returns : tie.Need-returns
-returns c =
-    let k = c .before .before in
-    let s = k .before .before .before .before .before in
-    own-refused (given s) (s .args .x) (s .args .i) _ (s .pre .0) (s .pre .1) (refusal k) (c .before .if1 .taken) (c .refused .result) (c .refused .ensures)
+mul-change : tie.Need-mul-change Inv-loop μ-loop
+mul-change c = search (needs, small c)
 
-mul-c : tie.Need-mul-c
-mul-c c = search (needs, small c)
+element-copy-out-change : tie.Need-element-copy-out-change Inv-loop μ-loop
+element-copy-out-change c = search (needs, small c)
 
-element-copy-out-c : tie.Need-element-copy-out-c
-element-copy-out-c c = search (needs, small c)
+change-requires : tie.Need-change-requires Inv-loop μ-loop
+change-requires c κs =
+    let e = c .before .before .before in
+    (start (e .before) .pre .0, (known e .stood .room, known e .there))
 
-core-step-requires : tie.Need-core-step-requires
-core-step-requires c κs = search needs
-
-settle-requires : tie.Need-settle-requires
-settle-requires c κs = stood (c .before .before .before .before) .0 .room
-
-is-refusal-requires : tie.Need-is-refusal-requires
+is-refusal-requires : tie.Need-is-refusal-requires Inv-loop μ-loop
 is-refusal-requires c κs = search needs
 
--- what settles the core's step is the step of the bank
-told : (f : tie.After-settle) → let s = start (f .before .before .before .before .before) in
-    changed (s .args .b) (s .args .i) (f .settle .result) (f .settle .last .1 .1 .1 .0) (f .settle .last .1 .1 .1 .1 .0) ≡ perform (given s) (s .args .x)
-told f =
-    let o = f .before .before .before in
-    let e = o .before .before in
-    let s = start e in
-    let a = s .args in
-    let w = stood e in
-    own-done (given s) (w .0) (a .i) (w .1) _ (lit e) (a .x) (s .pre .0) (s .pre .1)
-    (o .core-step .ensures (stands-at (given s) (w .0) (a .i) (w .1)))
-    (f .settle .ensures (a .b) (a .i) refl (lit e))
+mul-changed : tie.Need-mul-changed Inv-loop μ-loop
+mul-changed c = search (needs, small (c .before .before .before .before .before .before .before))
 
-returns-2 : tie.Need-returns-2
+element-set-from-changed : tie.Need-element-set-from-changed Inv-loop μ-loop
+element-set-from-changed c = search (needs, small (c .before .before .before .before .before .before .before))
+
+-- what is changed is the step of the bank
+told : (f : tie.After-change Inv-loop μ-loop) → let k = f .before .before .before .before .before in
+    let a = start k .args in
+    changed (a .b) (a .i) (f .change .result) (f .change .last .1 .1 .1 .1 .1 .1 .0) (f .change .last .1 .1 .1 .1 .1 .1 .1 .0) ≡ perform (given k) (a .x)
+told f =
+    let e = f .before .before .before .before in
+    let k = e .before in
+    let b = start k .args .b in
+    let w = known e in
+    f .change .ensures (b .columns) refl (lit-running b (sees (k .before .before .before) (sixteen e) .running-so)) (stands-passes (given k) (w .stood)) (w .below) (w .actor)
+
+returns : tie.Need-returns Inv-loop μ-loop
+returns c =
+    let q = c .before .before in
+    let f = q .before in
+    let a = start (f .before .before .before .before .before) .args in
+    changed-done (a .b) (a .i) _ _ (f .change .result) _ (sym (q .is-refusal .ensures) ∙ not-true _ (c .before .if2 .taken)) (told f)
+
+returns-2 : tie.Need-returns-2 Inv-loop μ-loop
 returns-2 c =
     let q = c .before in
     let f = q .before in
     let a = start (f .before .before .before .before .before) .args in
-    changed-refused (a .b) (a .i) _ _ (f .settle .result) _ (sym (q .is-refusal .ensures) ∙ c .if2 .taken) (told f)
+    changed-refused (a .b) (a .i) _ _ (f .change .result) _ (sym (q .is-refusal .ensures) ∙ not-false _ (c .if2 .left)) (told f)
 
-mul-changed : tie.Need-mul-changed
-mul-changed c = search (needs, small (c .before .before .before .before .before .before .before .before))
-
-element-set-from-changed : tie.Need-element-set-from-changed
-element-set-from-changed c = search (needs, small (c .before .before .before .before .before .before .before .before))
-
-returns-3 : tie.Need-returns-3
+returns-3 : tie.Need-returns-3 Inv-loop μ-loop
 returns-3 c =
-    let e = c .before in
-    let q = e .before in
-    let f = q .before in
-    let a = start (f .before .before .before .before .before) .args in
-    changed-done (a .b) (a .i) _ _ (f .settle .result) _ (sym (q .is-refusal .ensures) ∙ e .if2 .left) (told f)
+    let k = c .before in
+    let s = start k in
+    opening-refused (given k) (s .args .x) (s .args .i) _ (s .pre) (refusal k) (c .if1 .left)
+    (record { bank = s .args .b; answer = Refused (k .opening .result) }) refl
 
 pub act-spec : {M : Type 1} → statement M
 act-spec =
     tie.close
     (tie.spec
-    survey-requires
-    refuse-if-requires
-    refused-requires
-    returns
+    Inv-loop
+    μ-loop
+    places-requires
+    unseen-requires
+    loop-holds
     mul-c
     element-copy-out-c
-    core-step-requires
-    settle-requires
+    see-requires
+    add-j
+    loop-less
+    loop-again
+    seen-refusal-requires
+    opening-requires
+    mul-change
+    element-copy-out-change
+    change-requires
     is-refusal-requires
-    returns-2
     mul-changed
     element-set-from-changed
+    returns
+    returns-2
     returns-3)

@@ -5,7 +5,7 @@ use Rattle.bank.proofs.step.all.Statement.{statement}
 use Rattle.bank.proofs.step.all.Tie as tie
 
 act-requires : tie.Need-act-requires
-act-requires c κs = let i = c .before .before .args .i in (refl, eq-eqb i i refl)
+act-requires c κs = let i = c .before .before .args .i in (refl, λ _. eq-eqb i i refl)
 
 returns : tie.Need-returns
 unfolding perform

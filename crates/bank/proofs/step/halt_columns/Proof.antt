@@ -1,86 +1,139 @@
 use borrow.Author.Needs.{needs}
-use Prim.Native.Nat.{_≤_, _<_, _^_}
-use mathlib.Core.Path.{_≡_, sym, ap, _∙_}
+use Prim.Native.Nat.{ℕ, _≤_, _<_, _-_, _^_}
+use mathlib.Core.Path.{_≡_, refl, sym, ap, _∙_}
 use native.Mathlib.Nat.{lt-of-lt-of-le}
+use native.Mathlib.Omega.{arith}
 use lib.Pow.{pow-mono}
 use Rattle.column.specs.Sets.{has}
 use Rattle.column.specs.TreeLaws.{tree-sixteen}
 use Rattle.bank.specs.Banks.{State, state, bankRefusal}
+use Rattle.bank.specs.Standing.{Passing, Saw}
 use Rattle.bank.specs.StandingLaws.{stands}
-use Rattle.bank.specs.StepLaws.{unless-refused, unless-goes, accepted-words, halting-refusal}
+use Rattle.bank.specs.SurveyLaws.{passing-start, passing-on, passing-end, saw-lt}
+use Rattle.bank.specs.StepLaws.{unless-refused, unless-goes, halting-refusal}
 use Rattle.bank.specs.Steps.{accepted, haltRefusal, halted, withStopped}
 use Rattle.bank.specs.StripLaws.{halts}
+use Rattle.bank.specs.declared.bank.Answer.the-variants.{Refused}
+use Rattle.bank.specs.declared.bank.Bank.{Bank}
 use Rattle.bank.proofs.step.halt_columns.Statement.{statement}
 use Rattle.bank.proofs.step.halt_columns.Tie as tie
 
-abbrev given : tie.Start → State
-given c = let a = c .args in state (a .b) (a .heads .now) (a .doors .now)
+abbrev Inv-loop : tie.InvT-loop
+Inv-loop m heads doors d t seen-places v₀ j₀ v j = Passing v d seen-places j
 
-survey-requires : tie.Need-survey-requires
-survey-requires c κs = search needs
+abbrev μ-loop : tie.MeasureT-loop
+μ-loop m heads doors d t seen-places v₀ j₀ v j = seen-places - j
 
-bank-refused : (c : tie.After-survey) → c .survey .result .refusal ≡ bankRefusal (given (c .before .before))
-bank-refused c = c .survey .ensures .refuses (c .before .before .args .doors .now)
+places-requires : tie.Need-places-requires Inv-loop μ-loop
+places-requires c κs = search needs
 
-halt-refusal-requires : tie.Need-halt-refusal-requires
-halt-refusal-requires c κs z =
-    let v = c .before in
-    let s = given (v .before .before) in
-    tree-sixteen (s .bank .tree) (stands s (sym (bank-refused v) ∙ z) .tree)
+unseen-requires : tie.Need-unseen-requires Inv-loop μ-loop
+unseen-requires c κs = search needs
 
-refused-requires : tie.Need-refused-requires
-refused-requires c κs = search needs
+loop-holds : tie.Need-loop-holds Inv-loop μ-loop
+loop-holds c = passing-start (c .before .before .before .args .b) (c .before .places .ensures) (c .unseen .ensures)
 
-abbrev start : tie.After-halt-refusal → tie.Start
-start c = c .before .before .before .before
+mul-c : tie.Need-mul-c Inv-loop μ-loop
+mul-c c = search needs
 
-refusal : (c : tie.After-halt-refusal) → c .halt-refusal .result ≡ haltRefusal (given (start c)) (start c .args .m)
+element-copy-out-c : tie.Need-element-copy-out-c Inv-loop μ-loop
+element-copy-out-c c = search needs
+
+see-requires : tie.Need-see-requires Inv-loop μ-loop
+see-requires c κs = search needs
+
+add-j : tie.Need-add-j Inv-loop μ-loop
+add-j c = search needs
+
+loop-less : tie.Need-loop-less Inv-loop μ-loop
+loop-less c = search needs
+
+loop-again : tie.Need-loop-again Inv-loop μ-loop
+loop-again c =
+    let l = c .before .before .before in
+    passing-on (l .before .before .before .before .args .b) (l .loop .inv) (omega arith) (c .see .ensures)
+
+-- all columns are seen
+sees : (c : tie.After-loop Inv-loop μ-loop) → let l = c .before in
+    let b = l .before .before .before .before .args .b in
+    b .tree .columns ≤ 16 → Saw (l .loop .v) b (b .tree .columns)
+sees c six =
+    let l = c .before in
+    let p = l .before .before in
+    let over : p .places .result ≤ l .loop .j = omega arith in
+    passing-end (p .before .before .args .b) (p .places .ensures) (l .loop .inv) over six
+
+seen-refusal-requires : tie.Need-seen-refusal-requires Inv-loop μ-loop
+seen-refusal-requires c κs six = saw-lt (c .before .before .before .before .before .before .args .b) (sees (c .before) six)
+
+abbrev start : tie.After-seen-refusal Inv-loop μ-loop → tie.Start Inv-loop μ-loop
+start c = c .before .before .before .before .before .before .before
+
+abbrev given : tie.After-seen-refusal Inv-loop μ-loop → State
+given c = let a = start c .args in state (a .b) (a .heads .now) (a .doors .now)
+
+bank-refused : (c : tie.After-seen-refusal Inv-loop μ-loop) → c .seen-refusal .result ≡ bankRefusal (given c)
+bank-refused c = let a = start c .args in c .seen-refusal .ensures (a .b .columns) (sees (c .before .before)) (a .doors .now)
+
+sixteen : (c : tie.After-seen-refusal Inv-loop μ-loop) → c .seen-refusal .result ≡ 0 → start c .args .b .tree .columns ≤ 16
+sixteen c z = tree-sixteen (start c .args .b .tree) (stands (given c) (sym (bank-refused c) ∙ z) .tree)
+
+halt-refusal-requires : tie.Need-halt-refusal-requires Inv-loop μ-loop
+halt-refusal-requires c κs = sixteen c
+
+refusal : (c : tie.After-halt-refusal Inv-loop μ-loop) → c .halt-refusal .result ≡ haltRefusal (given (c .before)) (start (c .before) .args .m)
 refusal c =
-    let v = c .before .before in
-    c .halt-refusal .ensures ∙ halting-refusal (given (start c)) (start c .args .m) (bank-refused v) (v .survey .ensures .running-is)
+    let k = c .before in
+    c .halt-refusal .ensures
+    ∙ halting-refusal (given k) (start k .args .m) (bank-refused k) (λ z. sees (k .before .before) (sixteen k z) .running-so)
 
-returns : tie.Need-returns
-returns c =
-    let k = c .before .before in
-    unless-refused (given (start k)) _ _ _ (c .refused .result) (refusal k) (c .before .if1 .taken) (c .refused .ensures)
-
-within : (c : tie.Else1) → let a = start (c .before) .args in (a .m < 2 ^ 16) × (a .b .count ≤ 512)
+within : (c : tie.Then1 Inv-loop μ-loop) → let a = start (c .before .before) .args in (a .m < 2 ^ 16) × (a .b .count ≤ 512)
 within c =
     let k = c .before in
-    let s = given (start k) in
-    let h = halts s (start k .args .m) (sym (refusal k) ∙ c .if1 .left) in
+    let s = given (k .before) in
+    let h = halts s (start (k .before) .args .m) (sym (refusal k) ∙ c .if1 .taken) in
     (lt-of-lt-of-le (h .1) (pow-mono (tree-sixteen (s .bank .tree) (h .0 .tree))), h .0 .room)
 
-vanish-requires : tie.Need-vanish-requires
+vanish-requires : tie.Need-vanish-requires Inv-loop μ-loop
 vanish-requires c κs = within (c .before .before) .1
 
-stop-requires : tie.Need-stop-requires
+stop-requires : tie.Need-stop-requires Inv-loop μ-loop
 stop-requires c κs = within (c .before .before .before) .0
 
-done-requires : tie.Need-done-requires
-done-requires c κs = search needs
-
-returns-2 : tie.Need-returns-2
+returns : tie.Need-returns Inv-loop μ-loop
 unfolding halted
-returns-2 c =
-    let w = c .before in
-    let v = w .before in
+returns c =
+    let v = c .before in
     let e = v .before .before .before in
     let k = e .before in
-    let a = start k .args in
-    accepted-words (c .done .result) _ _ _ (c .done .ensures ∙ ap accepted (w .stop .ensures))
+    let a = start (k .before) .args in
+    ap (λ (x : Bank). accepted (state x (v .vanish .last .1 .1 .0) (v .vanish .last .1 .1 .1 .0))) (c .stop .ensures)
     ∙ ap (λ (x : State). accepted (state (withStopped (x .bank) (has (a .m))) (x .heads) (x .doors))) (v .vanish .ensures (a .b))
-    ∙ unless-goes (given (start k)) _ _ _ (refusal k) (e .if1 .left)
+    ∙ unless-goes (given (k .before)) _ _ _ (refusal k) (e .if1 .taken)
+
+returns-2 : tie.Need-returns-2 Inv-loop μ-loop
+returns-2 c =
+    let k = c .before in
+    unless-refused (given (k .before)) _ _ _ (record { bank = start (k .before) .args .b; answer = Refused (k .halt-refusal .result) }) (refusal k) (c .if1 .left) refl
 
 pub halt-columns-spec : {M : Type 1} → statement M
 halt-columns-spec =
     tie.close
     (tie.spec
-    survey-requires
+    Inv-loop
+    μ-loop
+    places-requires
+    unseen-requires
+    loop-holds
+    mul-c
+    element-copy-out-c
+    see-requires
+    add-j
+    loop-less
+    loop-again
+    seen-refusal-requires
     halt-refusal-requires
-    refused-requires
-    returns
     vanish-requires
     stop-requires
-    done-requires
+    returns
     returns-2)

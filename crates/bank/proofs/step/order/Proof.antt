@@ -5,7 +5,7 @@ use Rattle.bank.proofs.step.order.Statement.{statement}
 use Rattle.bank.proofs.step.order.Tie as tie
 
 act-requires : tie.Need-act-requires
-act-requires c κs = let root = c .before .before .before .args .b .tree .root in (refl, eq-eqb root root refl)
+act-requires c κs = let root = c .before .before .before .args .b .tree .root in (refl, λ _. eq-eqb root root refl)
 
 returns : tie.Need-returns
 unfolding perform

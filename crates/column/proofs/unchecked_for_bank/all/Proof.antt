@@ -1,47 +1,33 @@
 use borrow.Author.Needs.{needs}
-use mathlib.Core.Path.{_≡_, sym, ap, _∙_}
-use borrow.Author.Tests.{eq-eqb, ne-eqb}
-use Rattle.column.specs.Steps.{refused, allConditions}
-use Rattle.column.specs.Unchecked.{uncheckedRefusal}
-use Rattle.column.specs.UncheckedLaws.{unchecked-passes}
+use mathlib.Core.Path.{sym, _∙_}
+use Rattle.column.specs.Steps.{allConditions, allEffect}
+use Rattle.column.specs.UncheckedLaws.{bounds-unchecked, own-unchecked}
 use Rattle.column.proofs.unchecked_for_bank.all.Statement.{statement}
 use Rattle.column.proofs.unchecked_for_bank.all.Tie as tie
 
 all-conditions-requires : tie.Need-all-conditions-requires
 all-conditions-requires c κs = search needs
 
-bounded-requires : tie.Need-bounded-requires
-bounded-requires c κs = search needs
-
-refuse-if-requires : tie.Need-refuse-if-requires
-refuse-if-requires c κs = search needs
-
 refused-requires : tie.Need-refused-requires
 refused-requires c κs = search needs
-
-refusal : (c : tie.After-refuse-if)
-    → let a = c .before .before .before .args in
-    c .refuse-if .result ≡ uncheckedRefusal (allConditions (a .t) (a .i) (a .c)) (a .t) (a .i) (a .t .root)
-refusal c = rw (c .refuse-if .ensures, c .before .bounded .ensures, c .before .before .all-conditions .ensures)
 
 returns : tie.Need-returns
 returns c =
     let k = c .before .before in
-    let e = refusal k in
-    simp (ne-eqb _ _ (λ z. c .before .if1 .taken (e ∙ z))) (c .refused .ensures ∙ ap (λ n. refused n (k .before .before .before .args .c)) e)
+    let a = k .before .args in
+    c .refused .ensures
+    ∙ own-unchecked (allConditions (a .t) (a .i) (a .c)) (a .t) (a .i) (a .t .root) (k .all-conditions .ensures) (c .before .if1 .taken) (a .c) (allEffect (a .t) (a .c))
 
 all-effect-requires : tie.Need-all-effect-requires
-all-effect-requires c κs =
-    let a = c .before .before .before .before .args in
-    let q = unchecked-passes (allConditions (a .t) (a .i) (a .c)) (a .t) (a .i) (a .t .root) (sym (refusal (c .before)) ∙ c .if1 .left) in
-    q .1 .other
+all-effect-requires c κs = search needs
 
 returns-2 : tie.Need-returns-2
 returns-2 c =
     let e = c .before in
-    simp (eq-eqb _ _ (sym (refusal (e .before)) ∙ e .if1 .left)) (c .all-effect .ensures)
+    let a = e .before .before .args in
+    c .all-effect .ensures
+    ∙ bounds-unchecked (allConditions (a .t) (a .i) (a .c)) (a .t) (a .i) (a .t .root) (sym (e .before .all-conditions .ensures) ∙ e .if1 .left) (a .c) (allEffect (a .t) (a .c))
 
 pub all-spec : {M : Type 1} → statement M
 all-spec =
-    tie.close
-    (tie.spec all-conditions-requires bounded-requires refuse-if-requires refused-requires returns all-effect-requires returns-2)
+    tie.close (tie.spec all-conditions-requires refused-requires returns all-effect-requires returns-2)
