@@ -3,7 +3,7 @@
 
     python3 tests/bad_bytes.py [--count INPUTS] [--seed SEED] [--valgrind INPUTS]
 
-Each input is random bytes, or a script with bytes changed. The program must end with status 0 and print only lines that document 01 names. With
+Each input is random bytes, or a script with bytes changed. The program must end with status 0 and print only lines that the papers name. With
 --valgrind a sample of them runs under valgrind, which must see no read or write outside and no value that was never set."""
 import argparse
 import os
@@ -13,23 +13,27 @@ import subprocess
 import sys
 
 import random_scripts
+import refusals
 import script_makers
 import script_texts
 
-LINE = re.compile(rb"(?:table=ok|step=ok|refused=(?:[1-9]|1[0-3])|column=\d{1,2}|number=\d{1,5}|occupied=\d{1,2}|doors=[\d,]*|rest=(?:yes|no))\n")
+NUMBERS = "|".join(map(str, sorted(refusals.ASKED["lockers"])))
+LINE = re.compile((rf"(?:table=ok|step=ok|steps=\d{{1,4}}|refused=(?:{NUMBERS})|column=\d{{1,2}}|number=\d{{1,10}}|occupied=\d{{1,2}}|doors=[\d,]*"
+                   r"|rest=(?:yes|no))\n").encode())
+# The bytes that stand in the lines of scripts and tables.
+ALPHABET = bytes({*b"columnsrootupfirstwatchsenderordersendtakeackallnotehaltrunbacklist", *b"0123456789abcdef=,\n"})
 VALGRIND = ["valgrind", "--quiet", "--error-exitcode=9", "--leak-check=no"]
 
 
 def inputs(rng, count):
     """Random bytes, bytes of the alphabet of scripts, and damaged scripts."""
-    alphabet = b"columnsrtupendkahliftgw=,0123456789abcdef\n"
     for k in range(count):
         if k % 4 == 0:
             yield rng.randbytes(rng.choice([0, 1, 10, 100, 1000]))
         elif k % 4 == 1:
-            yield bytes(rng.choices(alphabet, k=rng.choice([1, 30, 300])))
+            yield bytes(rng.choices(ALPHABET, k=rng.choice([1, 30, 300])))
         elif k % 4 == 2:
-            yield script_texts.tree(rng, rng.randint(1, 16)).encode() + bytes(rng.choices(alphabet, k=rng.choice([1, 30, 300])))
+            yield script_texts.tree(rng, rng.randint(1, 16)).encode() + bytes(rng.choices(ALPHABET, k=rng.choice([1, 30, 300])))
         else:
             yield script_makers.damaged(rng)
 
