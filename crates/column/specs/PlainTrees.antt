@@ -11,25 +11,25 @@ use Rattle.column.specs.Trees.{IsTree, every, plainAt, plainly, parent, 
 use Rattle.column.specs.TreeLaws.{every-at, check-exact}
 use Rattle.column.specs.declared.tree.Tree.{Tree}
 
-module _ (t : Tree) (n≢0 : 1 ≤ t .columns) (few : t .columns ≤ 16) (zero-root : t .root ≡ 0) (plain : every (plainAt (t .columns) (t .up) (t .first)) 16 ≡ true) where
-  at : (j : ℕ) → j < 16 → plainAt (t .columns) (t .up) (t .first) j ≡ true
-  at j h = every-at (plainAt (t .columns) (t .up) (t .first)) 16 j plain h
+module _ (t : Tree) (n≢0 : 1 ≤ t .columns) (few : t .columns ≤ 16) (zero-root : t .root ≡ 0) (plain : every (plainAt (t .columns) (t .up) (t .first)) (t .columns) ≡ true) where
+  at : (j : ℕ) → j < t .columns → plainAt (t .columns) (t .up) (t .first) j ≡ true
+  at j h = every-at (plainAt (t .columns) (t .up) (t .first)) (t .columns) j plain h
 
   -- by the comparison with the count, not by those with the places: document 02, Point 4
-  below : (j : ℕ) → j < 16 → parent t j < t .columns
+  below : (j : ℕ) → j < t .columns → parent t j < t .columns
   below j h = ltb-true (parent t j) (t .columns) (and-left _ _ (at j h))
 
-  placed : (j : ℕ) → j < 16 → leb (parent t j) (j - 1) && eqb (listedAt t j) j ≡ true
+  placed : (j : ℕ) → j < t .columns → leb (parent t j) (j - 1) && eqb (listedAt t j) j ≡ true
   placed j h = and-right (ltb (parent t j) (t .columns)) _ (at j h)
 
-  lower : (j : ℕ) → j < 16 → parent t j ≤ j - 1
+  lower : (j : ℕ) → j < t .columns → parent t j ≤ j - 1
   lower j h = leb-true (parent t j) (j - 1) (and-left _ _ (placed j h))
 
-  listed-is : (j : ℕ) → j < 16 → listedAt t j ≡ j
+  listed-is : (j : ℕ) → j < t .columns → listedAt t j ≡ j
   listed-is j h = eqb-true (listedAt t j) j (and-right (leb (parent t j) (j - 1)) _ (placed j h))
 
   -- a climb from below a bound comes to 0
-  ends : (bound c : ℕ) → c < bound → c < 16 → (k : ℕ) × (climb t k c ≡ 0)
+  ends : (bound c : ℕ) → c < bound → c < t .columns → (k : ℕ) × (climb t k c ≡ 0)
   unfolding climb
   ends zero c h l = absurd (omega arith)
   ends (suc bound) zero h l = (0, refl)
@@ -44,12 +44,12 @@ module _ (t : Tree) (n≢0 : 1 ≤ t .columns) (few : t .columns ≤ 16) (zero-r
         some = n≢0;
         sixteen = few;
         root-below = omega arith;
-        parent-below = λ c h. below c (omega arith);
+        parent-below = below;
         root-own = ap (parent t) zero-root ∙ own ∙ sym zero-root;
-        climbs = λ c h. let r = ends 16 c (omega arith) (omega arith) in (r .0, r .1 ∙ sym zero-root);
-        listed = λ c h. (c, h, listed-is c (omega arith));
-        listed-once = λ k m hk hm e. sym (listed-is k (omega arith)) ∙ e ∙ listed-is m (omega arith);
-        listed-below = λ k h. omega (arith, listed-is k (omega arith));
+        climbs = λ c h. let r = ends (t .columns) c h h in (r .0, r .1 ∙ sym zero-root);
+        listed = λ c h. (c, h, listed-is c h);
+        listed-once = λ k m hk hm e. sym (listed-is k hk) ∙ e ∙ listed-is m hm;
+        listed-below = λ k h. omega (arith, listed-is k h);
       }
     where
       own : parent t 0 ≡ 0

@@ -98,7 +98,7 @@ plainAt n up first j = ltb (getD up j 0) n && (leb (getD up j 0) (j - 1) && eqb 
 
 -- a tree that is seen to be one by a pass over its lists, without a climb: `plain-refusal` of PlainTrees
 abbrev pub plainly : ℕ → ℕ → List ℕ → List ℕ → Bool
-plainly n root up first = not (eqb n 0) && (leb n 16 && (eqb root 0 && every (plainAt n up first) 16))
+plainly n root up first = not (eqb n 0) && (leb n 16 && (eqb root 0 && every (plainAt n up first) n))
 
 -- what the pass over both lists answers, and what a climb rests on: "each parent number is .. tested against the column count in a pass
 -- made before any climb"

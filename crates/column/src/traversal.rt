@@ -34,8 +34,8 @@ pub fn lists_hold<'a>(up: &'a [u8; 16], first: &'a [u8; 16], n: usize) -> bool
     listed == whole(n)
 }
 
-// Whether the lists of a tree are plainly good, in unused places too: the root is 0, every parent is below n and lower than its child, and the
-// sequence ascends. Most trees are, and need no climb. No place is left out, so that all sixteen are compared at once.
+// Whether the lists of a tree are plainly good: the root is 0, every parent is below n and lower than its child, and the sequence ascends. Most
+// trees are, and need no climb. It goes over all n places, with no early return, so that sixteen of them are compared at once.
 pub fn rises<'a>(up: &'a [u8; 16], first: &'a [u8; 16], n: usize, root: usize) -> bool
     ensures { λ r. ⌜ r ≡ plainly n root (now (up .entry)) (now (first .entry)) ⌝ }
 {
@@ -52,7 +52,7 @@ pub fn rises<'a>(up: &'a [u8; 16], first: &'a [u8; 16], n: usize, root: usize) -
     let mut plain = true;
     let mut most: u8 = 0;
     let mut k: u8 = 0;
-    while k < 16 {
+    while k < bound {
         let j = k as usize;
         plain = plain & ((up[j] < bound) & ((up[j] <= most) & (first[j] == k)));
         most = k;

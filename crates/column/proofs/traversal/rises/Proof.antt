@@ -14,13 +14,13 @@ use Rattle.column.proofs.traversal.rises.Statement.{statement}
 use Rattle.column.proofs.traversal.rises.Tie as tie
 
 abbrev Inv-loop : tie.InvT-loop
-Inv-loop up first n root bound plain₀ most₀ k₀ plain most k = (k ≤ 16) × (most ≡ k - 1) × (plain ≡ every (plainAt n up first) k)
+Inv-loop up first n root bound plain₀ most₀ k₀ plain most k = (k ≤ n) × (most ≡ k - 1) × (plain ≡ every (plainAt n up first) k)
 
 abbrev μ-loop : tie.MeasureT-loop
-μ-loop up first n root bound plain₀ most₀ k₀ plain most k = 16 - k
+μ-loop up first n root bound plain₀ most₀ k₀ plain most k = n - k
 
 -- what is left to test of a tree that has a count and the root 0
-past : (n root : ℕ) (up first : List ℕ) → (n ≡ 0 → ⊥) → n ≤ 16 → root ≡ 0 → plainly n root up first ≡ every (plainAt n up first) 16
+past : (n root : ℕ) (up first : List ℕ) → (n ≡ 0 → ⊥) → n ≤ 16 → root ≡ 0 → plainly n root up first ≡ every (plainAt n up first) n
 past n root up first some few zero = simp (ne-eqb n 0 some, le-leb n 16 few, eq-eqb root 0 zero)
 
 returns : tie.Need-returns Inv-loop μ-loop
