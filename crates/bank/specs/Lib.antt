@@ -47,6 +47,8 @@ pub mod QuickTurn
 pub mod Offers
 pub mod ChangeLaws
 pub mod Moves
+pub mod SetsWordLaws
+pub mod HeadLaws
 pub mod SurveyLaws
 pub mod ReadyTurn
 pub mod ReadyLaws

@@ -67,7 +67,7 @@ fn no_step(c: Column) -> Outcome
 }
 
 // What the core makes of column i, which is c, in a bank that stands and whose columns in `running` run.
-pub(crate) fn core_step(t: Tree, running: u16, x: Step, i: usize, c: Column) -> Outcome
+fn core_step(t: Tree, running: u16, x: Step, i: usize, c: Column) -> Outcome
     ensures { λ r. ⌜ StepsCore r t running x i c ⌝ }
 {
     match x {
@@ -84,7 +84,7 @@ pub(crate) fn core_step(t: Tree, running: u16, x: Step, i: usize, c: Column) -> 
 }
 
 // The packet at a place goes to column i, which is c and its receiver.
-pub(crate) fn taken(
+fn taken(
     t: Tree,
     running: u16,
     place: usize,
@@ -136,10 +136,11 @@ fn act(b: Bank, x: Step, i: usize, heads: &mut [u64; 512], doors: &mut [u64; 512
     let mut j: usize = 0;
     while j < seen_places {
         let c = d.columns[j];
-        v = see(v, t.columns, t.root, j, c);
+        v = see(v, t.columns, j, c);
         j += 1;
     }
-    let tested = seen_refusal(t, v, d.count, heads);
+    let root = d.columns[t.root % 16];
+    let tested = seen_refusal(t, v, root.whole, d.count, heads);
     let n = opening(tested, t.columns, x, i, d.count);
     let mut answer = Answer::Refused(n);
     if n == 0 {
@@ -165,10 +166,11 @@ fn halt_columns(b: Bank, m: u32, heads: &mut [u64; 512], doors: &mut [u64; 512])
     let mut j: usize = 0;
     while j < seen_places {
         let c = d.columns[j];
-        v = see(v, t.columns, t.root, j, c);
+        v = see(v, t.columns, j, c);
         j += 1;
     }
-    let tested = seen_refusal(t, v, d.count, heads);
+    let root = d.columns[t.root % 16];
+    let tested = seen_refusal(t, v, root.whole, d.count, heads);
     let n = halt_refusal(tested, t.columns, v.running, m);
     let mut answer = Answer::Refused(n);
     if n == 0 {

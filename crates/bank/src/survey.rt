@@ -3,6 +3,9 @@
 use crate::bank::Bank;
 use crate::bank::CAPACITY;
 use crate::words::ACKNOWLEDGING;
+use crate::words::ENDS;
+use crate::words::NUMBERS;
+use crate::words::PAIRS;
 use crate::words::receiver_in;
 use crate::words::sender_in;
 use column::members::within;
@@ -14,12 +17,26 @@ ghost use Prim.Native.Nat.{ℕ, _^_, _≤_, _<_};
 ghost use lib.ListN.{getD};
 ghost use Rattle.column.specs.Sets.{minus, whole};
 ghost use Rattle.column.specs.Trees.{every};
-ghost use Rattle.bank.specs.Standing.{endsStand, pairStands, headStands, placesOf, unseen, seeing, RefusesSeen, Surveys};
+ghost use Rattle.bank.specs.Standing.{endsStand, barredOf, pairStands, headStands, placesOf, unseen, setsOf, membersIn, Sees, RefusesSeen, Surveys};
 
-// What a pass over the columns has gathered: the members of all sets, whether each column stands but for these, and who runs.
+// What is no column's number.
+const NO_END: u8 = 255;
+
+// How many sets of one kind there are: the factor of the second of four kinds in one number, and those of the third and the fourth.
+const SETS: u64 = 65536;
+
+const OWED: u64 = SETS * SETS;
+
+const NOTED: u64 = SETS * OWED;
+
+// What a pass over the columns has gathered.
 pub(crate) struct Seen {
-    pub members: u16,
-    pub stand: bool,
+    // The members of all sets, those of each of the four kinds in sixteen binary digits of their own.
+    pub sets: u64,
+    // The same with those of each column moved down by its number: digit 32 tells whether a column owes to itself.
+    pub own: u64,
+    // Whether every sender is a column.
+    pub sent: bool,
     pub running: u16,
 }
 
@@ -27,8 +44,9 @@ pub(crate) fn unseen() -> Seen
     ensures { λ r. ⌜ r ≡ unseen ⌝ }
 {
     Seen {
-        members: 0,
-        stand: true,
+        sets: 0,
+        own: 0,
+        sent: true,
         running: 0,
     }
 }
@@ -43,22 +61,33 @@ pub(crate) fn places(columns: usize) -> usize
     columns
 }
 
-// Column i, which is c, is seen too. The members of all sets are joined, to be compared with the columns once.
-pub(crate) fn see(v: Seen, columns: usize, root: usize, i: usize, c: Column) -> Seen
-    requires { ⌜ i < 16 ⌝ }
-    ensures { λ r. ⌜ r ≡ seeing v columns root i c ⌝ }
+// The four sets of a column as one number: they lie side by side in a column, so that it is read at once.
+fn sets_of(c: Column) -> u64
+    ensures { λ r. ⌜ r ≡ setsOf c ⌝ }
 {
-    let sender = c.sender;
-    let mut running = v.running;
-    if c.running {
-        running = running | (1u16 << i);
-    }
+    (c.send as u64) + (c.awaited as u64) * SETS + (c.owed as u64) * OWED + (c.noted as u64) * NOTED
+}
+
+// Column i, which is c, is seen too.
+pub(crate) fn see(v: Seen, columns: usize, i: usize, c: Column) -> Seen
+    requires { ⌜ i < 16 ⌝ }
+    ensures { λ r. ⌜ Sees r v columns i c ⌝ }
+{
+    let sets = sets_of(c);
     Seen {
-        members: v.members | (c.send | c.awaited | c.owed | c.noted),
-        stand: v.stand
-            & (!((c.owed >> i) % 2 == 1) & (((i != root) | c.whole) & (sender < columns))),
-        running,
+        sets: v.sets | sets,
+        own: v.own | (sets >> i),
+        sent: v.sent & (c.sender < columns),
+        running: v.running | ((c.running as u16) << i),
     }
+}
+
+// The members of sets of all four kinds.
+fn members_in(sets: u64) -> u16
+    ensures { λ r. ⌜ r ≡ membersIn sets ⌝ }
+{
+    let members = (sets % SETS) | (sets / SETS % SETS) | (sets / OWED % SETS) | (sets / NOTED);
+    members as u16
 }
 
 // Row 4 of a packet, by its head, but for whether its receiver runs.
@@ -77,21 +106,6 @@ pub fn ends_stand(columns: usize, root: usize, watch: bool, head: u64) -> bool
     if from == to {
         return false;
     }
-    (ACKNOWLEDGING <= head) | ((to != root) | watch)
-}
-
-// Row 4 of a packet, by its head, but for what is gathered of all: whether its sender is a column, and whether its receiver runs.
-fn pair_stands(root: usize, watch: bool, head: u64) -> bool
-    ensures { λ r. ⌜ r ≡ pairStands root watch head ⌝ }
-{
-    let from = sender_in(head);
-    let to = receiver_in(head);
-    if 16 <= (from | to) {
-        return false;
-    }
-    if from == to {
-        return false;
-    }
     if to != root {
         return true;
     }
@@ -101,7 +115,39 @@ fn pair_stands(root: usize, watch: bool, head: u64) -> bool
     ACKNOWLEDGING <= head
 }
 
-// The senders are gathered, and compared with the columns once; the receivers with those who run.
+// To which byte no message may be addressed: the root's, or where senders are watched one that is no column's.
+fn barred(root: usize, watch: bool) -> u8
+    ensures { λ r. ⌜ r ≡ barredOf root watch ⌝ }
+{
+    if watch {
+        return NO_END;
+    }
+    let byte = (root % 256) as u8;
+    byte
+}
+
+// Row 4 of a packet but for whether its receiver runs, by what stands above the number in its head. Bytes are compared, which is quicker.
+fn pair_stands(columns: u8, barred: u8, pair: u64) -> bool
+    ensures { λ r. ⌜ r ≡ pairStands columns barred pair ⌝ }
+{
+    let from = (pair / ENDS % ENDS) as u8;
+    let to = (pair % ENDS) as u8;
+    if from == to {
+        return false;
+    }
+    if columns <= from {
+        return false;
+    }
+    if columns <= to {
+        return false;
+    }
+    if to != barred {
+        return true;
+    }
+    PAIRS <= pair
+}
+
+// The receivers are gathered, and compared with those who run once.
 fn heads_stand(
     columns: usize,
     root: usize,
@@ -110,22 +156,23 @@ fn heads_stand(
     count: usize,
     heads: &[u64; 512],
 ) -> bool
-    requires { ⌜ (columns ≤ 16) × ((count ≤ 512) × (running < 2 ^ columns)) ⌝ }
+    requires { ⌜ (columns ≤ 16) × ((root < 16) × (count ≤ 512)) ⌝ }
     ensures { λ r. ⌜ r ≡ every (λ (k : ℕ). headStands columns root watch running (getD (now (heads .entry)) k 0)) count ⌝ }
 {
-    let mut senders: u16 = 0;
-    let mut receivers: u16 = 0;
+    let bound = columns as u8;
+    let closed = barred(root, watch);
+    let mut receivers: u64 = 0;
     let mut k: usize = 0;
     while k < count {
-        let head = heads[k];
-        if !pair_stands(root, watch, head) {
+        let pair = heads[k] / NUMBERS;
+        if !pair_stands(bound, closed, pair) {
             return false;
         }
-        senders = senders | (1u16 << sender_in(head));
-        receivers = receivers | (1u16 << receiver_in(head));
+        receivers = receivers | (1u64 << (pair % ENDS));
         k += 1;
     }
-    within(senders, columns) & (receivers | running == running)
+    let set = running as u64;
+    receivers | set == set
 }
 
 // The columns that do not run: all others.
@@ -143,16 +190,16 @@ pub struct Surveyed {
     pub running: u16,
 }
 
-// By which of 2, 3 and 4 a bank is refused whose columns are seen, else 0. The doors that packets carry are not looked at.
-pub(crate) fn seen_refusal(t: Tree, v: Seen, count: usize, heads: &[u64; 512]) -> u8
-    requires { ⌜ (t .columns ≤ 16 → v .running < 2 ^ t .columns) ⌝ }
-    ensures { λ r. ⌜ RefusesSeen r t v count (now (heads .entry)) ⌝ }
+// By which of 2, 3 and 4 a bank is refused whose columns are seen, and whose root has that goal, else 0. The doors that packets carry are not looked at.
+pub(crate) fn seen_refusal(t: Tree, v: Seen, whole: bool, count: usize, heads: &[u64; 512]) -> u8
+    ensures { λ r. ⌜ RefusesSeen r t v whole count (now (heads .entry)) ⌝ }
 {
     let n = tree_refusal(t);
     if n != 0 {
         return n;
     }
-    if !(within(v.members, t.columns) & v.stand) {
+    let owes = v.own / OWED % 2 == 1;
+    if !(within(members_in(v.sets), t.columns) & (v.sent & (!owes & whole))) {
         return 4;
     }
     if CAPACITY < count {
@@ -174,10 +221,11 @@ pub fn survey(b: Bank, heads: &[u64; 512]) -> Surveyed
     let mut j: usize = 0;
     while j < n {
         let c = b.columns[j];
-        v = see(v, t.columns, t.root, j, c);
+        v = see(v, t.columns, j, c);
         j += 1;
     }
-    let refusal = seen_refusal(t, v, b.count, heads);
+    let root = b.columns[t.root % 16];
+    let refusal = seen_refusal(t, v, root.whole, b.count, heads);
     Surveyed {
         refusal,
         running: v.running,

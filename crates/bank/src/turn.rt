@@ -56,6 +56,7 @@ fn can_take_over(t: Tree, i: usize, c: Column) -> bool
     (i != t.root) & (has(c.noted, watched(t, c)) & (!c.whole & ((c.send == 0) & (c.awaited == 0))))
 }
 
+// Whether the step takes a packet.
 pub fn is_take(x: Step) -> bool
     ensures { λ r. ⌜ r ≡ isTake x ⌝ }
 {

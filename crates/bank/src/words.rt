@@ -11,7 +11,9 @@ pub const NUMBERS: u64 = HIGHEST as u64 + 1;
 
 pub const ENDS: u64 = 256;
 
-pub const ACKNOWLEDGING: u64 = NUMBERS * ENDS * ENDS;
+pub const PAIRS: u64 = ENDS * ENDS;
+
+pub const ACKNOWLEDGING: u64 = NUMBERS * PAIRS;
 
 fn placed(from: u8, to: u8, number: Number) -> u64
     ensures { λ r. ⌜ r ≡ placed from to number ⌝ }

@@ -4,10 +4,10 @@ use mathlib.Core.Path.{_≡_, refl, sym, ap, _∙_}
 use native.Mathlib.Omega.{arith}
 use Prim.Native.Nat.{ℕ, _<_, _≤_, _-_}
 use Rattle.column.specs.TreeLaws.{tree-sixteen}
-use Rattle.bank.specs.Banks.{State, state}
-use Rattle.bank.specs.Standing.{Passing, Saw}
+use Rattle.bank.specs.Banks.{State, state, runningOf}
+use Rattle.bank.specs.Standing.{Passing, RefusesBank}
 use Rattle.bank.specs.StandingLaws.{stands-passes}
-use Rattle.bank.specs.SurveyLaws.{passing-start, passing-on, passing-end, saw-lt}
+use Rattle.bank.specs.SurveyLaws.{passing-start, passing-on, passing-tells}
 use Rattle.bank.specs.Changes.{changed}
 use Rattle.bank.specs.ChangeLaws.{lit-running, changed-refused, changed-done}
 use Rattle.bank.specs.Moves.{openingRefusal, opening, Opened, opened, opening-refused}
@@ -51,24 +51,30 @@ loop-again c =
     let l = c .before .before .before in
     passing-on (l .before .before .before .before .args .b) (l .loop .inv) (omega arith) (c .see .ensures)
 
--- all columns are seen
-sees : (c : tie.After-loop Inv-loop μ-loop) → let l = c .before in
-    let b = l .before .before .before .before .args .b in
-    b .tree .columns ≤ 16 → Saw (l .loop .v) b (b .tree .columns)
-sees c six =
-    let l = c .before in
-    let p = l .before .before in
-    let over : p .places .result ≤ l .loop .j = omega arith in
-    passing-end (p .before .before .args .b) (p .places .ensures) (l .loop .inv) over six
+mul-root : tie.Need-mul-root Inv-loop μ-loop
+mul-root c = search needs
+
+element-copy-out-root : tie.Need-element-copy-out-root Inv-loop μ-loop
+element-copy-out-root c = search needs
 
 seen-refusal-requires : tie.Need-seen-refusal-requires Inv-loop μ-loop
-seen-refusal-requires c κs six = saw-lt (c .before .before .before .before .before .before .args .b) (sees (c .before) six)
+seen-refusal-requires c κs = search needs
+
+-- what is told once all columns are seen
+told-seen : (c : tie.After-seen-refusal Inv-loop μ-loop) → let l = c .before .before .before .before .before in
+    let a = l .before .before .before .before .args in
+    RefusesBank (c .seen-refusal .result) (a .b) (a .heads .now) × (a .b .tree .columns ≤ 16 → l .loop .v .running ≡ runningOf (a .b))
+told-seen c =
+    let l = c .before .before .before .before .before in
+    let p = l .before .before in
+    let a = p .before .before .args in
+    passing-tells (a .b) (p .places .ensures) (a .heads .now) (l .loop .inv) (omega arith) (c .seen-refusal .ensures)
 
 opening-requires : tie.Need-opening-requires Inv-loop μ-loop
 opening-requires c κs = search needs
 
 abbrev start : tie.After-opening Inv-loop μ-loop → tie.Start Inv-loop μ-loop
-start c = c .before .before .before .before .before .before .before .before
+start c = c .before .before .before .before .before .before .before .before .before .before
 
 abbrev given : tie.After-opening Inv-loop μ-loop → State
 given c = let a = start c .args in state (a .b) (a .heads .now) (a .doors .now)
@@ -79,7 +85,7 @@ refusal c =
     let a = start c .args in
     c .opening .ensures
     ∙ ap (λ (n : ℕ). openingRefusal n (a .b .tree .columns) (a .x) (a .i) (a .b .count))
-    (k .seen-refusal .ensures (a .b .columns) (sees (k .before .before)) (a .doors .now))
+    (told-seen k .0 (a .doors .now))
 
 -- what the refusal has tested
 known : (c : tie.Then1 Inv-loop μ-loop) → let a = start (c .before) .args in Opened (given (c .before)) (a .x) (a .i)
@@ -123,7 +129,7 @@ told f =
     let k = e .before in
     let b = start k .args .b in
     let w = known e in
-    f .change .ensures (b .columns) refl (lit-running b (sees (k .before .before .before) (sixteen e) .running-so)) (stands-passes (given k) (w .stood)) (w .below) (w .actor)
+    f .change .ensures (b .columns) refl (lit-running b (told-seen (k .before) .1 (sixteen e))) (stands-passes (given k) (w .stood)) (w .below) (w .actor)
 
 returns : tie.Need-returns Inv-loop μ-loop
 returns c =
@@ -161,6 +167,8 @@ act-spec =
     add-j
     loop-less
     loop-again
+    mul-root
+    element-copy-out-root
     seen-refusal-requires
     opening-requires
     mul-change

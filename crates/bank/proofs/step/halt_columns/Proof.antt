@@ -6,10 +6,10 @@ use native.Mathlib.Omega.{arith}
 use lib.Pow.{pow-mono}
 use Rattle.column.specs.Sets.{has}
 use Rattle.column.specs.TreeLaws.{tree-sixteen}
-use Rattle.bank.specs.Banks.{State, state, bankRefusal}
-use Rattle.bank.specs.Standing.{Passing, Saw}
+use Rattle.bank.specs.Banks.{State, state, runningOf, bankRefusal}
+use Rattle.bank.specs.Standing.{Passing, RefusesBank}
 use Rattle.bank.specs.StandingLaws.{stands}
-use Rattle.bank.specs.SurveyLaws.{passing-start, passing-on, passing-end, saw-lt}
+use Rattle.bank.specs.SurveyLaws.{passing-start, passing-on, passing-tells}
 use Rattle.bank.specs.StepLaws.{unless-refused, unless-goes, halting-refusal}
 use Rattle.bank.specs.Steps.{accepted, haltRefusal, halted, withStopped}
 use Rattle.bank.specs.StripLaws.{halts}
@@ -53,27 +53,33 @@ loop-again c =
     let l = c .before .before .before in
     passing-on (l .before .before .before .before .args .b) (l .loop .inv) (omega arith) (c .see .ensures)
 
--- all columns are seen
-sees : (c : tie.After-loop Inv-loop μ-loop) → let l = c .before in
-    let b = l .before .before .before .before .args .b in
-    b .tree .columns ≤ 16 → Saw (l .loop .v) b (b .tree .columns)
-sees c six =
-    let l = c .before in
-    let p = l .before .before in
-    let over : p .places .result ≤ l .loop .j = omega arith in
-    passing-end (p .before .before .args .b) (p .places .ensures) (l .loop .inv) over six
+mul-root : tie.Need-mul-root Inv-loop μ-loop
+mul-root c = search needs
+
+element-copy-out-root : tie.Need-element-copy-out-root Inv-loop μ-loop
+element-copy-out-root c = search needs
 
 seen-refusal-requires : tie.Need-seen-refusal-requires Inv-loop μ-loop
-seen-refusal-requires c κs six = saw-lt (c .before .before .before .before .before .before .args .b) (sees (c .before) six)
+seen-refusal-requires c κs = search needs
+
+-- what is told once all columns are seen
+told-seen : (c : tie.After-seen-refusal Inv-loop μ-loop) → let l = c .before .before .before .before .before in
+    let a = l .before .before .before .before .args in
+    RefusesBank (c .seen-refusal .result) (a .b) (a .heads .now) × (a .b .tree .columns ≤ 16 → l .loop .v .running ≡ runningOf (a .b))
+told-seen c =
+    let l = c .before .before .before .before .before in
+    let p = l .before .before in
+    let a = p .before .before .args in
+    passing-tells (a .b) (p .places .ensures) (a .heads .now) (l .loop .inv) (omega arith) (c .seen-refusal .ensures)
 
 abbrev start : tie.After-seen-refusal Inv-loop μ-loop → tie.Start Inv-loop μ-loop
-start c = c .before .before .before .before .before .before .before
+start c = c .before .before .before .before .before .before .before .before .before
 
 abbrev given : tie.After-seen-refusal Inv-loop μ-loop → State
 given c = let a = start c .args in state (a .b) (a .heads .now) (a .doors .now)
 
 bank-refused : (c : tie.After-seen-refusal Inv-loop μ-loop) → c .seen-refusal .result ≡ bankRefusal (given c)
-bank-refused c = let a = start c .args in c .seen-refusal .ensures (a .b .columns) (sees (c .before .before)) (a .doors .now)
+bank-refused c = told-seen c .0 (start c .args .doors .now)
 
 sixteen : (c : tie.After-seen-refusal Inv-loop μ-loop) → c .seen-refusal .result ≡ 0 → start c .args .b .tree .columns ≤ 16
 sixteen c z = tree-sixteen (start c .args .b .tree) (stands (given c) (sym (bank-refused c) ∙ z) .tree)
@@ -85,7 +91,7 @@ refusal : (c : tie.After-halt-refusal Inv-loop μ-loop) → c .halt-refusal .res
 refusal c =
     let k = c .before in
     c .halt-refusal .ensures
-    ∙ halting-refusal (given k) (start k .args .m) (bank-refused k) (λ z. sees (k .before .before) (sixteen k z) .running-so)
+    ∙ halting-refusal (given k) (start k .args .m) (bank-refused k) (λ z. told-seen k .1 (sixteen k z))
 
 within : (c : tie.Then1 Inv-loop μ-loop) → let a = start (c .before .before) .args in (a .m < 2 ^ 16) × (a .b .count ≤ 512)
 within c =
@@ -131,6 +137,8 @@ halt-columns-spec =
     add-j
     loop-less
     loop-again
+    mul-root
+    element-copy-out-root
     seen-refusal-requires
     halt-refusal-requires
     vanish-requires

@@ -4,10 +4,10 @@ use mathlib.Core.Path.{_≡_, sym, _∙_}
 use mathlib.Core.List.{[]}
 use native.Mathlib.Omega.{arith}
 use Rattle.column.specs.TreeLaws.{tree-sixteen}
-use Rattle.bank.specs.Banks.{state}
-use Rattle.bank.specs.Standing.{Passing, Saw}
+use Rattle.bank.specs.Banks.{state, runningOf}
+use Rattle.bank.specs.Standing.{Passing, RefusesBank}
 use Rattle.bank.specs.StandingLaws.{stands}
-use Rattle.bank.specs.SurveyLaws.{passing-start, passing-on, passing-end, saw-lt}
+use Rattle.bank.specs.SurveyLaws.{passing-start, passing-on, passing-tells}
 use Rattle.bank.proofs.survey.survey.Statement.{statement}
 use Rattle.bank.proofs.survey.survey.Tie as tie
 
@@ -46,27 +46,32 @@ loop-again c =
     let l = c .before .before .before in
     passing-on (l .before .before .before .before .args .t1) (l .loop .inv) (omega arith) (c .see .ensures)
 
--- all columns are seen
-sees : (c : tie.After-loop Inv-loop μ-loop) → let l = c .before in
-    let b = l .before .before .before .before .args .t1 in
-    b .tree .columns ≤ 16 → Saw (l .loop .v) b (b .tree .columns)
-sees c six =
-    let l = c .before in
-    let p = l .before .before in
-    let over : p .places .result ≤ l .loop .j = omega arith in
-    passing-end (p .before .before .args .t1) (p .places .ensures) (l .loop .inv) over six
+mul-root : tie.Need-mul-root Inv-loop μ-loop
+mul-root c = search needs
+
+element-copy-out-root : tie.Need-element-copy-out-root Inv-loop μ-loop
+element-copy-out-root c = search needs
 
 seen-refusal-requires : tie.Need-seen-refusal-requires Inv-loop μ-loop
-seen-refusal-requires c κs six = saw-lt (c .before .before .before .before .before .args .t1) (sees c six)
+seen-refusal-requires c κs = search needs
+
+-- what is told once all columns are seen
+told-seen : (c : tie.After-seen-refusal Inv-loop μ-loop) → let l = c .before .before .before .before in
+    let a = l .before .before .before .before .args in
+    RefusesBank (c .seen-refusal .result) (a .t1) (a .heads .now) × (a .t1 .tree .columns ≤ 16 → l .loop .v .running ≡ runningOf (a .t1))
+told-seen c =
+    let l = c .before .before .before .before in
+    let p = l .before .before in
+    let a = p .before .before .args in
+    passing-tells (a .t1) (p .places .ensures) (a .heads .now) (l .loop .inv) (omega arith) (c .seen-refusal .ensures)
 
 returns : tie.Need-returns Inv-loop μ-loop
 returns c =
-    let k = c .before in
-    let a = k .before .before .before .before .before .args in
-    let refuses = c .seen-refusal .ensures (a .t1 .columns) (sees k) in
+    let a = c .before .before .before .before .before .before .before .before .args in
+    let t = told-seen c in
     record {
-      refuses = refuses;
-      running-is = λ z. sees k (tree-sixteen (a .t1 .tree) (stands (state (a .t1) (a .heads .now) []) (sym (refuses []) ∙ z) .tree)) .running-so;
+      refuses = t .0;
+      running-is = λ z. t .1 (tree-sixteen (a .t1 .tree) (stands (state (a .t1) (a .heads .now) []) (sym (t .0 []) ∙ z) .tree));
     }
 
 pub survey-spec : {M : Type 1} → statement M
@@ -84,5 +89,7 @@ survey-spec =
     add-j
     loop-less
     loop-again
+    mul-root
+    element-copy-out-root
     seen-refusal-requires
     returns)
