@@ -88,6 +88,10 @@ class Repository(unittest.TestCase):
                    if re.search(r"\b(column::returning|column::effect|unchecked_for_bank|fresh_under)\b", read(path))}
         self.assertEqual({path for path in callers if not path.startswith("column/")}, {"bank/src/bank.rt", "bank/src/dispatch.rt", "bank/src/returning.rt", "bank/src/step.rt"})
 
+    def test_nothing_but_the_script_calls_what_the_bank_leaves_untested(self):
+        callers = {os.path.relpath(path, os.path.join(ROOT, "crates")) for path in sources("*/src/*.rt") if "unchecked_for_script::" in read(path)}
+        self.assertEqual(callers, {"closing/src/answer.rt", "closing/src/script.rt", "closing/src/whole_line.rt"})
+
     def test_no_module_rests_on_one_that_rests_on_it(self):
         for crate in CRATES:
             below = {os.path.basename(path)[:-3]: set(re.findall(r"^use crate::(\w+)", read(path), re.M)) for path in sources(f"{crate}/src/*.rt")}

@@ -49,6 +49,8 @@ pub mod ChangeLaws
 pub mod Moves
 pub mod SetsWordLaws
 pub mod HeadLaws
+pub mod Parts
+pub mod PartLaws
 pub mod SurveyLaws
 pub mod ReadyTurn
 pub mod ReadyLaws

@@ -12,4 +12,5 @@ pub mod step;
 mod strip;
 mod survey;
 mod turn;
+pub mod unchecked_for_script;
 mod words;

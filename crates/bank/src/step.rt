@@ -103,7 +103,7 @@ fn taken(
 }
 
 // What the step x makes of column i, which is c, and of the network, in a bank that stands.
-fn change(
+pub(crate) fn change(
     t: Tree,
     running: u16,
     x: Step,

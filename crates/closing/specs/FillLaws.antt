@@ -2,7 +2,7 @@
 -- Assumes nothing.
 use Prim.Native.Nat.{ℕ, zero, suc, _+_, _-_, _≤_, _<_}
 use native.Mathlib.Omega.{arith}
-use mathlib.Core.Path.{_≡_, refl, sym, ap, ap₂, _∙_}
+use mathlib.Core.Path.{_≡_, refl, sym, ap, ap₂, subst, _∙_}
 use mathlib.Core.Logic.{_⊎_, inl, inr}
 use mathlib.Core.Bool.{Bool, true, false, cond, _||_}
 use mathlib.Core.List.{List, [], _++_}
@@ -137,6 +137,12 @@ Carries input s₀ position₀ at₀ out₀ s position at out =
     (old text : List ℕ) → Writes at₀ out₀ old 0 text → length out₀ ≡ length old
     → Carried input (progress s₀ position₀ true false text) s position at out old
 
+-- the run q goes on from r until the buffer is filled or all lines are read
+pub record Reaches (q : Run) (heads doors out input : List ℕ) (r : Run) (s : State) (before : List ℕ) : Type 0 where
+  pub run-is : q ≡ runTo (q .bank) (q .position) false (q .length)
+  pub carries : Carries input s (r .position) (r .length) before (state (q .bank) heads doors) (q .position) (q .length) out
+  pub all-read : q .length ≤ room → length input ≤ q .position
+
 -- the run q goes on from r until the buffer is filled
 abbrev pub Fills : Run → List ℕ → List ℕ → List ℕ → List ℕ → Run → State → List ℕ → Type 0
 Fills q heads doors out input r s before =
@@ -198,6 +204,19 @@ module _ {input : List ℕ} {p : Progress} {s : State} {position at : ℕ} {out 
       ∙ filled-full input (mostTexts input) here (omega (arith, size, full))
       ∙ ap (λ (m : State). progress m position true false (c .text)) is in
       rw same (text-advanced (c .text) (c .left))
+
+-- ---- after the lines
+
+module _ {q : Run} {heads doors out input : List ℕ} {r : Run} {s : State} {before : List ℕ} (k : Reaches q heads doors out input r s before) where
+  pub reaches-full : room < q .length → Fills q heads doors out input r s before
+  reaches-full full old text w same =
+      subst (λ (p : Run). Advanced p heads doors out old (filled (mostTexts input) input (progress s (r .position) true false text))) (sym (k .run-is))
+      (carried-full (k .carries old text w same) refl full)
+
+  pub reaches-rest : {new : List ℕ} {n : ℕ} → q .length ≤ room → length new ≡ length before → q .length ≤ length out
+      → Writes n new out (q .length) (restText (state (q .bank) heads doors)) → Fills (runTo (q .bank) (q .position) true n) heads doors new input r s before
+  reaches-rest fits kept within rest old text w same =
+      carried-rest (k .carries old text w same) refl (k .all-read fits) fits (kept ∙ same) within rest
 
 -- ---- a call, by how far the run has come
 

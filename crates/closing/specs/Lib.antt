@@ -20,6 +20,7 @@ pub mod Scripts
 pub mod Advances
 pub mod AdvanceLaws
 pub mod ScriptLaws
+pub mod PlaceLines
 pub mod ScriptExamples
 pub mod FillLaws
 pub mod Printing

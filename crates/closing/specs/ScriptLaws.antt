@@ -27,7 +27,7 @@ use Rattle.closing.specs.Writing.{Writes, written-taken, writes-within}
 use Rattle.closing.specs.Tables.{Cut, ended, unended, cut, Table, tableOf, treeIn, countListed, countedConditions, tableRefusal, Placed, placedAt, noTree, judged, readTable}
 use Rattle.closing.specs.Cutting.{Found, line-ended, line-unended, line-length}
 use Rattle.closing.specs.Lines.{commandOf, lineMeant}
-use Rattle.closing.specs.Scripts.{limit, Printed, printed, answered, refusedText, stepText, stepsText, dispatchText, dispatchPrinted, listedText}
+use Rattle.closing.specs.Scripts.{limit, Printed, printed, answered, refusedText, stepText, stepsText, dispatchText, dispatchPrinted}
 use Rattle.closing.specs.declared.script.Run.{Run}
 use Rattle.closing.specs.declared.script.NextLine.{NextLine}
 use Rattle.closing.specs.Advances.{Progress, progress, progressOf, Advanced, tableAdvance, firstAdvance, lineAdvance}
@@ -47,10 +47,6 @@ WritesStep r new old at answer = (s : State) → Writes r new old at (stepText (
 -- the text of a dispatch, whatever the bank after it
 abbrev pub WritesDispatch : ℕ → List ℕ → List ℕ → ℕ → ℕ → Answer → Type 0
 WritesDispatch r new old at taken answer = (s : State) → Writes r new old at (dispatchText taken (steps.answered answer s))
-
--- the text of a list, whatever doors the packets carry
-abbrev pub WritesListed : ℕ → List ℕ → List ℕ → ℕ → Bank → List ℕ → ℕ → Type 0
-WritesListed r new old at b heads i = (doors : List ℕ) → Writes r new old at (listedText (state b heads doors) i)
 
 -- the advance of the line that begins where the run has come to
 abbrev pub nextLine : List ℕ → Progress → Progress

@@ -1,4 +1,5 @@
 // The closing list of a column, and a script that runs a bank.
+mod answer;
 mod hexadecimal;
 pub mod line;
 pub mod list;
@@ -10,3 +11,4 @@ pub mod script;
 pub mod table;
 mod text;
 mod three_lines;
+mod whole_line;

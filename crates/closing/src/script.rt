@@ -1,20 +1,24 @@
 // A script's run: the table's answer, then each line's, last whether the bank is at rest. A caller lends a buffer, prints the texts that were
 // written into it and lends it again, so that no buffer bounds what a script prints.
+use crate::answer::put_column;
+use crate::answer::put_refused;
+use crate::answer::put_step;
 use crate::line::Line;
 use crate::line::parse;
 use crate::list::LONGEST;
-use crate::list::list_refusal;
-use crate::list::put_list;
 use crate::table::read_table;
 use crate::text::put_all;
-use crate::text::put_field;
+use crate::whole_line::by_place;
+use crate::whole_line::whole_line;
 use bank::bank::Answer;
 use bank::bank::Bank;
 use bank::bank::NO_COLUMN;
 use bank::bank::fresh;
-use bank::dispatch::dispatch;
 use bank::rest::at_rest;
-use bank::step::perform;
+use bank::unchecked_for_script::acting;
+use bank::unchecked_for_script::step_on;
+use bank::unchecked_for_script::test_bank;
+use bank::unchecked_for_script::untested;
 use bytes::scan::find;
 use column::tree::ASCENDING;
 use column::tree::Tree;
@@ -23,11 +27,11 @@ ghost use mathlib.Core.Path.{_≡_};
 ghost use lib.ListN.{length};
 ghost use Rattle.bank.specs.Banks.{state};
 ghost use Rattle.closing.specs.Closing.{longestList};
-ghost use Rattle.closing.specs.Scripts.{refusedText, stepsText, restText};
+ghost use Rattle.closing.specs.Scripts.{restText};
 ghost use Rattle.closing.specs.Advances.{progressOf, startRun, Advanced, bufferSize, fill};
 ghost use Rattle.closing.specs.Writing.{Writes};
-ghost use Rattle.closing.specs.ScriptLaws.{WritesStep, WritesDispatch, WritesListed, ReadsLine, AdvancedFirst, runTo};
-ghost use Rattle.closing.specs.FillLaws.{Fills};
+ghost use Rattle.closing.specs.ScriptLaws.{ReadsLine, AdvancedFirst, runTo};
+ghost use Rattle.closing.specs.FillLaws.{Reaches, Fills};
 
 // The longest input that is read.
 pub const LIMIT: usize = 65536;
@@ -35,6 +39,9 @@ pub const LIMIT: usize = 65536;
 pub const BUFFER: usize = 16384;
 // Up to here the longest text fits.
 const ROOM: usize = BUFFER - LONGEST;
+
+// The words of a network.
+type Words = [u64; 512];
 
 pub struct Run {
     pub bank: Bank,
@@ -67,13 +74,6 @@ fn run_to(bank: Bank, position: usize, over: bool, length: usize) -> Run
     }
 }
 
-fn put_refused(out: &mut [u8], at: usize, n: u8) -> usize
-    requires { ⌜ at + longestList ≤ length (now out) ⌝ }
-    ensures { λ r. ⌜ Writes r (now (out .exit)) (now (out .entry)) at (refusedText n) ⌝ }
-{
-    put_field(out, at, b"refused=", n as u64)
-}
-
 fn put_rest(b: Bank, heads: &[u64; 512], doors: &[u64; 512], out: &mut [u8], at: usize) -> usize
     requires { ⌜ at + longestList ≤ length (now out) ⌝ }
     ensures { λ r. ⌜ Writes r (now (out .exit)) (now (out .entry)) at (restText (state b (now (heads .entry)) (now (doors .entry)))) ⌝ }
@@ -82,45 +82,6 @@ fn put_rest(b: Bank, heads: &[u64; 512], doors: &[u64; 512], out: &mut [u8], at:
         return put_all(out, at, b"rest=yes\n");
     }
     put_all(out, at, b"rest=no\n")
-}
-
-fn put_step(answer: Answer, out: &mut [u8], at: usize) -> usize
-    requires { ⌜ at + longestList ≤ length (now out) ⌝ }
-    ensures { λ r. ⌜ WritesStep r (now (out .exit)) (now (out .entry)) at answer ⌝ }
-{
-    match answer {
-        Answer::Done => put_all(out, at, b"step=ok\n"),
-        Answer::Refused(n) => put_refused(out, at, n),
-    }
-}
-
-fn put_steps(steps: usize, out: &mut [u8], at: usize) -> usize
-    requires { ⌜ at + longestList ≤ length (now out) ⌝ }
-    ensures { λ r. ⌜ Writes r (now (out .exit)) (now (out .entry)) at (stepsText steps) ⌝ }
-{
-    let end = put_field(out, at, b"steps=", steps as u64);
-    put_all(out, end, b"step=ok\n")
-}
-
-fn put_dispatched(answer: Answer, steps: usize, out: &mut [u8], at: usize) -> usize
-    requires { ⌜ at + longestList ≤ length (now out) ⌝ }
-    ensures { λ r. ⌜ WritesDispatch r (now (out .exit)) (now (out .entry)) at steps answer ⌝ }
-{
-    match answer {
-        Answer::Done => put_steps(steps, out, at),
-        Answer::Refused(n) => put_refused(out, at, n),
-    }
-}
-
-fn put_listed(b: Bank, i: usize, heads: &[u64; 512], out: &mut [u8], at: usize) -> usize
-    requires { ⌜ at + longestList ≤ length (now out) ⌝ }
-    ensures { λ r. ⌜ WritesListed r (now (out .exit)) (now (out .entry)) at b (now (heads .entry)) i ⌝ }
-{
-    let n = list_refusal(b, i, heads);
-    if n != 0 {
-        return put_refused(out, at, n);
-    }
-    put_list(out, at, i, b.columns[i])
 }
 
 // The line that begins at `start`; a last piece without byte 10 is none of them.
@@ -140,46 +101,60 @@ fn next_line(input: &[u8], start: usize) -> NextLine
     NextLine { line, next }
 }
 
-// After the table. The bank is a local all through the lines, so that a line that changes nothing copies nothing.
-fn later(
-    r: Run,
-    input: &[u8],
-    heads: &mut [u64; 512],
-    doors: &mut [u64; 512],
-    out: &mut [u8],
-) -> Run
+// The next lines, until all are read or the buffer is full. The bank is a local all through them. It is tested where a line that goes by place follows one that
+// does not, and after the others what they can have changed.
+fn lines(r: Run, input: &[u8], heads: &mut Words, doors: &mut Words, out: &mut [u8]) -> Run
     requires { ⌜ bufferSize ≤ length (now out) ⌝ }
-    ensures { λ q. ⌜ Fills q (now (heads .exit)) (now (doors .exit)) (now (out .exit)) (now (input .entry)) r (state (r .bank) (now (heads .entry)) (now (doors .entry))) (now (out .entry)) ⌝ }
+    ensures { λ q. ⌜ Reaches q (now (heads .exit)) (now (doors .exit)) (now (out .exit)) (now (input .entry)) r (state (r .bank) (now (heads .entry)) (now (doors .entry))) (now (out .entry)) ⌝ }
 {
     let mut bank = r.bank;
     let mut position = r.position;
     let mut at = r.length;
-    while at <= ROOM {
-        if input.len() <= position {
-            at = put_rest(bank, heads, doors, out, at);
-            return run_to(bank, position, true, at);
-        }
+    let mut v = untested();
+    while (at <= ROOM) & (position < input.len()) {
         let read = next_line(input, position);
         position = read.next;
         let line = read.line;
-        match line {
-            Line::Perform(x) => {
-                let done = perform(bank, x, heads, doors);
-                let answer = done.answer;
-                at = put_step(answer, out, at);
-                bank = done.bank;
+        if !by_place(line) {
+            let done = whole_line(bank, line, heads, doors, out, at);
+            bank = done.bank;
+            at = done.end;
+            v = untested();
+        } else {
+            if !v.known {
+                v = test_bank(bank, heads);
             }
-            Line::Dispatch(limit) => {
-                let done = dispatch(bank, limit, heads, doors);
-                let answer = done.answer;
-                at = put_dispatched(answer, done.steps, out, at);
-                bank = done.bank;
+            let t = bank.tree;
+            match line {
+                Line::Perform(x) => {
+                    let i = acting(t, x, heads);
+                    let done = step_on(v, t, x, i, bank.columns[i % 16], bank.count, heads, doors);
+                    let c = done.column;
+                    bank.columns[i % 16] = c;
+                    bank.count = done.count;
+                    v.refusal = done.refusal;
+                    let answer = done.answer;
+                    at = put_step(answer, out, at);
+                }
+                Line::List(i) => at = put_column(v, t.columns, i, bank.columns[i % 16], out, at),
+                Line::Dispatch(_) | Line::Unread => at = put_refused(out, at, 13),
             }
-            Line::List(i) => at = put_listed(bank, i, heads, out, at),
-            Line::Unread => at = put_refused(out, at, 13),
         }
     }
     run_to(bank, position, false, at)
+}
+
+// After the table.
+fn later(r: Run, input: &[u8], heads: &mut Words, doors: &mut Words, out: &mut [u8]) -> Run
+    requires { ⌜ bufferSize ≤ length (now out) ⌝ }
+    ensures { λ q. ⌜ Fills q (now (heads .exit)) (now (doors .exit)) (now (out .exit)) (now (input .entry)) r (state (r .bank) (now (heads .entry)) (now (doors .entry))) (now (out .entry)) ⌝ }
+{
+    let run = lines(r, input, heads, doors, out);
+    if ROOM < run.length {
+        return run;
+    }
+    let at = put_rest(run.bank, heads, doors, out, run.length);
+    run_to(run.bank, run.position, true, at)
 }
 
 fn first(r: Run, input: &[u8], out: &mut [u8]) -> Run

@@ -6,8 +6,8 @@ use Rattle.closing.specs.Text.{stepsKey, stepOk, field}
 use Rattle.closing.specs.Scripts.{stepsText}
 use Rattle.closing.specs.ScriptLaws.{steps-length}
 use Rattle.closing.specs.Writing.{room-first, room-rest, writes-more}
-use Rattle.closing.proofs.script.put_steps.Statement.{statement}
-use Rattle.closing.proofs.script.put_steps.Tie as tie
+use Rattle.closing.proofs.answer.put_steps.Statement.{statement}
+use Rattle.closing.proofs.answer.put_steps.Tie as tie
 
 room : (s : tie.Start) → s .args .at + length (stepsText (s .args .steps)) ≤ length (s .args .out .now)
 room s = omega (arith, s .pre, steps-length (s .args .steps) (s .fits .steps .fits))

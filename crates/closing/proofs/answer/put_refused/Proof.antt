@@ -1,8 +1,8 @@
 use borrow.Author.Needs.{needs}
 use native.Mathlib.Omega.{arith}
 use Rattle.closing.specs.ScriptLaws.{refused-length}
-use Rattle.closing.proofs.script.put_refused.Statement.{statement}
-use Rattle.closing.proofs.script.put_refused.Tie as tie
+use Rattle.closing.proofs.answer.put_refused.Statement.{statement}
+use Rattle.closing.proofs.answer.put_refused.Tie as tie
 
 slice-aggregate-put-field : tie.Need-slice-aggregate-put-field
 slice-aggregate-put-field c = search needs

@@ -1,13 +1,16 @@
 use borrow.Author.Needs.{needs}
-use Rattle.closing.specs.Scripts.{dispatchText}
-use Rattle.closing.proofs.script.put_dispatched.Statement.{statement}
-use Rattle.closing.proofs.script.put_dispatched.Tie as tie
+use Rattle.closing.specs.Scripts.{stepText}
+use Rattle.closing.proofs.answer.put_step.Statement.{statement}
+use Rattle.closing.proofs.answer.put_step.Tie as tie
 
 enum-told : tie.Need-enum-told
 enum-told c = search needs
 
-put-steps-requires : tie.Need-put-steps-requires
-put-steps-requires c κs = search needs
+slice-aggregate-put-all : tie.Need-slice-aggregate-put-all
+slice-aggregate-put-all c = search needs
+
+put-all-requires : tie.Need-put-all-requires
+put-all-requires c κs = search needs
 
 enum-known-answer : tie.Need-enum-known-answer
 enum-known-answer c = search needs
@@ -19,26 +22,27 @@ same-length : tie.Need-same-length
 same-length c = search needs
 
 returns : tie.Need-returns
-unfolding dispatchText
+unfolding stepText
 returns c s =
     let p = c .before .before in
-    rw (p .before .before .enum-told .given .1) (p .put-steps .ensures)
+    rw (p .before .before .before .enum-told .given .1) (p .put-all .ensures)
 
 same-length-2 : tie.Need-same-length-2
 same-length-2 c = search needs
 
 returns-2 : tie.Need-returns-2
-unfolding dispatchText
+unfolding stepText
 returns-2 c s =
     let p = c .before .before in
     rw (p .before .before .before .answer .given .1) (p .put-refused .ensures)
 
-pub put-dispatched-spec : {M : Type 1} → statement M
-put-dispatched-spec =
+pub put-step-spec : {M : Type 1} → statement M
+put-step-spec =
     tie.close
     (tie.spec
     enum-told
-    put-steps-requires
+    slice-aggregate-put-all
+    put-all-requires
     enum-known-answer
     put-refused-requires
     same-length

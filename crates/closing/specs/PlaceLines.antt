@@ -1,0 +1,67 @@
+-- The lines of a script that rewrite the place of one column at most, for a caller that has tested its bank. Assumes nothing.
+use Prim.Native.Nat.{ℕ, _%_, _≤_, _<_}
+use mathlib.Core.Path.{_≡_, sym, ap, subst, _∙_}
+use mathlib.Core.Bool.{Bool, true, false, not}
+use mathlib.Core.List.{List}
+use native.Mathlib.Omega.{arith}
+use borrow.Author.Tests.{eq-eqb, ne-eqb, le-leb, lt-leb}
+use Rattle.column.specs.TreeLaws.{tree-sixteen}
+use Rattle.column.specs.declared.state.Column.{Column}
+use Rattle.bank.specs.Banks.{State, state, columnAt, runs, bankRefusal}
+use Rattle.bank.specs.StandingLaws.{stands}
+use Rattle.bank.specs.Moves.{isMove}
+use Rattle.bank.specs.Parts.{Tells}
+use Rattle.bank.specs.declared.bank.Bank.{Bank}
+use Rattle.bank.specs.declared.unchecked_for_script.Tested.{Tested}
+use Rattle.closing.specs.Closing.{listText, listRefusal}
+use Rattle.closing.specs.Scripts.{refusedText, listedText}
+use Rattle.closing.specs.Writing.{Writes}
+use Rattle.closing.specs.declared.line.Line.{Line}
+use Rattle.closing.specs.declared.line.Line.the-variants as line-is
+
+abbrev pub byPlace : Line → Bool
+byPlace (line-is.Perform x) = isMove x
+byPlace (line-is.List i) = true
+byPlace (line-is.Dispatch limit) = false
+byPlace line-is.Unread = true
+
+-- the text of a list, of every bank of which v tells and whose place is c
+abbrev pub WritesColumn : ℕ → List ℕ → List ℕ → ℕ → Tested → ℕ → ℕ → Column → Type 0
+WritesColumn r new old at v columns i c =
+    (s : State) → Tells v s → s .bank .tree .columns ≡ columns → columnAt (s .bank) (i % 16) ≡ c → Writes r new old at (listedText s i)
+
+-- ---- which text it is
+
+pub same-text : {r at : ℕ} {new old w w' : List ℕ} → w ≡ w' → Writes r new old at w → Writes r new old at w'
+same-text {r} {at} {new} {old} e = subst (λ (w : List ℕ). Writes r new old at w) e
+
+module _ (s : State) (i : ℕ) where
+  pub listed-bank : {n : ℕ} → n ≡ bankRefusal s → (n ≡ 0 → ⊥) → refusedText n ≡ listedText s i
+  listed-bank {n} e some =
+      let other : bankRefusal s ≡ 0 → ⊥ = λ z. some (e ∙ z) in
+      ap refusedText e ∙ sym (simp (ne-eqb (bankRefusal s) 0 other))
+
+  module _ (good : bankRefusal s ≡ 0) where
+    pub listed-none : s .bank .tree .columns ≤ i → refusedText 4 ≡ listedText s i
+    listed-none h = sym (simp (eq-eqb (bankRefusal s) 0 good, le-leb (s .bank .tree .columns) i h))
+
+    module _ (below : i < s .bank .tree .columns) where
+      here : i % 16 ≡ i
+      here = omega (arith, below, tree-sixteen (s .bank .tree) (stands s good .tree))
+
+      module _ (c : Column) (place : columnAt (s .bank) (i % 16) ≡ c) where
+        at-place : columnAt (s .bank) i ≡ c
+        at-place = ap (columnAt (s .bank)) (sym here) ∙ place
+
+        running-is : (b : Bool) → c .running ≡ b → runs (s .bank) i ≡ b
+        running-is b e = ap (λ (d : Column). d .running) at-place ∙ e
+
+        pub listed-halted : c .running ≡ false → refusedText 5 ≡ listedText s i
+        listed-halted e =
+            sym (simp (eq-eqb (bankRefusal s) 0 good, lt-leb (s .bank .tree .columns) i below, running-is false e))
+
+        pub listed-runs : c .running ≡ true → listText (i % 16) c ≡ listedText s i
+        listed-runs e =
+            ap (λ (k : ℕ). listText k c) here
+            ∙ ap (listText i) (sym at-place)
+            ∙ sym (simp (eq-eqb (bankRefusal s) 0 good, lt-leb (s .bank .tree .columns) i below, running-is true e))
