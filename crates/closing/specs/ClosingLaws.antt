@@ -1,6 +1,6 @@
 -- How long a closing list can be, what its writer leaves of the whole buffer, and lists in full.
 -- Assumes nothing.
-use Prim.Native.Nat.{ℕ, _+_, _^_, _-_, _≤_, _<_}
+use Prim.Native.Nat.{ℕ, _+_, suc, _^_, _-_, _≤_, _<_}
 use mathlib.Core.Path.{_≡_, refl, ap, _∙_}
 use mathlib.Core.Bool.{true, false, not}
 use mathlib.Core.Logic.{⊎-elim}
@@ -24,18 +24,26 @@ use Rattle.closing.specs.DoorLaws.{doors-length}
 use Rattle.closing.specs.Writing.{written-part}
 use Rattle.closing.specs.Closing.{longestList, doorsUpTo, moreDivided, divided, listText, listRefusal, Listed, placed}
 
--- "the longest list is 229": two digits of the column, ten of the number, two of the count, and all doors
-pub list-longest : (i : ℕ) (c : Column) → i < 16 → c .number ≤ highest → c .doors < 2 ^ 64 → length (listText i c) ≤ longestList
+-- with a number of k + 1 digits: ten digits of the order's number, two of the count, and all doors
+list-of-digits : (k i : ℕ) (c : Column) → i < 10 ^ suc k → c .number ≤ highest → c .doors < 2 ^ 64 → length (listText i c) ≤ 228 + k
 unfolding listText
-list-longest i c h n d =
+list-of-digits k i c h n d =
     simp length-append
     (omega (
       arith,
-      decimal-length 20 1 i (omega arith),
+      decimal-length 20 k i h,
       decimal-length 20 9 (c .number) (omega arith),
       decimal-length 20 1 (ones (c .doors)) (omega (arith, ones-le 64 (c .doors) d)),
       doors-length (c .doors) 64 (omega arith),
     ))
+
+-- "the longest list is 229": a column's number has two digits at most
+pub list-longest : (i : ℕ) (c : Column) → i < 16 → c .number ≤ highest → c .doors < 2 ^ 64 → length (listText i c) ≤ longestList
+list-longest i c h n d = list-of-digits 1 i c (omega (arith, h)) n d
+
+-- the list of any number of 64 bits
+pub list-of-any : (i : ℕ) (c : Column) → i < 2 ^ 64 → c .number ≤ highest → c .doors < 2 ^ 64 → length (listText i c) ≤ longestList + 18
+list-of-any i c h n d = list-of-digits 19 i c (omega (arith, h)) n d
 
 -- a column that acts is one of sixteen
 pub acting-sixteen : (s : State) (i : ℕ) → actingRefusal s i ≡ 0 → i < 16

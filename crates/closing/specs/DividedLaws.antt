@@ -1,7 +1,7 @@
 -- Numbers divided by commas, one after the other, and how long their text is. Assumes nothing.
 use Prim.Native.Nat.{ℕ, zero, suc, _+_, _-_, _*_, _≤_, _<_}
 use mathlib.Core.Path.{_≡_, refl, sym, ap, _∙_}
-use mathlib.Core.Bool.{Bool, cond}
+use mathlib.Core.Bool.{Bool, true, false, cond}
 use mathlib.Core.List.{List, [], _∷_, _++_, append-assoc, append-nil}
 use native.Mathlib.Nat.{add-zero}
 use native.Mathlib.Numerals.{add-one}
@@ -20,6 +20,10 @@ use Rattle.closing.specs.Closing.{moreDivided, divided}
 abbrev pub nextText : Bool → ℕ → List ℕ
 nextText first n = cond first (decimal n) (comma ∷ decimal n)
 
+pub next-some : (first : Bool) (n : ℕ) → 0 < length (nextText first n)
+next-some true n = decimal-some n
+next-some false n = omega arith
+
 -- nothing is written yet
 abbrev pub none : List ℕ → Bool
 none l = eqb (length (divided l)) 0
@@ -37,11 +41,6 @@ divided-last (e ∷ l) d =
     rw (ne-eqb (length (decimal e ++ moreDivided l)) 0 some, more-last l d)
     (sym (append-assoc (decimal e) (moreDivided l) (comma ∷ decimal d)))
 
--- whether a place moved on is whether something was written
-pub moved : (at n : ℕ) → eqb (at + n) at ≡ eqb n 0
-moved at zero = eq-eqb (at + 0) at (add-zero at)
-moved at (suc n) = ne-eqb (at + suc n) at (λ e. omega arith) ∙ sym (eqb·suc-zero n)
-
 -- ---- the first numbers of a list
 
 pub taken-none : (l : List ℕ) → divided (take 0 l) ≡ []
@@ -52,18 +51,14 @@ pub taken-more : (l : List ℕ) (j : ℕ) → j < length l
     → divided (take (j + 1) l) ≡ divided (take j l) ++ nextText (none (take j l)) (getD l j 0)
 taken-more l j h = rw (add-one j, take-suc l j 0 h) (divided-last (take j l) (getD l j 0))
 
--- the first j take no more room than all
-pub taken-grow : (l : List ℕ) (j k : ℕ) → j + k ≤ length l → length (divided (take j l)) ≤ length (divided (take (j + k) l))
-taken-grow l j zero h = let e : j + 0 ≡ j = omega arith in omega (arith, ap (λ n. length (divided (take n l))) e)
-taken-grow l j (suc k) h =
-    let e : j + suc k ≡ j + k + 1 = omega arith in
-    omega (
-      arith,
-      taken-grow l j k (omega arith),
-      ap (λ n. length (divided (take n l))) e,
-      ap length (taken-more l (j + k) (omega arith)),
-      length-append (divided (take (j + k) l)) (nextText (none (take (j + k) l)) (getD l (j + k) 0)),
-    )
+-- nothing stands before the first of them, and something before each other
+pub taken-first : (l : List ℕ) (j : ℕ) → j ≤ length l → none (take j l) ≡ eqb j 0
+unfolding divided
+taken-first l zero h = refl
+taken-first [] (suc j) h = absurd (omega arith)
+taken-first (n ∷ l) (suc j) h =
+    let rest = moreDivided (take j l) in
+    ne-eqb (length (decimal n ++ rest)) 0 (λ z. omega (arith, z, decimal-some n, length-append (decimal n) rest)) ∙ sym (eqb·suc-zero j)
 
 -- ---- columns, of which each takes two digits at most
 

@@ -12,7 +12,7 @@ use lib.Count.{ones, ones-step, ones-le}
 use lib.Dec.{eqb, ltb}
 use lib.ListN.{length, length-append}
 use lib.Pow.{shr-shr, shr-le}
-use borrow.Author.Tests.{eqb-true, eqb-false, ltb-true, ltb-false}
+use borrow.Author.Tests.{eqb-true, eqb-false, ne-eqb, ltb-true, ltb-false}
 use Rattle.column.specs.Cases.{truth, equal-cases}
 use Rattle.column.specs.Sets.{has, lowestIn}
 use Rattle.column.specs.Digits.{true-has, false-has}
@@ -21,7 +21,7 @@ use Rattle.column.specs.LowestLaws.{lowest-none, lowest-member}
 use Rattle.closing.specs.Text.{comma, decimal}
 use Rattle.closing.specs.DecimalLaws.{decimal-length}
 use Rattle.closing.specs.Closing.{doorsUpTo, divided}
-use Rattle.closing.specs.DividedLaws.{nextText, none, divided-last}
+use Rattle.closing.specs.DividedLaws.{nextText, next-some, none, divided-last}
 
 -- ---- the text of the doors, door by door
 
@@ -90,23 +90,22 @@ module _ (doors n : ℕ) (rest : ℕ) (is : rest ≡ doors / 2 ^ n) where
         ∙ ap (λ b. divided (doorsUpTo (n + free) doors) ++ cond b (nextText (noneBefore doors (n + free)) (n + free + 1)) []) occupied
         ∙ ap (λ l. divided l ++ nextText (none l) (n + free + 1)) same)
 
+    -- from here on something is written
+    pub some-before : noneBefore doors (n + (free + 1)) ≡ false
+    some-before =
+        ne-eqb (length (divided (doorsUpTo (n + (free + 1)) doors))) 0
+        (λ z. omega (
+          arith,
+          z,
+          ap length doors-next,
+          length-append (divided (doorsUpTo n doors)) (nextText (noneBefore doors n) (n + (free + 1))),
+          next-some (noneBefore doors n) (n + (free + 1)),
+        ))
+
     pub rest-next : rest / 2 ^ free / 2 ^ 1 ≡ doors / 2 ^ (n + (free + 1))
     rest-next = shr-shr rest free 1 ∙ ap (λ k. k / 2 ^ (free + 1)) is ∙ shr-shr doors n (free + 1)
 
 -- ---- how long the text is
-
-pub doors-grow : (doors n k : ℕ) → length (divided (doorsUpTo n doors)) ≤ length (divided (doorsUpTo (n + k) doors))
-doors-grow doors n zero = rw (add-zero n) (omega arith)
-doors-grow doors n (suc k) =
-    let step = ap length (doors-more doors (n + k)) in
-    let one : n + k + 1 ≡ n + suc k = omega arith in
-    rw (← one)
-    (omega (
-      arith,
-      doors-grow doors n k,
-      step,
-      length-append (divided (doorsUpTo (n + k) doors)) (doorText (noneBefore doors (n + k)) doors (n + k)),
-    ))
 
 door-length : (first : Bool) (doors n k : ℕ) → n + 1 < 10 ^ suc k → length (doorText first doors n) ≤ cond first (suc k) (suc (suc k))
 unfolding doorText

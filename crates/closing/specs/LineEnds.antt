@@ -1,17 +1,12 @@
 -- Where the first three lines of a text end, as the search for them answers it. Assumes nothing.
 use Prim.Native.Nat.{ℕ, _+_, _-_, _<_}
 use mathlib.Core.Path.{_≡_, sym, ap, subst, _∙_}
-use mathlib.Core.Logic.{_≢_}
 use mathlib.Core.List.{List}
 use native.Mathlib.Omega.{arith}
-use lib.ListN.{length, take, drop, length-drop}
-use borrow.Author.Tests.{eq-eqb, ne-eqb}
-use Rattle.bank.specs.Steps.{refused}
-use Rattle.closing.specs.Text.{columnsKey, delayKey, gapKey, newline, Reading, read, unread}
-use Rattle.closing.specs.Tables.{keyed, ThreeLines, thirdLine, secondLine, firstLine, threeLines, tableIn, noTree, judged, readTable}
-use Rattle.closing.specs.TableLaws.{linesJudged}
-use Rattle.closing.specs.Requests.{asked, requestIn, requestOf}
-use Rattle.closing.specs.Cutting.{Found, line-ended, line-unended, line-length}
+use lib.ListN.{length, take, drop}
+use Rattle.closing.specs.Text.{newline, Reading, read, unread}
+use Rattle.closing.specs.Tables.{ThreeLines, thirdLine, secondLine, firstLine, threeLines}
+use Rattle.closing.specs.Cutting.{Found, line-ended, line-unended}
 use Rattle.closing.specs.declared.three_lines.LineEnds.{LineEnds}
 use Rattle.closing.specs.declared.three_lines.LineEnds.the-variants as ends
 
@@ -60,41 +55,11 @@ module _ (s : List ℕ) (one : ℕ) (f : Found newline s 0 one) where
       three-found n =
           rw (line-ended s 0 one (omega arith) f l, line-ended s (one + 1) two (omega (arith, l)) g m, line-ended s (two + 1) three (omega (arith, m)) h n)
 
--- ---- what is read of the lines
+-- ---- what the search found, as the lines
 
 module _ {r : LineEnds} (s : List ℕ) (f : endsMeant r s ≡ threeLines s) where
-  module _ (e : r ≡ ends.Fewer) where
-    no-lines : threeLines s ≡ unread
-    no-lines = sym f ∙ ap (λ (x : LineEnds). endsMeant x s) e
+  pub no-lines : r ≡ ends.Fewer → threeLines s ≡ unread
+  no-lines e = sym f ∙ ap (λ (x : LineEnds). endsMeant x s) e
 
-    pub request-fewer : requestOf s ≡ unread
-    unfolding requestIn
-    request-fewer = rw no-lines
-
-    pub table-fewer : readTable s ≡ refused 1 noTree
-    unfolding tableIn judged
-    table-fewer = rw no-lines
-
-  module _ {one two three : ℕ} (e : r ≡ ends.At one two three) (up : Rising r s) where
-    lines-are : threeLines s ≡ read (linesAt s one two three)
-    lines-are = sym f ∙ ap (λ (x : LineEnds). endsMeant x s) e
-
-    pub request-longer : three + 1 ≢ length s → requestOf s ≡ unread
-    unfolding requestIn
-    request-longer n =
-        rw (lines-are, ne-eqb (length (drop (three + 1) s)) 0 (λ z. omega (arith, z, n, length-drop (three + 1) s, as-rising s e up .2)))
-
-    pub request-whole : three + 1 ≡ length s
-        → requestOf s ≡ asked (keyed columnsKey 2 (linesAt s one two three .one)) (keyed delayKey 3 (linesAt s one two three .two))
-        (keyed gapKey 3 (linesAt s one two three .three))
-    unfolding requestIn
-    request-whole n = rw (lines-are, eq-eqb (length (drop (three + 1) s)) 0 (omega (arith, length-drop (three + 1) s, n)))
-
-    pub table-found : let l = linesAt s one two three in readTable s ≡ linesJudged (l .one) (l .two) (l .three) (l .rest) (three + 1)
-    unfolding tableIn
-    table-found =
-        let l = linesAt s one two three in
-        let h = as-rising s e up in
-        let size : length (l .one) + 1 + (length (l .two) + 1) + (length (l .three) + 1) ≡ three + 1 =
-        omega (arith, h .0, h .1, line-length s 0 one (omega (arith, h .0, h .1, h .2)), line-length s (one + 1) two (omega (arith, h .1, h .2)), line-length s (two + 1) three (omega (arith, h .2))) in
-        rw (lines-are, size)
+  pub lines-are : {one two three : ℕ} → r ≡ ends.At one two three → threeLines s ≡ read (linesAt s one two three)
+  lines-are e = sym f ∙ ap (λ (x : LineEnds). endsMeant x s) e

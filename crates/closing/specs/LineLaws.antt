@@ -11,7 +11,7 @@ use lib.ListN.{length, getD, take, drop}
 use lib.Seq.{take-all}
 use borrow.Author.Tests.{ne-eqb, eqb-true, ltb-true, ltb-false, le-leb}
 use Rattle.bytes.specs.Bytes.{indexOf, indexAfter, slice}
-use Rattle.column.specs.Cases.{truth, none-and}
+use Rattle.column.specs.Cases.{truth}
 use Rattle.column.specs.Sets.{has, insert}
 use Rattle.column.specs.SetLaws.{has-none, has-insert}
 use Rattle.bank.specs.Strips.{among}
@@ -139,10 +139,14 @@ unfolding allDigits indexOf indexAfter
 comma-digits [] h = absurd (omega arith)
 comma-digits (b ∷ l) h = go (eqb b comma) refl (λ k. comma-digits l k) h
   where
+    none : (d : Bool) → allDigits l ≡ false → (d && allDigits l) ≡ false
+    none true e = e
+    none false e = refl
+
     go : (t : Bool) → eqb b comma ≡ t → (indexOf comma l < length l → allDigits l ≡ false) → indexAfter t (indexOf comma l) < suc (length l)
         → (isDigit b && allDigits l) ≡ false
     go true e more h = rw (eqb-true b comma e)
-    go false e more h = none-and (isDigit b) (allDigits l) (λ d. more (omega arith))
+    go false e more h = none (isDigit b) (more (omega arith))
 
 pub comma-numeral : (width : ℕ) (l : List ℕ) → indexOf comma l < length l → numeral width l ≡ unread
 unfolding numeral

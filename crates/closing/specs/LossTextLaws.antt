@@ -12,8 +12,10 @@ use Rattle.losses.specs.LossesLaws.{AtMost, counts-few}
 use Rattle.losses.specs.declared.count.Losses.{Losses}
 use Rattle.closing.specs.Text.{Reading, read, unread}
 use Rattle.closing.specs.DecimalLaws.{decimal-length}
+use Rattle.closing.specs.Writing.{Writes, Puts, puts-all}
 use Rattle.closing.specs.Tables.{cut, Placed, readTable}
 use Rattle.closing.specs.Scripts.{limit, refusedText}
+use Rattle.closing.specs.ScriptLaws.{refused-length}
 use Rattle.closing.specs.LossTexts.{stepsIn, stepCount, countsText, longestCounts, countedText, askedText, tableText, lossesText}
 
 -- ---- how long the counts are
@@ -31,6 +33,11 @@ counts-length l m =
 
 pub counts-fit : (t : Tree) (steps : ℕ) → length (countsText (lossesOf t steps)) ≤ longestCounts
 counts-fit t steps = counts-length (lossesOf t steps) (counts-few t steps)
+
+-- a refusal has room where the counts have it
+pub refused-written : {r : ℕ} {new old : List ℕ} (n : ℕ) → n < 256 → longestCounts ≤ length old → Puts r new old 0 (refusedText n)
+    → Writes r new old 0 (refusedText n)
+refused-written n small room h = puts-all (refusedText n) (omega (arith, room, refused-length n small)) h
 
 -- ---- what is answered after a table
 

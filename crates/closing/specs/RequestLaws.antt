@@ -1,20 +1,25 @@
 -- Requests as the reader holds them, and how long a table is. Assumes nothing.
 use Prim.Native.Nat.{ℕ, _+_, _-_, _*_, _≤_}
-use mathlib.Core.Path.{ap}
+use mathlib.Core.Path.{_≡_}
+use mathlib.Core.Logic.{_≢_}
 use mathlib.Core.Bool.{cond}
 use mathlib.Core.List.{List}
 use native.Mathlib.Omega.{arith}
-use lib.ListN.{length, take, drop, length-append, length-take}
+use lib.ListN.{length, take, drop, length-append, length-take, length-drop}
+use borrow.Author.Tests.{eq-eqb, ne-eqb}
 use Rattle.column.specs.Trees.{IsTree}
 use Rattle.column.specs.declared.tree.Tree.{Tree}
-use Rattle.closing.specs.Text.{written, Reading, read, unread}
-use Rattle.closing.specs.Writing.{Writes}
+use Rattle.closing.specs.Text.{columnsKey, delayKey, gapKey, Reading, read, unread}
 use Rattle.closing.specs.DecimalLaws.{decimal-length}
 use Rattle.closing.specs.Closing.{divided}
 use Rattle.closing.specs.DividedLaws.{columns-taken, divided-length}
+use Rattle.closing.specs.Tables.{keyed, threeLines}
+use Rattle.closing.specs.LineEnds.{linesAt, endsMeant, Rising, as-rising, no-lines, lines-are}
 use Rattle.closing.specs.Requests as requests
-use Rattle.closing.specs.Requests.{tableText}
+use Rattle.closing.specs.Requests.{asked, requestIn, requestOf, tableText}
 use Rattle.closing.specs.declared.request.Request.{Request}
+use Rattle.closing.specs.declared.three_lines.LineEnds.{LineEnds}
+use Rattle.closing.specs.declared.three_lines.LineEnds.the-variants as ends
 
 -- the values of a request as the reader answers it
 abbrev pub requestMeant : Request → Reading requests.Request
@@ -38,9 +43,21 @@ table-longest t is =
       is .sixteen,
     ))
 
--- ---- what is written from the start lies in the buffer
+-- ---- what is read of the lines that a search found
 
-pub writes-within : {r : ℕ} {new old w : List ℕ} → Writes r new old 0 w → r ≤ length new
-unfolding written
-writes-within {r} {new} {old} {w} h =
-    omega (arith, h .place, ap length (h .left), length-append w (drop (0 + length w) old))
+module _ {r : LineEnds} (s : List ℕ) (f : endsMeant r s ≡ threeLines s) where
+  pub request-fewer : r ≡ ends.Fewer → requestOf s ≡ unread
+  unfolding requestIn
+  request-fewer e = rw (no-lines s f e)
+
+  module _ {one two three : ℕ} (e : r ≡ ends.At one two three) (up : Rising r s) where
+    pub request-longer : three + 1 ≢ length s → requestOf s ≡ unread
+    unfolding requestIn
+    request-longer n =
+        rw (lines-are s f e, ne-eqb (length (drop (three + 1) s)) 0 (λ z. omega (arith, z, n, length-drop (three + 1) s, as-rising s e up .2)))
+
+    pub request-whole : three + 1 ≡ length s
+        → requestOf s ≡ asked (keyed columnsKey 2 (linesAt s one two three .one)) (keyed delayKey 3 (linesAt s one two three .two))
+        (keyed gapKey 3 (linesAt s one two three .three))
+    unfolding requestIn
+    request-whole n = rw (lines-are s f e, eq-eqb (length (drop (three + 1) s)) 0 (omega (arith, length-drop (three + 1) s, n)))

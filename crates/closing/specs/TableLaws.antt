@@ -34,13 +34,19 @@ use Rattle.closing.specs.Tables.{
   placedAt,
   noTree,
   judged,
+  threeLines,
+  tableIn,
+  readTable,
 }
+use Rattle.closing.specs.LineEnds.{linesAt, endsMeant, Rising, as-rising, no-lines, lines-are}
 use Rattle.closing.specs.Cutting.{Found, line-ended, line-unended, line-length}
 use Rattle.closing.specs.NumberLists.{listOf, held}
 use Rattle.closing.specs.declared.number_list.NumberList.{NumberList}
 use Rattle.closing.specs.declared.table.SequenceRead.{SequenceRead}
 use Rattle.closing.specs.declared.table.WatchRead.{WatchRead}
 use Rattle.closing.specs.declared.table.FurtherRead.{FurtherRead}
+use Rattle.closing.specs.declared.three_lines.LineEnds.{LineEnds}
+use Rattle.closing.specs.declared.three_lines.LineEnds.the-variants as ends
 
 -- ---- the sequence's line as the reader holds it
 
@@ -262,3 +268,20 @@ judged-held columns root one two up s at p q e f h k =
     go (read l) (read x) = listing l (x .sequence) (x .watch) (x .size)
     go (read l) unread = refl
     go unread s = refl
+
+-- ---- what is read of the lines that a search found
+
+module _ {r : LineEnds} (s : List ℕ) (f : endsMeant r s ≡ threeLines s) where
+  pub table-fewer : r ≡ ends.Fewer → readTable s ≡ refused 1 noTree
+  unfolding tableIn judged
+  table-fewer e = rw (no-lines s f e)
+
+  module _ {one two three : ℕ} (e : r ≡ ends.At one two three) (up : Rising r s) where
+    pub table-found : let l = linesAt s one two three in readTable s ≡ linesJudged (l .one) (l .two) (l .three) (l .rest) (three + 1)
+    unfolding tableIn
+    table-found =
+        let l = linesAt s one two three in
+        let h = as-rising s e up in
+        let size : length (l .one) + 1 + (length (l .two) + 1) + (length (l .three) + 1) ≡ three + 1 =
+        omega (arith, h .0, h .1, line-length s 0 one (omega (arith, h .0, h .1, h .2)), line-length s (one + 1) two (omega (arith, h .1, h .2)), line-length s (two + 1) three (omega (arith, h .2))) in
+        rw (lines-are s f e, size)

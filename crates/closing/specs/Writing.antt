@@ -1,18 +1,29 @@
 -- What a writer leaves, and the laws by which writers follow one another.
-use Prim.Native.Nat.{ℕ, _+_, _-_, _≤_, _<_}
+use Prim.Native.Nat.{ℕ, zero, suc, _+_, _-_, _≤_, _<_, min}
 use mathlib.Core.Path.{_≡_, refl, sym, ap, ap₂, _∙_}
+use mathlib.Core.Bool.{Bool, true, false}
 use mathlib.Core.List.{List, [], _∷_, _++_, append-assoc, append-nil}
 use native.Mathlib.Nat.{add-zero, add-assoc}
 use native.Mathlib.Numerals.{add-one}
 use native.Mathlib.Omega.{arith}
+use lib.Dec.{leb}
 use lib.ListN.{length, getD, set, take, drop, length-take, length-drop, length-append, take-append-drop, drop-of-length-le}
-use lib.Seq.{set-split, take-at, drop-append-add, drop-drop, length-take-le, take-all, take-suc}
+use lib.Seq.{set-split, take-at, take-nil, drop-append-add, drop-drop, length-take-le, take-all, take-suc}
+use borrow.Author.Tests.{leb-true, leb-false}
 use Rattle.closing.specs.Text.{written}
 
 -- a writer that was lent `old` wrote w from `at` on: it left `new`, and answers the place after w
 pub record Writes (r : ℕ) (new old : List ℕ) (at : ℕ) (w : List ℕ) : Type 0 where
   pub place : r ≡ at + length w
   pub left : new ≡ written old at w
+
+-- as much of a text as has room from a place on
+abbrev pub fitting : List ℕ → ℕ → List ℕ → List ℕ
+fitting old at w = take (length old - at) w
+
+-- a writer that was lent `old` was to write w from `at` on, and wrote as much of it as has room
+abbrev pub Puts : ℕ → List ℕ → List ℕ → ℕ → List ℕ → Type 0
+Puts r new old at w = Writes r new old at (fitting old at w)
 
 -- ---- what is written
 
@@ -46,7 +57,7 @@ written-more old at v w h =
     (simp append-assoc)
 
 -- one byte more of a text
-pub written-next : (old : List ℕ) (at : ℕ) (w : List ℕ) (i : ℕ) → i < length w → at + length w ≤ length old
+pub written-next : (old : List ℕ) (at : ℕ) (w : List ℕ) (i : ℕ) → i < length w → at + i < length old
     → set (written old at (take i w)) (at + i) (getD w i 0) ≡ written old at (take (i + 1) w)
 written-next old at w i h l =
     let n : length (take i w) ≡ i = length-take-le i w (omega arith) in
@@ -91,15 +102,6 @@ writes-within {old} {at} {w} room h =
       length-take-le at old room,
     )
 
--- a text that has room has it for its first part
-pub room-first : {n : ℕ} (at : ℕ) (v w : List ℕ) → at + length (v ++ w) ≤ n → at + length v ≤ n
-room-first at v w room = omega (arith, room, length-append v w)
-
--- once the first part is written, for the rest
-pub room-rest : {m : ℕ} {mid old : List ℕ} {at : ℕ} (v w : List ℕ) → at + length (v ++ w) ≤ length old
-    → Writes m mid old at v → length mid ≡ length old → m + length w ≤ length mid
-room-rest v w room first kept = omega (arith, room, first .place, kept, length-append v w)
-
 -- a writer that begins where another ended
 pub writes-more : {m r : ℕ} {new mid old : List ℕ} {at : ℕ} (v w : List ℕ) → at + length (v ++ w) ≤ length old
     → Writes m mid old at v → Writes r new mid m w → Writes r new old at (v ++ w)
@@ -110,3 +112,76 @@ writes-more {m} {r} {new} {mid} {old} {at} v w room first next = record {
       ∙ ap₂ (λ l k. written l k w) (first .left) (first .place)
       ∙ written-more old at v w (omega (arith, room, length-append v w));
 }
+
+-- ---- writers that stop where the room ends
+
+-- the first n, and the first of as many of these as there are
+pub take-fewer : (n k : ℕ) (l : List ℕ) → k ≡ min n (length l) → take k l ≡ take n l
+take-fewer n k l e = go (leb n (length l)) refl
+  where
+    go : (b : Bool) → leb n (length l) ≡ b → take k l ≡ take n l
+    go true h = let same : k ≡ n = omega (arith, e, leb-true n (length l) h) in ap (λ j. take j l) same
+    go false h =
+        let more = leb-false n (length l) h in
+        take-all k l (omega (arith, e, more)) ∙ sym (take-all n l (omega (arith, more)))
+
+take-both : (n : ℕ) (v w : List ℕ) → take n (v ++ w) ≡ take n v ++ take (n - length v) w
+take-both zero v w = let none : 0 - length v ≡ 0 = omega arith in sym (ap (λ k. take k w) none)
+take-both (suc n) [] w = let whole : suc n - 0 ≡ suc n = omega arith in ap (λ k. take k w) (sym whole)
+take-both (suc n) (x ∷ v) w =
+    let fewer : suc n - suc (length v) ≡ n - length v = omega arith in
+    ap (λ (l : List ℕ). x ∷ l) (take-both n v w) ∙ ap (λ k. x ∷ (take n v ++ take k w)) (sym fewer)
+
+-- where all has room, all is written
+pub puts-all : {r : ℕ} {new old : List ℕ} {at : ℕ} (w : List ℕ) → at + length w ≤ length old → Puts r new old at w → Writes r new old at w
+puts-all {old} {at} w room h = rw (take-all (length old - at) w (omega (arith, room))) at h
+
+pub writes-puts : {r : ℕ} {new old : List ℕ} {at : ℕ} (w : List ℕ) → at + length w ≤ length old → Writes r new old at w → Puts r new old at w
+writes-puts {old} {at} w room h = rw (take-all (length old - at) w (omega (arith, room))) h
+
+pub puts-none : (old : List ℕ) (at : ℕ) → Puts at old old at []
+puts-none old at = rw (take-nil (length old - at)) (writes-none old at)
+
+-- from the end of the buffer on nothing is written
+module _ (old : List ℕ) (at : ℕ) (full : length old ≤ at) (w : List ℕ) where
+  none-fits : fitting old at w ≡ []
+  none-fits = let none : length old - at ≡ 0 = omega (arith, full) in ap (λ k. take k w) none
+
+  pub puts-past : Puts at old old at w
+  puts-past = rw none-fits (writes-none old at)
+
+  past-puts : {r : ℕ} {new : List ℕ} → Puts r new old at w → (r ≡ at) × (new ≡ old)
+  past-puts h = let e = rw none-fits at h in (e .place ∙ add-zero at, e .left ∙ written-none old at)
+
+pub puts-length : {r : ℕ} {new old : List ℕ} {at : ℕ} (w : List ℕ) → Puts r new old at w → length new ≡ length old
+unfolding written
+puts-length w h = ap length (h .left) ∙ simp (length-append, length-take, length-drop) (omega arith)
+
+-- a writer that begins where another ended
+pub puts-more : {m r : ℕ} {new mid old : List ℕ} {at : ℕ} (v w : List ℕ)
+    → Puts m mid old at v → Puts r new mid m w → Puts r new old at (v ++ w)
+puts-more {m} {r} {new} {mid} {old} {at} v w first next = go (leb at (length old)) refl
+  where
+    kept : length mid ≡ length old
+    kept = puts-length v first
+
+    ended : m ≡ at + min (length old - at) (length v)
+    ended = first .place ∙ ap (λ k. at + k) (length-take (length old - at) v)
+
+    text : fitting old at (v ++ w) ≡ fitting old at v ++ fitting mid m w
+    text =
+        let left : length old - at - length v ≡ length mid - m = omega (arith, kept, ended) in
+        take-both (length old - at) v w ∙ ap (λ k. fitting old at v ++ take k w) left
+
+    go : (b : Bool) → leb at (length old) ≡ b → Puts r new old at (v ++ w)
+    go true h =
+        let within = leb-true at (length old) h in
+        rw text
+        (writes-more (fitting old at v) (fitting mid m w)
+        (omega (arith, within, kept, ended, length-append (fitting old at v) (fitting mid m w), length-take (length old - at) v, length-take (length mid - m) w))
+        first next)
+    go false h =
+        let past : length old ≤ at = omega (arith, leb-false at (length old) h) in
+        let one = past-puts old at past v first in
+        let two = past-puts mid m (omega (arith, kept, one .0, past)) w next in
+        rw (two .0 ∙ one .0, two .1 ∙ one .1) (puts-past old at past (v ++ w))

@@ -2,8 +2,8 @@
 use crate::hexadecimal::Doors;
 use crate::hexadecimal::read_doors;
 use crate::reading::Number;
-use crate::reading::keyed;
-use crate::reading::numeral;
+use crate::reading::read_keyed;
+use crate::reading::read_numeral;
 use crate::reading::starts_with;
 use bank::bank::Step;
 use bytes::scan::find;
@@ -54,7 +54,7 @@ fn numbered(line: &[u8], key: &[u8], width: usize, kind: Asked) -> Line
     requires { ⌜ width ≤ 4 ⌝ }
     ensures { λ r. ⌜ lineMeant r ≡ asking (asked kind) (keyed (now (key .entry)) width (now (line .entry))) ⌝ }
 {
-    match keyed(line, key, width) {
+    match read_keyed(line, key, width) {
         Number::Is(n) => command(kind, n),
         Number::Unread => Line::Unread,
     }
@@ -84,9 +84,9 @@ fn note(line: &[u8]) -> Line
     if comma == end {
         return Line::Unread;
     }
-    match numeral(&line[5..comma], 2) {
+    match read_numeral(&line[5..comma], 2) {
         Number::Unread => Line::Unread,
-        Number::Is(i) => match numeral(&line[comma + 1..], 2) {
+        Number::Is(i) => match read_numeral(&line[comma + 1..], 2) {
             Number::Unread => Line::Unread,
             Number::Is(j) => Line::Perform(Step::Note(i, j)),
         },
@@ -111,7 +111,7 @@ fn members_in(text: &[u8]) -> Line
     let mut from: usize = 0;
     while from <= text.len() {
         let to = find(text, from, text.len(), b',');
-        match numeral(&text[from..to], 2) {
+        match read_numeral(&text[from..to], 2) {
             Number::Is(n) => set = with_member(set, n),
             Number::Unread => return Line::Unread,
         }

@@ -8,16 +8,18 @@ use column::precedence::refuse_if;
 use column::state::Column;
 use column::state::standing;
 use column::tree::Tree;
-ghost use Prim.Native.Nat.{_+_, _≤_, _<_};
+ghost use Prim.Native.Nat.{_≤_, _<_};
 ghost use mathlib.Core.Path.{_≡_};
 ghost use lib.ListN.{length};
 ghost use Rattle.bank.specs.Banks.{state};
 ghost use Rattle.closing.specs.Closing.{longestList, doorsUpTo, divided, listText, listed, placed, loneList, RefusesListing};
 ghost use Rattle.closing.specs.Closing.{list as Closing·list};
-ghost use Rattle.closing.specs.Writing.{Writes};
+ghost use Rattle.closing.specs.Writing.{Puts};
 
 // "The longest list is 229."
 pub const LONGEST: usize = 229;
+// Room for the list of any number, of which the longest has eighteen digits more than a column's.
+const SCRATCH: usize = LONGEST + 18;
 
 pub enum Listing {
     // The bytes that the list takes.
@@ -26,26 +28,27 @@ pub enum Listing {
 }
 
 fn put_doors(out: &mut [u8], at: usize, doors: u64) -> usize
-    requires { ⌜ at + length (divided (doorsUpTo 64 doors)) ≤ length (now out) ⌝ }
-    ensures { λ r. ⌜ Writes r (now (out .exit)) (now (out .entry)) at (divided (doorsUpTo 64 doors)) ⌝ }
+    ensures { λ r. ⌜ Puts r (now (out .exit)) (now (out .entry)) at (divided (doorsUpTo 64 doors)) ⌝ }
 {
     let mut next = at;
+    let mut first = true;
     let mut door: u64 = 0;
     // The doors above `door`.
     let mut rest = doors;
     while rest != 0 {
         let free = u64::trailing_zeros(rest) as u64;
         door += free + 1;
-        next = put_next(out, at, next, door);
+        next = put_next(out, next, first, door);
+        first = false;
         rest = (rest >> free) >> 1;
     }
     next
 }
 
-// The four lines.
-pub(crate) fn put_list(out: &mut [u8], at: usize, i: usize, c: Column) -> usize
-    requires { ⌜ (i < 16) × (at + longestList ≤ length (now out)) ⌝ }
-    ensures { λ r. ⌜ Writes r (now (out .exit)) (now (out .entry)) at (listText i c) ⌝ }
+// The four lines, as much of them as has room.
+pub fn put_list(out: &mut [u8], at: usize, i: usize, c: Column) -> usize
+    ensures { λ r. ⌜ Puts r (now (out .exit)) (now (out .entry)) at (listText i c) ⌝ }
+    ensures { λ r. ⌜ (i < 16 → length (listText i c) ≤ longestList) ⌝ }
 {
     let number = put_field(out, at, b"column=", i as u64);
     let occupied = put_field(out, number, b"number=", c.number as u64);
@@ -56,11 +59,10 @@ pub(crate) fn put_list(out: &mut [u8], at: usize, i: usize, c: Column) -> usize
 }
 
 // "The list writer is lent the mutable part that starts at that place": the list at its start, where it fits; otherwise every byte is as it was.
-fn write_list(i: usize, c: Column, out: &mut [u8]) -> Listing
-    requires { ⌜ i < 16 ⌝ }
+pub fn write_list(i: usize, c: Column, out: &mut [u8]) -> Listing
     ensures { λ r. ⌜ listed r (now (out .exit)) ≡ placed (now (out .entry)) 0 (listText i c) ⌝ }
 {
-    let mut scratch = [0u8; LONGEST];
+    let mut scratch = [0u8; SCRATCH];
     let n = put_list(&mut scratch, 0, i, c);
     if out.len() < n {
         return Listing::Refused(11);

@@ -1,6 +1,6 @@
 // A table with a step count as text, and the counts of its losses or the refusal that answers them.
 use crate::reading::Number;
-use crate::reading::keyed;
+use crate::reading::read_keyed;
 use crate::script::LIMIT;
 use crate::table::read_table;
 use crate::text::put_field;
@@ -15,7 +15,7 @@ ghost use mathlib.Core.Path.{_≡_};
 ghost use lib.ListN.{length, drop};
 ghost use Rattle.closing.specs.Readings.{numberMeant};
 ghost use Rattle.closing.specs.LossTexts.{stepCount, countsText, askedText, lossesText, longestCounts};
-ghost use Rattle.closing.specs.Writing.{Writes};
+ghost use Rattle.closing.specs.Writing.{Writes, Puts};
 
 // Room for three lines of the longest number that is counted, 256.
 pub const COUNTS: usize = 27;
@@ -31,12 +31,11 @@ fn step_count(text: &[u8]) -> Number
     if end + 1 != text.len() {
         return Number::Unread;
     }
-    keyed(&text[0..end], b"after=", 3)
+    read_keyed(&text[0..end], b"after=", 3)
 }
 
 fn put_counts(out: &mut [u8], l: Losses) -> usize
-    requires { ⌜ length (countsText l) ≤ length (now out) ⌝ }
-    ensures { λ r. ⌜ Writes r (now (out .exit)) (now (out .entry)) 0 (countsText l) ⌝ }
+    ensures { λ r. ⌜ Puts r (now (out .exit)) (now (out .entry)) 0 (countsText l) ⌝ }
 {
     let lost = put_field(out, 0, b"kept=", l.kept as u64);
     let none = put_field(out, lost, b"lost=", l.lost as u64);

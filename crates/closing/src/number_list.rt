@@ -1,6 +1,6 @@
 // A line of numbers divided by commas, behind its key: how many they are, and the first sixteen.
 use crate::reading::Number;
-use crate::reading::numeral;
+use crate::reading::read_numeral;
 use crate::reading::starts_with;
 use bytes::scan::find;
 use column::tree::ASCENDING;
@@ -52,7 +52,7 @@ fn numbers_in(text: &[u8]) -> ListLine
     let mut from: usize = 0;
     while from <= text.len() {
         let to = find(text, from, text.len(), b',');
-        match numeral(&text[from..to], 2) {
+        match read_numeral(&text[from..to], 2) {
             Number::Is(number) => list = with_number(list, number),
             Number::Unread => return ListLine { good: false, list },
         }

@@ -28,7 +28,7 @@ fn value_of(text: &[u8]) -> Number
 }
 
 // Ten digits at most, so that the value is held.
-pub(crate) fn numeral(text: &[u8], width: usize) -> Number
+fn numeral(text: &[u8], width: usize) -> Number
     requires { ⌜ width ≤ 10 ⌝ }
     ensures { λ r. ⌜ numberMeant r ≡ numeral width (now (text .entry)) ⌝ }
 {
@@ -65,7 +65,7 @@ pub fn starts_with(text: &[u8], key: &[u8]) -> bool
 }
 
 // The numeral of `width` digits at most behind the key that a line begins with.
-pub(crate) fn keyed(line: &[u8], key: &[u8], width: usize) -> Number
+fn keyed(line: &[u8], key: &[u8], width: usize) -> Number
     requires { ⌜ width ≤ 10 ⌝ }
     ensures { λ r. ⌜ numberMeant r ≡ keyed (now (key .entry)) width (now (line .entry)) ⌝ }
 {

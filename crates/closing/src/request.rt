@@ -1,6 +1,6 @@
 // A request for a fastest tree as text: three lines, and the table or the refusal that answers them.
 use crate::reading::Number;
-use crate::reading::keyed;
+use crate::reading::read_keyed;
 use crate::text::put_all;
 use crate::text::put_field;
 use crate::text::put_next;
@@ -8,7 +8,7 @@ use crate::three_lines::LineEnds;
 use crate::three_lines::find_three_lines;
 use column::tree::Tree;
 use fastest::strategy::fastest;
-ghost use Prim.Native.Nat.{_+_, _≤_, _<_};
+ghost use Prim.Native.Nat.{_≤_};
 ghost use mathlib.Core.Path.{_≡_};
 ghost use lib.ListN.{length, take};
 ghost use Rattle.closing.specs.Text.{columnsKey, delayKey, gapKey};
@@ -16,7 +16,7 @@ ghost use Rattle.closing.specs.Closing.{divided};
 ghost use Rattle.closing.specs.Tables.{keyed};
 ghost use Rattle.closing.specs.Requests.{asked, requestOf, tableText, requestText};
 ghost use Rattle.closing.specs.RequestLaws.{requestMeant};
-ghost use Rattle.closing.specs.Writing.{Writes};
+ghost use Rattle.closing.specs.Writing.{Writes, Puts};
 
 // The bytes of the longest request; a longer input is refused with 1, whatever it says.
 pub const LIMIT: usize = 29;
@@ -42,11 +42,11 @@ const UNREAD: Request = Request {
 fn read_asked(one: &[u8], two: &[u8], three: &[u8]) -> Request
     ensures { λ r. ⌜ requestMeant r ≡ asked (keyed columnsKey 2 (now (one .entry))) (keyed delayKey 3 (now (two .entry))) (keyed gapKey 3 (now (three .entry))) ⌝ }
 {
-    match keyed(one, b"columns=", 2) {
+    match read_keyed(one, b"columns=", 2) {
         Number::Unread => UNREAD,
-        Number::Is(columns) => match keyed(two, b"delay=", 3) {
+        Number::Is(columns) => match read_keyed(two, b"delay=", 3) {
             Number::Unread => UNREAD,
-            Number::Is(delay) => match keyed(three, b"gap=", 3) {
+            Number::Is(delay) => match read_keyed(three, b"gap=", 3) {
                 Number::Unread => UNREAD,
                 Number::Is(gap) => Request {
                     good: true,
@@ -75,13 +75,13 @@ fn read_request(input: &[u8]) -> Request
 
 // The first n parents.
 fn put_parents(out: &mut [u8], at: usize, up: &[u8], n: usize) -> usize
-    requires { ⌜ (n ≤ 16) × (n ≤ length (now up)) × (at + length (divided (take n (now up))) ≤ length (now out)) ⌝ }
-    ensures { λ r. ⌜ Writes r (now (out .exit)) (now (out .entry)) at (divided (take n (now (up .entry)))) ⌝ }
+    requires { ⌜ (n ≤ 16) × (n ≤ length (now up)) ⌝ }
+    ensures { λ r. ⌜ Puts r (now (out .exit)) (now (out .entry)) at (divided (take n (now (up .entry)))) ⌝ }
 {
     let mut next = at;
     let mut j: usize = 0;
     while j < n {
-        next = put_next(out, at, next, up[j] as u64);
+        next = put_next(out, next, j == 0, up[j] as u64);
         j += 1;
     }
     next
@@ -89,8 +89,8 @@ fn put_parents(out: &mut [u8], at: usize, up: &[u8], n: usize) -> usize
 
 // The three lines.
 fn put_table(out: &mut [u8], t: Tree) -> usize
-    requires { ⌜ (t .columns ≤ 16) × (length (tableText t) ≤ length (now out)) ⌝ }
-    ensures { λ r. ⌜ Writes r (now (out .exit)) (now (out .entry)) 0 (tableText t) ⌝ }
+    requires { ⌜ t .columns ≤ 16 ⌝ }
+    ensures { λ r. ⌜ Puts r (now (out .exit)) (now (out .entry)) 0 (tableText t) ⌝ }
 {
     let n = t.columns;
     let root = put_field(out, 0, b"columns=", n as u64);

@@ -3,7 +3,7 @@ use crate::number_list::NO_LIST;
 use crate::number_list::NumberList;
 use crate::number_list::numbers_of;
 use crate::reading::Number;
-use crate::reading::keyed;
+use crate::reading::read_keyed;
 use crate::reading::starts_with;
 use crate::three_lines::LineEnds;
 use crate::three_lines::find_three_lines;
@@ -210,9 +210,9 @@ fn read_lines(one: &[u8], two: &[u8], three: &[u8], input: &[u8], at: usize) -> 
     requires { do ⌜ at ≤ (← ⟦input.len()⟧) ⌝ }
     ensures { λ r. ⌜ answered (r .answer) (placedAt (r .tree) (r .end)) ≡ linesJudged (now (one .entry)) (now (two .entry)) (now (three .entry)) (drop at (now (input .entry))) at ⌝ }
 {
-    match keyed(one, b"columns=", 2) {
+    match read_keyed(one, b"columns=", 2) {
         Number::Unread => refused(1),
-        Number::Is(columns) => match keyed(two, b"root=", 2) {
+        Number::Is(columns) => match read_keyed(two, b"root=", 2) {
             Number::Unread => refused(1),
             Number::Is(root) => {
                 let line = numbers_of(three, b"up=");

@@ -1,38 +1,52 @@
-// Writers: each puts bytes into a lent buffer from a place on and answers the place after them.
-ghost use Prim.Native.Nat.{_+_, _≤_, _<_};
+// Writers: each puts a text into a lent buffer from a place on, as much of it as has room, and answers the place after what it put.
+ghost use Prim.Native.Nat.{_-_, min};
+ghost use mathlib.Core.Path.{_≡_};
 ghost use mathlib.Core.List.{[], _∷_};
-ghost use lib.Dec.{eqb};
-ghost use lib.ListN.{length};
 ghost use Rattle.closing.specs.Text.{decimal as Text·decimal, field};
 ghost use Rattle.closing.specs.DividedLaws.{nextText};
-ghost use Rattle.closing.specs.Writing.{Writes};
+ghost use Rattle.closing.specs.Writing.{Puts};
 use io::decimal;
+
+// How many of n bytes have room from a place on.
+fn fitting(size: usize, at: usize, n: usize) -> usize
+    ensures { λ r. ⌜ r ≡ min (size - at) n ⌝ }
+{
+    if size <= at {
+        return 0;
+    }
+    if size - at < n {
+        return size - at;
+    }
+    n
+}
 
 // The bytes as they are.
 pub fn put_all(out: &mut [u8], at: usize, bytes: &[u8]) -> usize
-    requires { ⌜ at + length (now bytes) ≤ length (now out) ⌝ }
-    ensures { λ r. ⌜ Writes r (now (out .exit)) (now (out .entry)) at (now (bytes .entry)) ⌝ }
+    ensures { λ r. ⌜ Puts r (now (out .exit)) (now (out .entry)) at (now (bytes .entry)) ⌝ }
 {
+    let n = fitting(out.len(), at, bytes.len());
     let mut i: usize = 0;
-    while i < bytes.len() {
+    while i < n {
         out[at + i] = bytes[i];
         i += 1;
     }
     at + i
 }
 
-fn put_digit(out: &mut [u8], at: usize, digit: u64) -> usize
-    requires { ⌜ (at < length (now out)) × (digit < 10) ⌝ }
-    ensures { λ r. ⌜ Writes r (now (out .exit)) (now (out .entry)) at ((48 + digit) ∷ []) ⌝ }
+// One byte.
+fn put_byte(out: &mut [u8], at: usize, byte: u8) -> usize
+    ensures { λ r. ⌜ Puts r (now (out .exit)) (now (out .entry)) at (byte ∷ []) ⌝ }
 {
-    out[at] = 48 + (digit as u8);
+    if out.len() <= at {
+        return at;
+    }
+    out[at] = byte;
     at + 1
 }
 
 // Any number, by way of a small array.
 fn put_digits(out: &mut [u8], at: usize, n: u64) -> usize
-    requires { ⌜ at + length (Text·decimal n) ≤ length (now out) ⌝ }
-    ensures { λ r. ⌜ Writes r (now (out .exit)) (now (out .entry)) at (Text·decimal n) ⌝ }
+    ensures { λ r. ⌜ Puts r (now (out .exit)) (now (out .entry)) at (Text·decimal n) ⌝ }
 {
     let mut text = [0u8; 20];
     let k = decimal(n, &mut text);
@@ -40,38 +54,35 @@ fn put_digits(out: &mut [u8], at: usize, n: u64) -> usize
 }
 
 // Nearly every number of a script has one or two digits.
-pub fn put_number(out: &mut [u8], at: usize, n: u64) -> usize
-    requires { ⌜ at + length (Text·decimal n) ≤ length (now out) ⌝ }
-    ensures { λ r. ⌜ Writes r (now (out .exit)) (now (out .entry)) at (Text·decimal n) ⌝ }
+fn put_number(out: &mut [u8], at: usize, n: u64) -> usize
+    ensures { λ r. ⌜ Puts r (now (out .exit)) (now (out .entry)) at (Text·decimal n) ⌝ }
 {
     if 100 <= n {
         return put_digits(out, at, n);
     }
     if n < 10 {
-        return put_digit(out, at, n);
+        return put_byte(out, at, 48 + (n as u8));
     }
-    let units = put_digit(out, at, n / 10);
-    put_digit(out, units, n % 10)
+    let units = put_byte(out, at, 48 + ((n / 10) as u8));
+    put_byte(out, units, 48 + ((n % 10) as u8))
 }
 
-// A number of a line that divides them by commas; the first of them stands at `start`.
-pub fn put_next(out: &mut [u8], start: usize, at: usize, n: u64) -> usize
-    requires { ⌜ at + length (nextText (eqb at start) n) ≤ length (now out) ⌝ }
-    ensures { λ r. ⌜ Writes r (now (out .exit)) (now (out .entry)) at (nextText (eqb at start) n) ⌝ }
+// A number of a line that divides them by commas: the first of them, or another.
+pub fn put_next(out: &mut [u8], at: usize, first: bool, n: u64) -> usize
+    ensures { λ r. ⌜ Puts r (now (out .exit)) (now (out .entry)) at (nextText first n) ⌝ }
 {
-    if at == start {
+    if first {
         return put_number(out, at, n);
     }
-    let number = put_all(out, at, b",");
+    let number = put_byte(out, at, b',');
     put_number(out, number, n)
 }
 
 // A line: its key and a number.
 pub fn put_field(out: &mut [u8], at: usize, key: &[u8], n: u64) -> usize
-    requires { ⌜ at + length (field (now key) n) ≤ length (now out) ⌝ }
-    ensures { λ r. ⌜ Writes r (now (out .exit)) (now (out .entry)) at (field (now (key .entry)) n) ⌝ }
+    ensures { λ r. ⌜ Puts r (now (out .exit)) (now (out .entry)) at (field (now (key .entry)) n) ⌝ }
 {
     let value = put_all(out, at, key);
     let end = put_number(out, value, n);
-    put_all(out, end, b"\n")
+    put_byte(out, end, b'\n')
 }

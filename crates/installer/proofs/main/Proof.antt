@@ -1,7 +1,8 @@
 use borrow.Author.Needs.{needs}
 use mathlib.Core.Path.{sym}
+use native.Mathlib.Omega.{arith}
 use lib.Seq.{length-take-le}
-use Rattle.closing.specs.RequestLaws.{writes-within}
+use Rattle.closing.specs.Writing.{writes-within}
 use Rattle.installer.proofs.main.Statement.{statement}
 use Rattle.installer.proofs.main.Tie as tie
 
@@ -21,10 +22,10 @@ answer-requires : tie.Need-answer-requires
 answer-requires c κs = search needs
 
 array-share-prefix-text : tie.Need-array-share-prefix-text
-array-share-prefix-text c = writes-within (c .answer .ensures .0)
+array-share-prefix-text c = writes-within (omega arith) (c .answer .ensures .0)
 
 slice-aggregate-write-all : tie.Need-slice-aggregate-write-all
-slice-aggregate-write-all c = sym (length-take-le _ _ (writes-within (c .before .answer .ensures .0)))
+slice-aggregate-write-all c = sym (length-take-le _ _ (writes-within (omega arith) (c .before .answer .ensures .0)))
 
 write-all-requires : tie.Need-write-all-requires
 write-all-requires c κs = search needs

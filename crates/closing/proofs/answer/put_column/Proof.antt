@@ -1,8 +1,10 @@
 use borrow.Author.Needs.{needs}
 use borrow.Author.Tests.{not-true, not-false}
 use mathlib.Core.Path.{_≡_, sym, subst, _∙_}
-use Prim.Native.Nat.{ℕ, _≤_, _<_}
+use Prim.Native.Nat.{ℕ, _≤_, _<_, _%_}
+use native.Mathlib.Omega.{arith}
 use Rattle.closing.specs.PlaceLines.{same-text, listed-bank, listed-none, listed-halted, listed-runs}
+use Rattle.closing.specs.Writing.{puts-all}
 use Rattle.closing.proofs.answer.put_column.Statement.{statement}
 use Rattle.closing.proofs.answer.put_column.Tie as tie
 
@@ -52,6 +54,9 @@ returns-3 c =
     same-text (listed-halted s (a .i) (sym (tells .refuses) ∙ e .if1 .left) (subst (λ (n : ℕ). a .i < n) (sym columns) (l .if2 .left)) (a .c) place (not-true _ (t .if3 .taken)))
     (p .put-refused3 .ensures)
 
+below : (i : ℕ) → i % 16 < 16
+below i = omega arith
+
 put-list-requires : tie.Need-put-list-requires
 put-list-requires c κs = search needs
 
@@ -67,7 +72,7 @@ returns-4 c =
     let e = l .before in
     let a = e .before .before .args in
     same-text (listed-runs s (a .i) (sym (tells .refuses) ∙ e .if1 .left) (subst (λ (n : ℕ). a .i < n) (sym columns) (l .if2 .left)) (a .c) place (not-false _ (t .if3 .left)))
-    (p .put-list .ensures)
+    (puts-all _ (omega (arith, e .before .before .pre, p .put-list .ensures .1 (below (a .i)))) (p .put-list .ensures .0))
 
 pub put-column-spec : {M : Type 1} → statement M
 put-column-spec =

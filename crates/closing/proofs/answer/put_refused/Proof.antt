@@ -1,6 +1,8 @@
 use borrow.Author.Needs.{needs}
 use native.Mathlib.Omega.{arith}
+use Rattle.closing.specs.Scripts.{refusedText}
 use Rattle.closing.specs.ScriptLaws.{refused-length}
+use Rattle.closing.specs.Writing.{puts-all}
 use Rattle.closing.proofs.answer.put_refused.Statement.{statement}
 use Rattle.closing.proofs.answer.put_refused.Tie as tie
 
@@ -8,15 +10,16 @@ slice-aggregate-put-field : tie.Need-slice-aggregate-put-field
 slice-aggregate-put-field c = search needs
 
 put-field-requires : tie.Need-put-field-requires
-put-field-requires c κs =
-    let s = c .before .before .before in
-    omega (arith, refused-length (s .args .n) (s .fits .n .fits))
+put-field-requires c κs = search needs
 
 same-length : tie.Need-same-length
 same-length c = search needs
 
 returns : tie.Need-returns
-returns c = search needs
+returns c =
+    let p = c .before .before in
+    let s = p .before .before .before .before in
+    puts-all (refusedText (s .args .n)) (omega (arith, s .pre, refused-length (s .args .n) (s .fits .n .fits))) (p .put-field .ensures)
 
 pub put-refused-spec : {M : Type 1} → statement M
 put-refused-spec =

@@ -1,5 +1,8 @@
 use borrow.Author.Needs.{needs}
+use native.Mathlib.Omega.{arith}
+use Rattle.closing.specs.Text.{stepOk}
 use Rattle.closing.specs.Scripts.{stepText}
+use Rattle.closing.specs.Writing.{puts-all}
 use Rattle.closing.proofs.answer.put_step.Statement.{statement}
 use Rattle.closing.proofs.answer.put_step.Tie as tie
 
@@ -25,7 +28,8 @@ returns : tie.Need-returns
 unfolding stepText
 returns c s =
     let p = c .before .before in
-    rw (p .before .before .before .enum-told .given .1) (p .put-all .ensures)
+    let t = p .before .before .before in
+    rw (t .enum-told .given .1) (puts-all stepOk (omega (arith, t .before .before .before .pre)) (p .put-all .ensures))
 
 same-length-2 : tie.Need-same-length-2
 same-length-2 c = search needs

@@ -42,17 +42,17 @@ find-requires c κs = (omega (arith, starts-length noteKey _ (starts c)), search
 returns-2 : tie.Need-returns-2
 returns-2 c = sym (note-one _ (starts (c .before .before)) _ (c .before .find .ensures .1) (c .before .find .ensures .0) (c .if2 .taken))
 
-sub-numeral : tie.Need-sub-numeral
-sub-numeral c = search needs
+sub-read-numeral : tie.Need-sub-read-numeral
+sub-read-numeral c = search needs
 
-part-numeral-start : tie.Need-part-numeral-start
-part-numeral-start c = search needs
+part-read-numeral-start : tie.Need-part-read-numeral-start
+part-read-numeral-start c = search needs
 
-part-numeral-end : tie.Need-part-numeral-end
-part-numeral-end c = search needs
+part-read-numeral-end : tie.Need-part-read-numeral-end
+part-read-numeral-end c = search needs
 
-numeral-requires : tie.Need-numeral-requires
-numeral-requires c κs = search needs
+read-numeral-requires : tie.Need-read-numeral-requires
+read-numeral-requires c κs = search needs
 
 enum-told : tie.Need-enum-told
 enum-told c = search needs
@@ -60,20 +60,20 @@ enum-told c = search needs
 enum-known-i : tie.Need-enum-known-i
 enum-known-i c = search needs
 
-add-numeral : tie.Need-add-numeral
-add-numeral c = search needs
+add-read-numeral : tie.Need-add-read-numeral
+add-read-numeral c = search needs
 
-sub-numeral-2 : tie.Need-sub-numeral-2
-sub-numeral-2 c = search needs
+sub-read-numeral-2 : tie.Need-sub-read-numeral-2
+sub-read-numeral-2 c = search needs
 
-part-numeral-start-2 : tie.Need-part-numeral-start-2
-part-numeral-start-2 c = search needs
+part-read-numeral-start-2 : tie.Need-part-read-numeral-start-2
+part-read-numeral-start-2 c = search needs
 
-part-numeral-end-2 : tie.Need-part-numeral-end-2
-part-numeral-end-2 c = search needs
+part-read-numeral-end-2 : tie.Need-part-read-numeral-end-2
+part-read-numeral-end-2 c = search needs
 
-numeral-requires-2 : tie.Need-numeral-requires-2
-numeral-requires-2 c κs = search needs
+read-numeral-requires-2 : tie.Need-read-numeral-requires-2
+read-numeral-requires-2 c κs = search needs
 
 enum-told-2 : tie.Need-enum-told-2
 enum-told-2 c = search needs
@@ -85,7 +85,7 @@ returns-3 : tie.Need-returns-3
 unfolding noteOf
 returns-3 c =
     let k = c .before .before in
-    rw (two (k .before .before), sym (k .numeral .ensures) ∙ ap numberMeant (c .enum-told .given .1))
+    rw (two (k .before .before), sym (k .read-numeral .ensures) ∙ ap numberMeant (c .enum-told .given .1))
 
 returns-4 : tie.Need-returns-4
 unfolding noteOf
@@ -94,8 +94,8 @@ returns-4 c =
     let i = k .before .before .before in
     rw (
       two (i .before .before .before .before),
-      sym (i .before .before .numeral .ensures) ∙ ap numberMeant (i .i .given .1),
-      sym (k .numeral2 .ensures) ∙ ap numberMeant (c .enum-told2 .given .1),
+      sym (i .before .before .read-numeral .ensures) ∙ ap numberMeant (i .i .given .1),
+      sym (k .read-numeral2 .ensures) ∙ ap numberMeant (c .enum-told2 .given .1),
     )
 
 returns-5 : tie.Need-returns-5
@@ -105,8 +105,8 @@ returns-5 c =
     let i = k .before .before .before in
     rw (
       two (i .before .before .before .before),
-      sym (i .before .before .numeral .ensures) ∙ ap numberMeant (i .i .given .1),
-      sym (k .numeral2 .ensures) ∙ ap numberMeant (c .before .j .given .1),
+      sym (i .before .before .read-numeral .ensures) ∙ ap numberMeant (i .i .given .1),
+      sym (k .read-numeral2 .ensures) ∙ ap numberMeant (c .before .j .given .1),
     )
 
 pub note-spec : {M : Type 1} → statement M
@@ -118,17 +118,17 @@ note-spec =
     returns
     find-requires
     returns-2
-    sub-numeral
-    part-numeral-start
-    part-numeral-end
-    numeral-requires
+    sub-read-numeral
+    part-read-numeral-start
+    part-read-numeral-end
+    read-numeral-requires
     enum-told
     enum-known-i
-    add-numeral
-    sub-numeral-2
-    part-numeral-start-2
-    part-numeral-end-2
-    numeral-requires-2
+    add-read-numeral
+    sub-read-numeral-2
+    part-read-numeral-start-2
+    part-read-numeral-end-2
+    read-numeral-requires-2
     enum-told-2
     enum-known-j
     returns-3

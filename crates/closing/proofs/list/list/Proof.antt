@@ -66,7 +66,7 @@ part-write-list-end : tie.Need-part-write-list-end
 part-write-list-end c = search needs
 
 write-list-requires : tie.Need-write-list-requires
-write-list-requires c κs = sixteen (c .before .before .before)
+write-list-requires c κs = search needs
 
 same-length : tie.Need-same-length
 same-length c = search needs

@@ -1,13 +1,10 @@
 -- `list::lone_list` meets its contract. Assumes nothing.
-use Prim.Native.Nat.{ℕ, _<_}
+use Prim.Native.Nat.{ℕ}
 use mathlib.Core.Path.{_≡_, sym, ap, _∙_}
 use mathlib.Core.Bool.{not}
 use mathlib.Core.List.{[], _∷_}
 use borrow.Author.Tests.{eq-eqb, ne-eqb}
 use Rattle.column.specs.Refusals.{first, earlier}
-use Rattle.column.specs.RefusalLaws.{earlier-none}
-use Rattle.column.specs.StateLaws.{standing-column}
-use Rattle.column.specs.Columns.{standing}
 use Rattle.closing.specs.Closing.{loneRefusal, loneList}
 use borrow.Author.Needs.{needs}
 use Rattle.closing.proofs.list.lone_list.Statement.{statement}
@@ -28,11 +25,6 @@ module _ (c : tie.Else1) where
   good : loneRefusal (start .args .t) (start .args .i) (start .args .c) ≡ 0
   good = sym (found (c .before)) ∙ c .if1 .left
 
-  sixteen : start .args .i < 16
-  sixteen =
-      let a = start .args in
-      standing-column (a .t) (a .i) (a .c) (earlier-none (standing (a .t) (a .i) (a .c)) (first ((5, not (a .c .running)) ∷ [])) good .0)
-
 standing-requires : tie.Need-standing-requires
 standing-requires c κs = search needs
 
@@ -47,7 +39,7 @@ returns c =
     rw (ne-eqb (loneRefusal (a .t) (a .i) (a .c)) 0 (λ z. c .if1 .taken (e ∙ z)), ← e)
 
 write-list-requires : tie.Need-write-list-requires
-write-list-requires c κs = sixteen (c .before)
+write-list-requires c κs = search needs
 
 same-length : tie.Need-same-length
 same-length c = search needs

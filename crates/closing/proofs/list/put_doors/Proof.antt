@@ -1,28 +1,28 @@
+use borrow.Author.Needs.{needs}
 use Prim.Native.Nat.{ℕ, _+_, _-_, _/_, _^_, _≤_, _<_}
-use mathlib.Core.Path.{_≡_, refl, sym, ap, _∙_}
-use mathlib.Core.List.{List, _++_}
+use mathlib.Core.Path.{_≡_, refl, sym, _∙_}
 use native.Mathlib.Nat.{div-one}
 use native.Mathlib.Omega.{arith}
-use lib.Dec.{eqb}
 use lib.ListN.{length}
 use Rattle.closing.specs.Closing.{doorsUpTo, divided}
-use Rattle.closing.specs.Writing.{Writes, writes-none, room-rest, writes-more}
-use Rattle.closing.specs.DoorLaws.{noneBefore, free, doors-none, doors-grow, doors-rest, door-within, doors-next, rest-next}
-use Rattle.closing.specs.DividedLaws.{nextText, moved}
+use Rattle.closing.specs.Writing.{Puts, puts-none, puts-more}
+use Rattle.closing.specs.DoorLaws.{noneBefore, free, doors-none, doors-rest, door-within, doors-next, some-before, rest-next}
+use Rattle.closing.specs.DividedLaws.{nextText}
 use Rattle.closing.proofs.list.put_doors.Statement.{statement}
 use Rattle.closing.proofs.list.put_doors.Tie as tie
 
 abbrev Inv-loop : tie.InvT-loop
-Inv-loop out₀ at doors next₀ door₀ rest₀ out next door rest =
+Inv-loop out₀ at doors next₀ first₀ door₀ rest₀ out next first door rest =
     (door ≤ 64)
     × (rest ≡ doors / 2 ^ door)
+    × (first ≡ noneBefore doors door)
     × (length out ≡ length out₀)
-    × Writes next out out₀ at (divided (doorsUpTo door doors))
+    × Puts next out out₀ at (divided (doorsUpTo door doors))
 
 abbrev μ-loop : tie.MeasureT-loop
-μ-loop out₀ at doors next₀ door₀ rest₀ out next door rest = 64 - door
+μ-loop out₀ at doors next₀ first₀ door₀ rest₀ out next first door rest = 64 - door
 
--- one door more has room, and whether it is the first shows in the place
+-- the next door is one of 64
 module _ (c : tie.In-loop Inv-loop μ-loop) where
   abbrev start : tie.Start Inv-loop μ-loop
   start = c .before .before .before
@@ -45,25 +45,10 @@ module _ (c : tie.In-loop Inv-loop μ-loop) where
   within : next ≤ 64
   within = omega (arith, door-within doors door (c .before .loop .rest) is (start .fits .doors .fits) some)
 
-  abbrev text : List ℕ
-  text = nextText (noneBefore doors door) next
-
-  more : divided (doorsUpTo next doors) ≡ divided (doorsUpTo door doors) ++ text
-  more = doors-next doors door (c .before .loop .rest) is (start .fits .doors .fits) some
-
-  room : start .args .at + length (divided (doorsUpTo door doors) ++ text) ≤ length (start .args .out .now)
-  room =
-      let whole : next + (64 - next) ≡ 64 = omega (arith, within) in
-      rw (← more)
-      (omega (arith, start .pre, doors-grow doors next (64 - next), ap (λ n. length (divided (doorsUpTo n doors))) whole))
-
-  first : eqb (c .before .loop .next) (start .args .at) ≡ noneBefore doors door
-  first = ap (λ k. eqb k (start .args .at)) (c .before .loop .inv .3 .place) ∙ moved (start .args .at) (length (divided (doorsUpTo door doors)))
-
 loop-holds : tie.Need-loop-holds Inv-loop μ-loop
 loop-holds c =
     let a = c .before .args in
-    rw (doors-none (a .doors)) (omega arith, sym (div-one (a .doors)), refl, writes-none (a .out .now) (a .at))
+    rw (doors-none (a .doors)) (omega arith, sym (div-one (a .doors)), refl, refl, puts-none (a .out .now) (a .at))
 
 cast-free : tie.Need-cast-free Inv-loop μ-loop
 cast-free c = omega (arith, within c)
@@ -75,10 +60,7 @@ add-door-2 : tie.Need-add-door-2 Inv-loop μ-loop
 add-door-2 c = omega (arith, within c)
 
 put-next-requires : tie.Need-put-next-requires Inv-loop μ-loop
-put-next-requires c κs =
-    let i = c .before in
-    let v = i .before .loop .inv in
-    rw (first i) (room-rest (divided (doorsUpTo (door i) (doors i))) (text i) (room i) (v .3) (v .2))
+put-next-requires c κs = search needs
 
 shr-rest : tie.Need-shr-rest Inv-loop μ-loop
 shr-rest c = let i = c .before .before .before .before in omega (arith, within i)
@@ -90,22 +72,26 @@ loop-again : tie.Need-loop-again Inv-loop μ-loop
 loop-again c =
     let p = c .before .before in
     let i = p .before .before in
-    let v = i .before .loop .inv in
-    let q = rw (first i) at (p .put-next .ensures) in (
+    let rest = i .before .loop .rest in
+    let fits = start i .fits .doors .fits in
+    let v = i .before .loop .inv in (
       within i,
-      rest-next (doors i) (door i) (i .before .loop .rest) (is i) (start i .fits .doors .fits) (some i),
-      p .put-next .kept .0 ∙ v .2,
-      rw (more i) (writes-more (divided (doorsUpTo (door i) (doors i))) (text i) (room i) (v .3) q),
+      rest-next (doors i) (door i) rest (is i) fits (some i),
+      sym (some-before (doors i) (door i) rest (is i) fits (some i)),
+      p .put-next .kept .0 ∙ v .3,
+      rw (doors-next (doors i) (door i) rest (is i) fits (some i))
+          (puts-more (divided (doorsUpTo (door i) (doors i))) (nextText (noneBefore (doors i) (door i)) (next i)) (v .4)
+          (rw (v .2) at (p .put-next .ensures))),
     )
 
 same-length : tie.Need-same-length Inv-loop μ-loop
-same-length c = c .before .loop .inv .2
+same-length c = c .before .loop .inv .3
 
 returns : tie.Need-returns Inv-loop μ-loop
 returns c =
     let l = c .before .loop in
     let a = c .before .before .before .args in
-    rw (← doors-rest (a .doors) (l .door) (l .rest) (l .inv .1) (c .loop-test .left) (l .inv .0)) (l .inv .3)
+    rw (← doors-rest (a .doors) (l .door) (l .rest) (l .inv .1) (c .loop-test .left) (l .inv .0)) (l .inv .4)
 
 pub put-doors-spec : {M : Type 1} → statement M
 put-doors-spec =

@@ -1,5 +1,5 @@
 use borrow.Author.Needs.{needs}
-use Prim.Native.Nat.{ℕ, _+_}
+use Prim.Native.Nat.{ℕ, _+_, _^_, _≤_, _<_}
 use mathlib.Core.Path.{_≡_, sym, ap, ap₂, _∙_}
 use mathlib.Core.List.{List}
 use native.Mathlib.Omega.{arith}
@@ -7,7 +7,8 @@ use lib.ListN.{length, take, replicate}
 use borrow.Author.Tests.{le-leb, lt-leb}
 use Rattle.column.specs.Refusals.{given}
 use Rattle.closing.specs.Closing.{longestList, listText, placed}
-use Rattle.closing.specs.Writing.{written-taken, writes-within}
+use Rattle.closing.specs.ClosingLaws.{list-of-any}
+use Rattle.closing.specs.Writing.{Writes, written-taken, writes-within, puts-all}
 use Rattle.closing.proofs.list.write_list.Statement.{statement}
 use Rattle.closing.proofs.list.write_list.Tie as tie
 
@@ -19,11 +20,21 @@ module _ (c : tie.After-put-list) where
   abbrev text : List ℕ
   text = listText (start .args .i) (start .args .c)
 
+  abbrev scratch : List ℕ
+  scratch = replicate (longestList + 18) 0
+
+  writes : Writes (c .put-list .result) (c .put-list .last .0) scratch 0 text
+  writes =
+      let number : start .args .c .number < 2 ^ 32 = search needs in
+      let doors : start .args .c .doors < 2 ^ 64 = search needs in
+      let few = list-of-any (start .args .i) (start .args .c) (start .fits .i .fits) (omega (arith, number)) doors in
+      puts-all text (omega (arith, few)) (c .put-list .ensures .0)
+
   size : c .put-list .result ≡ length text
-  size = omega (arith, c .put-list .ensures .place)
+  size = omega (arith, writes .place)
 
   begins : take (c .put-list .result) (c .put-list .last .0) ≡ text
-  begins = ap₂ (λ k l. take k l) size (c .put-list .ensures .left) ∙ written-taken (replicate longestList 0) text
+  begins = ap₂ (λ k l. take k l) size (writes .left) ∙ written-taken scratch text
 
 slice-aggregate-put-list : tie.Need-slice-aggregate-put-list
 slice-aggregate-put-list c = search needs
@@ -40,7 +51,7 @@ returns c =
 array-share-prefix-scratch : tie.Need-array-share-prefix-scratch
 array-share-prefix-scratch c =
     let p = c .before .before .before in
-    omega (arith, writes-within (omega arith) (p .put-list .ensures), p .put-list .kept .0)
+    omega (arith, writes-within (omega arith) (writes p), p .put-list .kept .0)
 
 slice-aggregate-put-all : tie.Need-slice-aggregate-put-all
 slice-aggregate-put-all c =
@@ -48,9 +59,7 @@ slice-aggregate-put-all c =
     size p ∙ sym (ap length (begins p))
 
 put-all-requires : tie.Need-put-all-requires
-put-all-requires c κs =
-    let p = c .before .before .before .before in
-    omega (arith, ap length (begins p), size p)
+put-all-requires c κs = search needs
 
 same-length : tie.Need-same-length
 same-length c = search needs
@@ -60,8 +69,9 @@ unfolding placed
 returns-2 c =
     let k = c .before .before in
     let p = k .before .before .before .before .before in
-    rw (le-leb (0 + length (text p)) (length (start p .args .out .now)) (omega (arith, size p)))
-    (ap₂ (λ n l. record { answer = given n; buffer = l }) (size p) (rw (← begins p) (k .put-all .ensures .left)))
+    let old = start p .args .out .now in
+    let left = puts-all (text p) (omega (arith, size p)) (rw (begins p) at (k .put-all .ensures)) .left in
+    rw (le-leb (0 + length (text p)) (length old) (omega (arith, size p))) (ap₂ (λ n l. record { answer = given n; buffer = l }) (size p) left)
 
 pub write-list-spec : {M : Type 1} → statement M
 write-list-spec =

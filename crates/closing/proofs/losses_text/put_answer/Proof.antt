@@ -4,10 +4,9 @@ use mathlib.Core.Path.{_≡_, sym, ap, _∙_}
 use native.Mathlib.Omega.{arith}
 use Rattle.bank.specs.Steps.{answered}
 use Rattle.bank.specs.declared.bank.Answer.{Answer}
-use Rattle.closing.specs.ScriptLaws.{refused-length}
 use Rattle.closing.specs.Tables.{Placed, placedAt}
 use Rattle.closing.specs.LossTexts.{tableText, lossesText}
-use Rattle.closing.specs.LossTextLaws.{losses-long, losses-read}
+use Rattle.closing.specs.LossTextLaws.{refused-written, losses-long, losses-read}
 use Rattle.closing.proofs.losses_text.put_answer.Statement.{statement}
 use Rattle.closing.proofs.losses_text.put_answer.Tie as tie
 
@@ -29,7 +28,7 @@ slice-aggregate-put-field : tie.Need-slice-aggregate-put-field
 slice-aggregate-put-field c = search needs
 
 put-field-requires : tie.Need-put-field-requires
-put-field-requires c κs = omega (arith, refused-length 13 (omega arith), c .before .before .before .before .before .pre)
+put-field-requires c κs = search needs
 
 same-length : tie.Need-same-length
 same-length c = search needs
@@ -38,7 +37,7 @@ returns : tie.Need-returns
 returns c =
     let k = c .before .before in
     let t = k .before .before .before in
-    rw (losses-long (t .before .before .before .args .input .now) (t .if1 .taken)) (k .put-field .ensures)
+    rw (losses-long (t .before .before .before .args .input .now) (t .if1 .taken)) (refused-written 13 (omega arith) (t .before .before .before .pre) (k .put-field .ensures))
 
 read-table-requires : tie.Need-read-table-requires
 read-table-requires c κs = search needs
@@ -53,11 +52,7 @@ cast-put-field : tie.Need-cast-put-field
 cast-put-field c = search needs
 
 put-field-requires-2 : tie.Need-put-field-requires-2
-put-field-requires-2 c κs =
-    let k = c .before .before .before in
-    let n = k .answer .given .0 .0 in
-    let small : n < 256 = search needs in
-    omega (arith, refused-length n small, start (k .before .before) .pre)
+put-field-requires-2 c κs = search needs
 
 enum-told : tie.Need-enum-told
 enum-told c = search needs
@@ -73,7 +68,8 @@ unfolding tableText
 returns-2 c =
     let k = c .before .before in
     let n = k .before .before .before .before in
-    rw (text-is (n .before .before) _ (n .answer .given .1)) (k .put-field2 .ensures)
+    let small : n .answer .given .0 .0 < 256 = search needs in
+    rw (text-is (n .before .before) _ (n .answer .given .1)) (refused-written _ small (start (n .before .before) .pre) (k .put-field2 .ensures))
 
 same-length-3 : tie.Need-same-length-3
 same-length-3 c = search needs

@@ -6,9 +6,9 @@ use lib.ListN.{length, drop, length-drop}
 use lib.Seq.{take-all}
 use Rattle.losses.specs.Losses.{lossesRefusal}
 use Rattle.closing.specs.Readings.{numberMeant}
-use Rattle.closing.specs.ScriptLaws.{refused-length}
 use Rattle.closing.specs.LossTexts.{stepCount}
-use Rattle.closing.specs.LossTextLaws.{counts-fit, asked-refused, asked-unread, asked-missing, asked-counts}
+use Rattle.closing.specs.Writing.{puts-all}
+use Rattle.closing.specs.LossTextLaws.{counts-fit, refused-written, asked-refused, asked-unread, asked-missing, asked-counts}
 use Rattle.closing.specs.declared.reading.Number.{Number}
 use Rattle.closing.proofs.losses_text.put_asked.Statement.{statement}
 use Rattle.closing.proofs.losses_text.put_asked.Tie as tie
@@ -38,9 +38,7 @@ cast-put-field : tie.Need-cast-put-field
 cast-put-field c = search needs
 
 put-field-requires : tie.Need-put-field-requires
-put-field-requires c κs =
-    let f = c .before .before .before in
-    omega (arith, refused-length (f .losses-refusal .result) (small f), f .before .before .before .pre)
+put-field-requires c κs = search needs
 
 same-length : tie.Need-same-length
 same-length c = search needs
@@ -50,13 +48,14 @@ returns c =
     let k = c .before .before in
     let t = k .before .before .before in
     let f = t .before in
-    rw (asked-refused _ _ (λ z. t .if1 .taken (f .losses-refusal .ensures ∙ z)), ← f .losses-refusal .ensures) (k .put-field .ensures)
+    rw (asked-refused _ _ (λ z. t .if1 .taken (f .losses-refusal .ensures ∙ z)), ← f .losses-refusal .ensures)
+    (refused-written _ (small f) (f .before .before .before .pre) (k .put-field .ensures))
 
 slice-aggregate-put-field-2 : tie.Need-slice-aggregate-put-field-2
 slice-aggregate-put-field-2 c = search needs
 
 put-field-requires-2 : tie.Need-put-field-requires-2
-put-field-requires-2 c κs = omega (arith, refused-length 13 (omega arith), c .before .before .before .before .before .before .before .pre)
+put-field-requires-2 c κs = search needs
 
 same-length-2 : tie.Need-same-length-2
 same-length-2 c = search needs
@@ -65,8 +64,10 @@ returns-2 : tie.Need-returns-2
 returns-2 c =
     let k = c .before .before in
     let u = k .before .before .before in
-    let a = u .before .before .before .before .before .args in
-    rw (asked-missing (a .t) (good (u .before)) (a .input .now) (a .at) (u .if2 .taken)) (k .put-field2 .ensures)
+    let s = u .before .before .before .before .before in
+    let a = s .args in
+    rw (asked-missing (a .t) (good (u .before)) (a .input .now) (a .at) (u .if2 .taken))
+    (refused-written 13 (omega arith) (s .pre) (k .put-field2 .ensures))
 
 sub-step-count : tie.Need-sub-step-count
 sub-step-count c = search needs
@@ -87,9 +88,7 @@ slice-aggregate-put-field-3 : tie.Need-slice-aggregate-put-field-3
 slice-aggregate-put-field-3 c = search needs
 
 put-field-requires-3 : tie.Need-put-field-requires-3
-put-field-requires-3 c κs =
-    let q = c .before .before .before .before in
-    omega (arith, refused-length 13 (omega arith), q .before .before .before .before .before .before .before .pre)
+put-field-requires-3 c κs = search needs
 
 enum-known-steps : tie.Need-enum-known-steps
 enum-known-steps c = search needs
@@ -98,10 +97,7 @@ count-losses-requires : tie.Need-count-losses-requires
 count-losses-requires c κs = search needs
 
 put-counts-requires : tie.Need-put-counts-requires
-put-counts-requires c κs =
-    let q = c .before .before .before .before .before in
-    let start = q .before .before .before .before .before .before .before in
-    rw (c .count-losses .ensures) (omega (arith, counts-fit (start .args .t) (c .before .before .before .steps .given .0 .0), start .pre))
+put-counts-requires c κs = search needs
 
 same-length-3 : tie.Need-same-length-3
 same-length-3 c = search needs
@@ -112,7 +108,7 @@ returns-3 c =
     let m = k .before .before .before in
     let q = m .before .before in
     let e = q .before .before .before in
-    rw (asked-unread _ (good e) _ (read-is q _ (m .enum-told .given .1))) (k .put-field3 .ensures)
+    rw (asked-unread _ (good e) _ (read-is q _ (m .enum-told .given .1))) (refused-written 13 (omega arith) (q .before .before .before .before .before .before .before .pre) (k .put-field3 .ensures))
 
 same-length-4 : tie.Need-same-length-4
 same-length-4 c = search needs
@@ -124,7 +120,11 @@ returns-4 c =
     let m = n .before .before .before in
     let q = m .before .before in
     let e = q .before .before .before in
-    rw (asked-counts _ (good e) _ _ (read-is q _ (m .steps .given .1)), ← n .count-losses .ensures) (k .put-counts .ensures)
+    let start = q .before .before .before .before .before .before .before in
+    let fits = counts-fit (start .args .t) (m .steps .given .0 .0) in
+    let made = n .count-losses .ensures in
+    rw (asked-counts _ (good e) _ _ (read-is q _ (m .steps .given .1)))
+    (puts-all _ (omega (arith, fits, start .pre)) (rw made at (k .put-counts .ensures)))
 
 pub put-asked-spec : {M : Type 1} → statement M
 put-asked-spec =

@@ -42,20 +42,20 @@ returns-2 c =
       ne-eqb (length (drop (r + 1) s)) 0 (λ z. omega (arith, z, length-drop (r + 1) s, c .if2 .taken, f .find .ensures .1, b .if1 .left)),
     )
 
-sub-keyed : tie.Need-sub-keyed
-sub-keyed c = search needs
+sub-read-keyed : tie.Need-sub-read-keyed
+sub-read-keyed c = search needs
 
-part-keyed-start : tie.Need-part-keyed-start
-part-keyed-start c = search needs
+part-read-keyed-start : tie.Need-part-read-keyed-start
+part-read-keyed-start c = search needs
 
-part-keyed-end : tie.Need-part-keyed-end
-part-keyed-end c = search needs
+part-read-keyed-end : tie.Need-part-read-keyed-end
+part-read-keyed-end c = search needs
 
-slice-aggregate-keyed : tie.Need-slice-aggregate-keyed
-slice-aggregate-keyed c = search needs
+slice-aggregate-read-keyed : tie.Need-slice-aggregate-read-keyed
+slice-aggregate-read-keyed c = search needs
 
-keyed-requires : tie.Need-keyed-requires
-keyed-requires c κs = search needs
+read-keyed-requires : tie.Need-read-keyed-requires
+read-keyed-requires c κs = search needs
 
 returns-3 : tie.Need-returns-3
 unfolding stepsIn
@@ -65,7 +65,7 @@ returns-3 c =
     let f = b .before in
     let s = f .before .before .args .text .now in
     let r = f .find .result in
-    rw (line-is b, eq-eqb (length (drop (r + 1) s)) 0 (omega (arith, length-drop (r + 1) s, x .if2 .left))) (c .keyed .ensures)
+    rw (line-is b, eq-eqb (length (drop (r + 1) s)) 0 (omega (arith, length-drop (r + 1) s, x .if2 .left))) (c .read-keyed .ensures)
 
 pub step-count-spec : {M : Type 1} → statement M
 step-count-spec =
@@ -75,9 +75,9 @@ step-count-spec =
     returns
     add-if2
     returns-2
-    sub-keyed
-    part-keyed-start
-    part-keyed-end
-    slice-aggregate-keyed
-    keyed-requires
+    sub-read-keyed
+    part-read-keyed-start
+    part-read-keyed-end
+    slice-aggregate-read-keyed
+    read-keyed-requires
     returns-3)

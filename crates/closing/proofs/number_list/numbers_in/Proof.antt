@@ -28,17 +28,17 @@ loop-holds c =
 find-requires : tie.Need-find-requires Inv-loop μ-loop
 find-requires c κs = search needs
 
-sub-numeral : tie.Need-sub-numeral Inv-loop μ-loop
-sub-numeral c = search needs
+sub-read-numeral : tie.Need-sub-read-numeral Inv-loop μ-loop
+sub-read-numeral c = search needs
 
-part-numeral-start : tie.Need-part-numeral-start Inv-loop μ-loop
-part-numeral-start c = search needs
+part-read-numeral-start : tie.Need-part-read-numeral-start Inv-loop μ-loop
+part-read-numeral-start c = search needs
 
-part-numeral-end : tie.Need-part-numeral-end Inv-loop μ-loop
-part-numeral-end c = search needs
+part-read-numeral-end : tie.Need-part-read-numeral-end Inv-loop μ-loop
+part-read-numeral-end c = search needs
 
-numeral-requires : tie.Need-numeral-requires Inv-loop μ-loop
-numeral-requires c κs = search needs
+read-numeral-requires : tie.Need-read-numeral-requires Inv-loop μ-loop
+read-numeral-requires c κs = search needs
 
 enum-known-number : tie.Need-enum-known-number Inv-loop μ-loop
 enum-known-number c = search needs
@@ -46,7 +46,7 @@ enum-known-number c = search needs
 with-number-requires : tie.Need-with-number-requires Inv-loop μ-loop
 with-number-requires c κs =
     let k = c .before in
-    let h = numeral-two _ _ (sym (k .before .before .numeral .ensures) ∙ ap numberMeant (k .number .given .1)) in
+    let h = numeral-two _ _ (sym (k .before .before .read-numeral .ensures) ∙ ap numberMeant (k .number .given .1)) in
     search (needs, h)
 
 enum-told : tie.Need-enum-told Inv-loop μ-loop
@@ -62,7 +62,7 @@ returns c =
     ∙ piece-unread (l .loop .list) (l .before .before .args .text .now) (l .loop .from) (f .find .result)
     (f .before .loop-test .taken)
     (f .find .ensures)
-    (sym (m .numeral .ensures) ∙ ap numberMeant (c .enum-told .given .1)))
+    (sym (m .read-numeral .ensures) ∙ ap numberMeant (c .enum-told .given .1)))
 
 add-from : tie.Need-add-from Inv-loop μ-loop
 add-from c = search needs
@@ -85,7 +85,7 @@ loop-again c =
           (f .before .loop-test .taken)
           (f .find .ensures)
           _
-          (sym (m .numeral .ensures) ∙ ap numberMeant (k .number .given .1))),
+          (sym (m .read-numeral .ensures) ∙ ap numberMeant (k .number .given .1))),
     )
 
 returns-2 : tie.Need-returns-2 Inv-loop μ-loop
@@ -101,10 +101,10 @@ numbers-in-spec =
     μ-loop
     loop-holds
     find-requires
-    sub-numeral
-    part-numeral-start
-    part-numeral-end
-    numeral-requires
+    sub-read-numeral
+    part-read-numeral-start
+    part-read-numeral-end
+    read-numeral-requires
     enum-known-number
     with-number-requires
     enum-told

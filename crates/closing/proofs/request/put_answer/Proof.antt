@@ -7,6 +7,8 @@ use borrow.Author.Tests.{eq-eqb, not-true, not-false}
 use Rattle.fastest.specs.Strategy.{fastestRefusal, fastestTree, fastestPlan}
 use Rattle.fastest.specs.declared.strategy.Plan.{Plan}
 use Rattle.closing.specs.Text.{read, unread}
+use Rattle.closing.specs.Writing.{puts-all}
+use Rattle.closing.specs.Scripts.{refusedText}
 use Rattle.closing.specs.ScriptLaws.{refused-length}
 use Rattle.closing.specs.Requests.{requestOf, tableText}
 use Rattle.closing.specs.Requests as requests
@@ -54,7 +56,7 @@ slice-aggregate-put-field : tie.Need-slice-aggregate-put-field
 slice-aggregate-put-field c = search needs
 
 put-field-requires : tie.Need-put-field-requires
-put-field-requires c κs = omega (arith, refused-length 1 (omega arith), c .before .before .before .before .before .before .before .pre)
+put-field-requires c κs = search needs
 
 same-length : tie.Need-same-length
 same-length c = search needs
@@ -63,7 +65,9 @@ returns : tie.Need-returns
 returns c =
     let k = c .before .before in
     let t = k .before .before .before in
-    (rw (answer-unread _ (unread-is t)) (k .put-field .ensures), omega (arith, k .put-field .ensures .place, refused-length 1 (omega arith)))
+    let few = refused-length 1 (omega arith) in
+    let w = puts-all (refusedText 1) (omega (arith, few, t .before .before .before .before .before .pre)) (k .put-field .ensures) in
+    (rw (answer-unread _ (unread-is t)) w, omega (arith, w .place, few))
 
 fastest-requires : tie.Need-fastest-requires
 fastest-requires c κs = search needs
@@ -75,9 +79,7 @@ cast-put-field : tie.Need-cast-put-field
 cast-put-field c = search needs
 
 put-field-requires-2 : tie.Need-put-field-requires-2
-put-field-requires-2 c κs =
-    let f = c .before .before .before .before .before in
-    omega (arith, refused-length (f .fastest .result .refusal) (small f), f .before .before .before .before .before .before .pre)
+put-field-requires-2 c κs = search needs
 
 same-length-2 : tie.Need-same-length-2
 same-length-2 c = search needs
@@ -87,15 +89,15 @@ returns-2 c =
     let k = c .before .before in
     let t = k .before .before .before .before in
     let f = t .before .before in
-    let n = f .fastest .result .refusal in (
-      rw (answer-refused _ (request (f .before .before .before)) n (read-is (f .before)) (refusal-is f) (t .if2 .taken)) (k .put-field2 .ensures),
-      omega (arith, k .put-field2 .ensures .place, refused-length n (small f)),
+    let n = f .fastest .result .refusal in
+    let few = refused-length n (small f) in
+    let w = puts-all (refusedText n) (omega (arith, few, f .before .before .before .before .before .before .pre)) (k .put-field2 .ensures) in (
+      rw (answer-refused _ (request (f .before .before .before)) n (read-is (f .before)) (refusal-is f) (t .if2 .taken)) w,
+      omega (arith, w .place, few),
     )
 
 put-table-requires : tie.Need-put-table-requires
-put-table-requires c κs =
-    let w = fits (c .before) in
-    (w .0, omega (arith, w .1, c .before .before .before .before .before .before .before .before .before .pre))
+put-table-requires c κs = fits (c .before) .0
 
 same-length-3 : tie.Need-same-length-3
 same-length-3 c = search needs
@@ -107,7 +109,8 @@ returns-3 c =
     let f = e .before .before in
     let r = request (f .before .before .before) in
     let text = answer-table _ r (read-is (f .before)) (sym (refusal-is f) ∙ e .if2 .left) in
-    (rw (text, ← tree-is f (e .if2 .left)) (k .put-table .ensures), omega (arith, k .put-table .ensures .place, fits e .1))
+    let w = puts-all (tableText (f .fastest .result .tree)) (omega (arith, fits e .1, f .before .before .before .before .before .before .pre)) (k .put-table .ensures) in
+    (rw (text, ← tree-is f (e .if2 .left)) w, omega (arith, w .place, fits e .1))
 
 pub put-answer-spec : {M : Type 1} → statement M
 put-answer-spec =

@@ -5,11 +5,11 @@ use borrow.Author.Needs.{needs}
 use Rattle.closing.proofs.request.read_asked.Statement.{statement}
 use Rattle.closing.proofs.request.read_asked.Tie as tie
 
-slice-aggregate-keyed : tie.Need-slice-aggregate-keyed
-slice-aggregate-keyed c = search needs
+slice-aggregate-read-keyed : tie.Need-slice-aggregate-read-keyed
+slice-aggregate-read-keyed c = search needs
 
-keyed-requires : tie.Need-keyed-requires
-keyed-requires c κs = search needs
+read-keyed-requires : tie.Need-read-keyed-requires
+read-keyed-requires c κs = search needs
 
 enum-told : tie.Need-enum-told
 enum-told c = search needs
@@ -17,11 +17,11 @@ enum-told c = search needs
 enum-known-columns : tie.Need-enum-known-columns
 enum-known-columns c = search needs
 
-slice-aggregate-keyed-2 : tie.Need-slice-aggregate-keyed-2
-slice-aggregate-keyed-2 c = search needs
+slice-aggregate-read-keyed-2 : tie.Need-slice-aggregate-read-keyed-2
+slice-aggregate-read-keyed-2 c = search needs
 
-keyed-requires-2 : tie.Need-keyed-requires-2
-keyed-requires-2 c κs = search needs
+read-keyed-requires-2 : tie.Need-read-keyed-requires-2
+read-keyed-requires-2 c κs = search needs
 
 enum-told-2 : tie.Need-enum-told-2
 enum-told-2 c = search needs
@@ -29,11 +29,11 @@ enum-told-2 c = search needs
 enum-known-delay : tie.Need-enum-known-delay
 enum-known-delay c = search needs
 
-slice-aggregate-keyed-3 : tie.Need-slice-aggregate-keyed-3
-slice-aggregate-keyed-3 c = search needs
+slice-aggregate-read-keyed-3 : tie.Need-slice-aggregate-read-keyed-3
+slice-aggregate-read-keyed-3 c = search needs
 
-keyed-requires-3 : tie.Need-keyed-requires-3
-keyed-requires-3 c κs = search needs
+read-keyed-requires-3 : tie.Need-read-keyed-requires-3
+read-keyed-requires-3 c κs = search needs
 
 enum-told-3 : tie.Need-enum-told-3
 enum-told-3 c = search needs
@@ -45,7 +45,7 @@ returns : tie.Need-returns
 unfolding asked
 returns c =
     let k = c .before .before in
-    rw (sym (k .keyed .ensures) ∙ ap numberMeant (c .enum-told .given .1))
+    rw (sym (k .read-keyed .ensures) ∙ ap numberMeant (c .enum-told .given .1))
 
 returns-2 : tie.Need-returns-2
 unfolding asked
@@ -53,8 +53,8 @@ returns-2 c =
     let m = c .before .before in
     let k = m .before .before .before in
     rw (
-      sym (k .before .before .keyed .ensures) ∙ ap numberMeant (k .columns .given .1),
-      sym (m .keyed2 .ensures) ∙ ap numberMeant (c .enum-told2 .given .1),
+      sym (k .before .before .read-keyed .ensures) ∙ ap numberMeant (k .columns .given .1),
+      sym (m .read-keyed2 .ensures) ∙ ap numberMeant (c .enum-told2 .given .1),
     )
 
 returns-3 : tie.Need-returns-3
@@ -65,9 +65,9 @@ returns-3 c =
     let m = r .before .before in
     let k = m .before .before .before in
     rw (
-      sym (k .before .before .keyed .ensures) ∙ ap numberMeant (k .columns .given .1),
-      sym (m .keyed2 .ensures) ∙ ap numberMeant (r .delay .given .1),
-      sym (n .keyed3 .ensures) ∙ ap numberMeant (c .enum-told3 .given .1),
+      sym (k .before .before .read-keyed .ensures) ∙ ap numberMeant (k .columns .given .1),
+      sym (m .read-keyed2 .ensures) ∙ ap numberMeant (r .delay .given .1),
+      sym (n .read-keyed3 .ensures) ∙ ap numberMeant (c .enum-told3 .given .1),
     )
 
 returns-4 : tie.Need-returns-4
@@ -79,25 +79,25 @@ returns-4 c =
     let m = r .before .before in
     let k = m .before .before .before in
     rw (
-      sym (k .before .before .keyed .ensures) ∙ ap numberMeant (k .columns .given .1),
-      sym (m .keyed2 .ensures) ∙ ap numberMeant (r .delay .given .1),
-      sym (n .keyed3 .ensures) ∙ ap numberMeant (g .gap .given .1),
+      sym (k .before .before .read-keyed .ensures) ∙ ap numberMeant (k .columns .given .1),
+      sym (m .read-keyed2 .ensures) ∙ ap numberMeant (r .delay .given .1),
+      sym (n .read-keyed3 .ensures) ∙ ap numberMeant (g .gap .given .1),
     )
 
 pub read-asked-spec : {M : Type 1} → statement M
 read-asked-spec =
     tie.close
     (tie.spec
-    slice-aggregate-keyed
-    keyed-requires
+    slice-aggregate-read-keyed
+    read-keyed-requires
     enum-told
     enum-known-columns
-    slice-aggregate-keyed-2
-    keyed-requires-2
+    slice-aggregate-read-keyed-2
+    read-keyed-requires-2
     enum-told-2
     enum-known-delay
-    slice-aggregate-keyed-3
-    keyed-requires-3
+    slice-aggregate-read-keyed-3
+    read-keyed-requires-3
     enum-told-3
     enum-known-gap
     returns

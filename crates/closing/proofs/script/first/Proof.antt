@@ -2,8 +2,11 @@ use borrow.Author.Needs.{needs}
 use Prim.Native.Nat.{ℕ}
 use mathlib.Core.Path.{_≡_, sym, ap, _∙_}
 use mathlib.Core.List.{List}
+use native.Mathlib.Omega.{arith}
 use Rattle.bank.specs.Steps.{answered}
 use Rattle.bank.specs.declared.bank.Answer.{Answer}
+use Rattle.closing.specs.Text.{tableOk}
+use Rattle.closing.specs.Writing.{puts-all}
 use Rattle.closing.specs.Tables.{Placed, placedAt, readTable}
 use Rattle.closing.specs.Advances.{progressOf, tableAdvance, firstAdvance}
 use Rattle.closing.specs.ScriptLaws.{text-advanced, first-long, first-read, fresh-bank}
@@ -95,7 +98,7 @@ returns-3 c heads doors =
     let t = e .before .before in
     let done = e .enum-told .given .1 in
     rw (c .run-to3 .ensures, judged-as t _ done heads doors, fresh-bank (start t .args .input .now) (read t) (f .fresh .result) (is t _ done) (f .fresh .ensures))
-    (text-advanced _ (k .put-all .ensures))
+    (text-advanced _ (puts-all tableOk (omega (arith, start t .pre)) (k .put-all .ensures)))
 
 pub first-spec : {M : Type 1} → statement M
 first-spec =

@@ -1,5 +1,8 @@
 use borrow.Author.Needs.{needs}
 use mathlib.Core.Path.{sym, _∙_}
+use native.Mathlib.Omega.{arith}
+use Rattle.closing.specs.Text.{restYes, restNo}
+use Rattle.closing.specs.Writing.{puts-all}
 use Rattle.closing.proofs.script.put_rest.Statement.{statement}
 use Rattle.closing.proofs.script.put_rest.Tie as tie
 
@@ -19,7 +22,7 @@ returns : tie.Need-returns
 returns c =
     let p = c .before .before in
     let t = p .before .before .before in
-    rw (sym (t .before .at-rest .ensures) ∙ t .if1 .taken) (p .put-all .ensures)
+    rw (sym (t .before .at-rest .ensures) ∙ t .if1 .taken) (puts-all restYes (omega (arith, t .before .before .before .pre)) (p .put-all .ensures))
 
 slice-aggregate-put-all-2 : tie.Need-slice-aggregate-put-all-2
 slice-aggregate-put-all-2 c = search needs
@@ -34,7 +37,7 @@ returns-2 : tie.Need-returns-2
 returns-2 c =
     let p = c .before .before in
     let t = p .before .before .before in
-    rw (sym (t .before .at-rest .ensures) ∙ t .if1 .left) (p .put-all2 .ensures)
+    rw (sym (t .before .at-rest .ensures) ∙ t .if1 .left) (puts-all restNo (omega (arith, t .before .before .before .pre)) (p .put-all2 .ensures))
 
 pub put-rest-spec : {M : Type 1} → statement M
 put-rest-spec =

@@ -24,16 +24,16 @@ lines-are p good g q h =
     let a = k .before .before .before .before .before .before .before .before .args in
     judged-held _ _ (keyed columnsKey 2 (a .one .now)) (keyed rootKey 2 (a .two .now)) (numbers upKey (a .three .now))
     (furtherLines (drop (a .at) (a .input .now))) (a .at) _ q
-    (sym (k .before .before .keyed .ensures) ∙ ap numberMeant (k .columns .given .1))
-    (sym (r .before .before .keyed2 .ensures) ∙ ap numberMeant (r .root .given .1))
+    (sym (k .before .before .read-keyed .ensures) ∙ ap numberMeant (k .columns .given .1))
+    (sym (r .before .before .read-keyed2 .ensures) ∙ ap numberMeant (r .root .given .1))
     (sym (p .numbers-of .ensures) ∙ ap (λ b. cond b (read (p .numbers-of .result .list)) unread) g)
     h
 
-slice-aggregate-keyed : tie.Need-slice-aggregate-keyed
-slice-aggregate-keyed c = search needs
+slice-aggregate-read-keyed : tie.Need-slice-aggregate-read-keyed
+slice-aggregate-read-keyed c = search needs
 
-keyed-requires : tie.Need-keyed-requires
-keyed-requires c κs = search needs
+read-keyed-requires : tie.Need-read-keyed-requires
+read-keyed-requires c κs = search needs
 
 enum-told : tie.Need-enum-told
 enum-told c = search needs
@@ -44,11 +44,11 @@ refused-requires c κs = search needs
 enum-known-columns : tie.Need-enum-known-columns
 enum-known-columns c = search needs
 
-slice-aggregate-keyed-2 : tie.Need-slice-aggregate-keyed-2
-slice-aggregate-keyed-2 c = search needs
+slice-aggregate-read-keyed-2 : tie.Need-slice-aggregate-read-keyed-2
+slice-aggregate-read-keyed-2 c = search needs
 
-keyed-requires-2 : tie.Need-keyed-requires-2
-keyed-requires-2 c κs = search needs
+read-keyed-requires-2 : tie.Need-read-keyed-requires-2
+read-keyed-requires-2 c κs = search needs
 
 enum-told-2 : tie.Need-enum-told-2
 enum-told-2 c = search needs
@@ -84,7 +84,7 @@ returns-2 : tie.Need-returns-2
 unfolding joined judged
 returns-2 c =
     let k = c .before .before .before in
-    rw (sym (k .keyed .ensures) ∙ ap numberMeant (c .before .enum-told .given .1)) (c .refused .ensures)
+    rw (sym (k .read-keyed .ensures) ∙ ap numberMeant (c .before .enum-told .given .1)) (c .refused .ensures)
 
 returns-3 : tie.Need-returns-3
 unfolding joined judged
@@ -92,8 +92,8 @@ returns-3 c =
     let m = c .before .before .before in
     let k = m .before .before .before in
     rw (
-      sym (k .before .before .keyed .ensures) ∙ ap numberMeant (k .columns .given .1),
-      sym (m .keyed2 .ensures) ∙ ap numberMeant (c .before .enum-told2 .given .1),
+      sym (k .before .before .read-keyed .ensures) ∙ ap numberMeant (k .columns .given .1),
+      sym (m .read-keyed2 .ensures) ∙ ap numberMeant (c .before .enum-told2 .given .1),
     )
     (c .refused2 .ensures)
 
@@ -107,13 +107,13 @@ pub read-lines-spec : {M : Type 1} → statement M
 read-lines-spec =
     tie.close
     (tie.spec
-    slice-aggregate-keyed
-    keyed-requires
+    slice-aggregate-read-keyed
+    read-keyed-requires
     enum-told
     refused-requires
     enum-known-columns
-    slice-aggregate-keyed-2
-    keyed-requires-2
+    slice-aggregate-read-keyed-2
+    read-keyed-requires-2
     enum-told-2
     refused-requires-2
     enum-known-root

@@ -1,26 +1,30 @@
-use Prim.Native.Nat.{_+_, _-_, _≤_}
+use Prim.Native.Nat.{_+_, _-_, _≤_, min}
 use mathlib.Core.Path.{_≡_, refl, sym, ap, _∙_}
 use native.Mathlib.Omega.{arith}
-use lib.ListN.{length, take, length-set}
-use lib.Seq.{take-all}
-use Rattle.closing.specs.Writing.{written-none, written-next}
+use lib.ListN.{length, take, length-set, length-take}
+use Rattle.closing.specs.Writing.{written-none, written-next, take-fewer}
 use Rattle.closing.specs.Text.{written}
 use borrow.Author.Needs.{needs}
 use Rattle.closing.proofs.text.put_all.Statement.{statement}
 use Rattle.closing.proofs.text.put_all.Tie as tie
 
 abbrev Inv-loop : tie.InvT-loop
-Inv-loop out₀ at bytes i₀ out i =
-    (i ≤ length bytes)
-    × (at + length bytes ≤ length out₀)
+Inv-loop out₀ at bytes n i₀ out i =
+    (i ≤ n)
+    × (n ≡ min (length out₀ - at) (length bytes))
     × (length out ≡ length out₀)
     × (out ≡ written out₀ at (take i bytes))
 
 abbrev μ-loop : tie.MeasureT-loop
-μ-loop out₀ at bytes i₀ out i = length bytes - i
+μ-loop out₀ at bytes n i₀ out i = n - i
+
+fitting-requires : tie.Need-fitting-requires Inv-loop μ-loop
+fitting-requires c κs = search needs
 
 loop-holds : tie.Need-loop-holds Inv-loop μ-loop
-loop-holds c = (omega arith, c .pre, refl, sym (written-none (c .args .out .now) (c .args .at)))
+loop-holds c =
+    let a = c .before .before .before .args in
+    (omega arith, c .fitting .ensures, refl, sym (written-none (a .out .now) (a .at)))
 
 shared-slice-read-out : tie.Need-shared-slice-read-out Inv-loop μ-loop
 shared-slice-read-out c = search needs
@@ -40,12 +44,12 @@ loop-less c = search needs
 loop-again : tie.Need-loop-again Inv-loop μ-loop
 loop-again c =
     let l = c .before .before in
-    let a = l .before .args in
+    let a = l .before .before .before .before .args in
     let v = l .loop .inv in (
       omega arith,
       v .1,
       simp length-set (v .2),
-      rw (v .3) (written-next (a .out .now) (a .at) (a .bytes .now) (l .loop .i) (omega arith) (v .1)),
+      rw (v .3) (written-next (a .out .now) (a .at) (a .bytes .now) (l .loop .i) (omega arith) (omega arith)),
     )
 
 add-result : tie.Need-add-result Inv-loop μ-loop
@@ -57,11 +61,11 @@ same-length c = c .before .loop .inv .2
 returns : tie.Need-returns Inv-loop μ-loop
 returns c =
     let l = c .before in
-    let a = l .before .args in
-    let e : l .loop .i ≡ length (a .bytes .now) = omega arith in
+    let a = l .before .before .before .before .args in
+    let fit = take-fewer (length (a .out .now) - a .at) (l .loop .i) (a .bytes .now) (omega arith) in
     record {
-      place = omega arith;
-      left = l .loop .inv .3 ∙ ap (λ w. written (a .out .now) (a .at) w) (take-all (l .loop .i) (a .bytes .now) (omega arith));
+      place = omega (arith, length-take (length (a .out .now) - a .at) (a .bytes .now));
+      left = l .loop .inv .3 ∙ ap (λ w. written (a .out .now) (a .at) w) fit;
     }
 
 pub put-all-spec : {M : Type 1} → statement M
@@ -70,6 +74,7 @@ put-all-spec =
     (tie.spec
     Inv-loop
     μ-loop
+    fitting-requires
     loop-holds
     shared-slice-read-out
     add-out

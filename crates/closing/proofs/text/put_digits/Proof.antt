@@ -1,7 +1,6 @@
 use borrow.Author.Needs.{needs}
-use mathlib.Core.Path.{_≡_, ap, _∙_}
-use native.Mathlib.Omega.{arith}
-use lib.ListN.{length, take}
+use mathlib.Core.Path.{_≡_, _∙_}
+use lib.ListN.{take}
 use Rattle.closing.specs.Text.{decimal}
 use Rattle.closing.specs.DecimalLaws.{few-digits, digits-decimal}
 use Rattle.closing.proofs.text.put_digits.Statement.{statement}
@@ -25,7 +24,7 @@ slice-aggregate-put-all : tie.Need-slice-aggregate-put-all
 slice-aggregate-put-all c = search needs
 
 put-all-requires : tie.Need-put-all-requires
-put-all-requires c κs = omega (arith, ap length (spelt (c .before .before)))
+put-all-requires c κs = search needs
 
 same-length : tie.Need-same-length
 same-length c = search needs

@@ -1,46 +1,18 @@
 use borrow.Author.Needs.{needs}
-use Prim.Native.Nat.{ℕ, _+_, _≤_}
-use mathlib.Core.List.{List, [], _∷_, _++_}
-use lib.ListN.{length}
+use mathlib.Core.List.{[], _∷_, _++_}
 use Rattle.closing.specs.Text.{newline, decimal}
-use Rattle.closing.specs.Writing.{room-first, room-rest, writes-more}
+use Rattle.closing.specs.Writing.{puts-more}
 use Rattle.closing.proofs.text.put_field.Statement.{statement}
 use Rattle.closing.proofs.text.put_field.Tie as tie
 
--- what follows the key, and what follows the number
-abbrev second : ℕ → List ℕ
-second n = decimal n ++ (newline ∷ [])
-
-abbrev third : List ℕ
-third = newline ∷ []
-
-room-2 : (c : tie.After-put-all) → let s = c .before .before .before .before in
-    c .put-all .result + length (second (s .args .n)) ≤ length (c .put-all .last .0)
-room-2 c =
-    let s = c .before .before .before .before in
-    room-rest (s .args .key .now) (second (s .args .n)) (s .pre) (c .put-all .ensures) (c .put-all .kept .0)
-
-room-3 : (c : tie.After-put-number) → c .put-number .result + length third ≤ length (c .put-number .last .0)
-room-3 c =
-    let p = c .before .before .before .before in
-    let n = p .before .before .before .before .args .n in
-    room-rest (decimal n) third (room-2 p) (c .put-number .ensures) (c .put-number .kept .0)
-
 put-all-requires : tie.Need-put-all-requires
-put-all-requires c κs =
-    let s = c .before .before .before in
-    room-first _ (s .args .key .now) (second (s .args .n)) (s .pre)
+put-all-requires c κs = search needs
 
 put-number-requires : tie.Need-put-number-requires
-put-number-requires c κs =
-    let p = c .before .before .before in
-    room-first _ (decimal (p .before .before .before .before .args .n)) third (room-2 p)
+put-number-requires c κs = search needs
 
-slice-aggregate-put-all : tie.Need-slice-aggregate-put-all
-slice-aggregate-put-all c = search needs
-
-put-all-requires-2 : tie.Need-put-all-requires-2
-put-all-requires-2 c κs = room-3 (c .before .before .before .before)
+put-byte-requires : tie.Need-put-byte-requires
+put-byte-requires c κs = search needs
 
 same-length : tie.Need-same-length
 same-length c = search needs
@@ -48,12 +20,12 @@ same-length c = search needs
 returns : tie.Need-returns
 returns c =
     let t = c .before .before in
-    let q = t .before .before .before .before .before in
+    let q = t .before .before .before .before in
     let p = q .before .before .before .before in
-    let s = p .before .before .before .before in
-    writes-more (s .args .key .now) (second (s .args .n)) (s .pre) (p .put-all .ensures)
-    (writes-more (decimal (s .args .n)) third (room-2 p) (q .put-number .ensures) (t .put-all2 .ensures))
+    let a = p .before .before .before .before .args in
+    puts-more (a .key .now) (decimal (a .n) ++ (newline ∷ [])) (p .put-all .ensures)
+    (puts-more (decimal (a .n)) (newline ∷ []) (q .put-number .ensures) (t .put-byte .ensures))
 
 pub put-field-spec : {M : Type 1} → statement M
 put-field-spec =
-    tie.close (tie.spec put-all-requires put-number-requires slice-aggregate-put-all put-all-requires-2 same-length returns)
+    tie.close (tie.spec put-all-requires put-number-requires put-byte-requires same-length returns)

@@ -1,36 +1,16 @@
 use borrow.Author.Needs.{needs}
-use Prim.Native.Nat.{ℕ, _+_, _/_, _%_, _≤_}
+use Prim.Native.Nat.{ℕ, _+_, _/_, _%_}
 use mathlib.Core.Path.{_≡_}
 use mathlib.Core.List.{List, [], _∷_, _++_}
 use native.Mathlib.Omega.{arith}
-use lib.ListN.{length}
 use Rattle.closing.specs.Text.{decimal}
 use Rattle.closing.specs.DecimalLaws.{decimal-one, decimal-two}
-use Rattle.closing.specs.Writing.{room-rest, writes-more}
+use Rattle.closing.specs.Writing.{puts-more}
 use Rattle.closing.proofs.text.put_number.Statement.{statement}
 use Rattle.closing.proofs.text.put_number.Tie as tie
 
 abbrev digit : ℕ → List ℕ
 digit d = (48 + d) ∷ []
-
--- one digit
-module _ (t : tie.Then2) where
-  abbrev short : tie.Start
-  short = t .before .before .before
-
-  text-one : decimal (short .args .n) ≡ digit (short .args .n)
-  text-one = decimal-one (short .args .n) (t .if2 .taken)
-
--- two digits
-module _ (t : tie.Else2) where
-  abbrev start : tie.Start
-  start = t .before .before .before
-
-  text-two : decimal (start .args .n) ≡ digit (start .args .n / 10) ++ digit (start .args .n % 10)
-  text-two = decimal-two (start .args .n) (t .if2 .left) (t .before .if1 .left)
-
-  room-two : start .args .at + length (digit (start .args .n / 10) ++ digit (start .args .n % 10)) ≤ length (start .args .out .now)
-  room-two = rw (text-two) at (start .pre)
 
 put-digits-requires : tie.Need-put-digits-requires
 put-digits-requires c κs = search needs
@@ -41,11 +21,14 @@ same-length c = search needs
 returns : tie.Need-returns
 returns c = search needs
 
-put-digit-requires : tie.Need-put-digit-requires
-put-digit-requires c κs =
-    let t = c .before in
-    let room = rw (text-one t) at (short t .pre) in
-    (omega (arith, room), t .if2 .taken)
+cast-put-byte : tie.Need-cast-put-byte
+cast-put-byte c = search needs
+
+add-put-byte : tie.Need-add-put-byte
+add-put-byte c = search needs
+
+put-byte-requires : tie.Need-put-byte-requires
+put-byte-requires c κs = search needs
 
 same-length-2 : tie.Need-same-length-2
 same-length-2 c = search needs
@@ -53,18 +36,26 @@ same-length-2 c = search needs
 returns-2 : tie.Need-returns-2
 returns-2 c =
     let d = c .before .before in
-    rw (text-one (d .before .before)) (d .put-digit .ensures)
-
-put-digit-requires-2 : tie.Need-put-digit-requires-2
-put-digit-requires-2 c κs = (omega (arith, room-two (c .before)), omega (arith, c .before .before .if1 .left))
-
-put-digit-requires-3 : tie.Need-put-digit-requires-3
-put-digit-requires-3 c κs =
-    let d = c .before .before .before in
     let t = d .before .before in
-    let n = start t .args .n in
-    let room = room-rest (digit (n / 10)) (digit (n % 10)) (room-two t) (d .put-digit2 .ensures) (d .put-digit2 .kept .0) in
-    (omega (arith, room), omega arith)
+    rw (decimal-one (t .before .before .before .args .n) (t .if2 .taken)) (d .put-byte .ensures)
+
+cast-put-byte-2 : tie.Need-cast-put-byte-2
+cast-put-byte-2 c = search needs
+
+add-put-byte-2 : tie.Need-add-put-byte-2
+add-put-byte-2 c = search needs
+
+put-byte-requires-2 : tie.Need-put-byte-requires-2
+put-byte-requires-2 c κs = search needs
+
+cast-put-byte-3 : tie.Need-cast-put-byte-3
+cast-put-byte-3 c = search needs
+
+add-put-byte-3 : tie.Need-add-put-byte-3
+add-put-byte-3 c = search needs
+
+put-byte-requires-3 : tie.Need-put-byte-requires-3
+put-byte-requires-3 c κs = search needs
 
 same-length-3 : tie.Need-same-length-3
 same-length-3 c = search needs
@@ -74,8 +65,9 @@ returns-3 c =
     let e = c .before .before in
     let d = e .before .before .before .before in
     let t = d .before .before in
-    let n = start t .args .n in
-    rw (text-two t) (writes-more (digit (n / 10)) (digit (n % 10)) (room-two t) (d .put-digit2 .ensures) (e .put-digit3 .ensures))
+    let n = t .before .before .before .args .n in
+    rw (decimal-two n (t .if2 .left) (t .before .if1 .left))
+    (puts-more (digit (n / 10)) (digit (n % 10)) (d .put-byte2 .ensures) (e .put-byte3 .ensures))
 
 pub put-number-spec : {M : Type 1} → statement M
 put-number-spec =
@@ -84,10 +76,16 @@ put-number-spec =
     put-digits-requires
     same-length
     returns
-    put-digit-requires
+    cast-put-byte
+    add-put-byte
+    put-byte-requires
     same-length-2
     returns-2
-    put-digit-requires-2
-    put-digit-requires-3
+    cast-put-byte-2
+    add-put-byte-2
+    put-byte-requires-2
+    cast-put-byte-3
+    add-put-byte-3
+    put-byte-requires-3
     same-length-3
     returns-3)
