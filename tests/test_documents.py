@@ -22,7 +22,7 @@ from scripts import SCRIPTS
 from stack import ROUNDS, runs_in
 
 CITING = ("SPECIFICATION.md", "REPORT.md", "PROOFS.md")
-SHORT = re.compile(r"^(column|fastest|bank|losses|figure|agreement|closing|journals|firmware|edges|handed)/(proofs/)?([A-Za-z_]+)(\.rt)?$")
+SHORT = re.compile(r"^(column|fastest|bank|losses|figure|agreement|closing|journals|firmware|edges|handed)/((?:proofs|inner|laws|examples)/(?:[a-z]+/)?)?([A-Za-z_]+)(\.rt)?$")
 WHOLE = re.compile(r"^(crates/.+|tests/.+|docs/.+|examples/.+|include/.+|crates\.txt|README\.md)$")
 BLOCK = re.compile(r"```c?\n(.*?)```", re.S)
 REQUEST = ("columns=5", "delay=2", "gap=1")
@@ -38,9 +38,9 @@ def file_of(word):
     """The path that a cited word stands for, if it is a file's."""
     short = SHORT.match(word)
     if short:
-        crate, proofs, name, source = short.groups()
-        folder = "src" if source else "proofs" if proofs else "specs"
-        return os.path.join("crates", crate, folder, name + (".rt" if source else ".antt"))
+        crate, folder, name, source = short.groups()
+        place = "src" if source else (folder or "") if (folder or "").startswith("proofs/") else f"specs/{folder or ''}"
+        return os.path.join("crates", crate, place, name + (".rt" if source else ".antt"))
     return word if WHOLE.match(word) else None
 
 

@@ -1,4 +1,4 @@
-"""The dispatch that `turn-order` of agreement/TurnRuns computes, taken by the model: any other order of a turn's steps leads to another list."""
+"""The dispatch that `turn-order` of agreement/examples/TurnRuns computes, taken by the model: any other order of a turn's steps leads to another list."""
 import itertools
 import os
 import re
@@ -39,7 +39,7 @@ class Bank(model.Bank):
 
 def computed():
     """The steps that lead to the example's bank, and those of its dispatch, as the example has them."""
-    with open(os.path.join(ROOT, "crates", "agreement", "specs", "TurnRuns.antt"), encoding="utf8") as file:
+    with open(os.path.join(ROOT, "crates", "agreement", "specs", "examples", "TurnRuns.antt"), encoding="utf8") as file:
         lists = re.findall(r"(?:[A-Z][a-z]+ [\d ]+ ∷ )+\[\]", file.read())
     return [[(step.lower(), *map(int, numbers.split())) for step, numbers in re.findall(r"([A-Z][a-z]+) ([\d ]+) ∷", text)] for text in lists]
 

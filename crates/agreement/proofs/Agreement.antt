@@ -7,24 +7,24 @@ use lib.Dec.{eqb, ltb}
 use borrow.Author.Tests.{lt-ltb}
 use Rattle.column.specs.Sets.{has}
 use Rattle.column.specs.Trees.{choose}
-use Rattle.column.specs.TreeLaws.{check-exact}
+use Rattle.column.specs.laws.TreeLaws.{check-exact}
 use Rattle.column.specs.Columns.{standing}
 use Rattle.column.specs.Steps as core
 use Rattle.column.specs.declared.tree.Tree.{Tree}
 use Rattle.column.specs.declared.state.Column.{Column}
 use Rattle.bank.specs.Banks.{State, columnAt, capacity}
 use Rattle.bank.specs.Rest.{Running}
-use Rattle.bank.specs.StandingLaws.{acting-passes}
+use Rattle.bank.specs.laws.StandingLaws.{acting-passes}
 use Rattle.bank.specs.Steps.{accepted, refused, unless, fitting, settled, acted}
 use Rattle.agreement.specs.History.{World, rootOf}
 use Rattle.agreement.specs.Agreement.{NeitherSends, Agreement, Agrees}
-use Rattle.agreement.proofs.Model.{Empty, Runs}
-use Rattle.agreement.proofs.Move.{Idle}
-use Rattle.agreement.proofs.Rest.{rest-agrees, served}
-use Rattle.agreement.proofs.Conditions.{empty, not-member}
-use Rattle.agreement.proofs.View.{modelOf}
-use Rattle.agreement.proofs.Quiet.{quiet-rest, send-passes}
-use Rattle.agreement.proofs.Reached.{Reached, after-every, reached-stands, reached-passes}
+use Rattle.agreement.proofs.relation.Model.{Empty, Runs}
+use Rattle.agreement.proofs.relation.Move.{Idle}
+use Rattle.agreement.proofs.invariant.Rest.{rest-agrees, served}
+use Rattle.agreement.proofs.relation.Conditions.{empty, not-member}
+use Rattle.agreement.proofs.relation.View.{modelOf}
+use Rattle.agreement.proofs.refinement.Quiet.{quiet-rest, send-passes}
+use Rattle.agreement.proofs.refinement.Reached.{Reached, after-every, reached-stands, reached-passes}
 
 -- ---- "A running root sends while send there isn't refused with 6"
 

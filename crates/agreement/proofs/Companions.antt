@@ -6,28 +6,28 @@ use mathlib.Core.Path.{_≡_, refl, sym, ap, _∙_}
 use mathlib.Core.Logic.{⊎-elim}
 use mathlib.Core.List.{List, [], _∷_}
 use lib.ListN.{length}
-use Rattle.column.specs.Cases.{truth}
+use Rattle.column.specs.laws.Cases.{truth}
 use Rattle.column.specs.Packets.{receiver}
-use Rattle.column.specs.StateLaws.{acceptable}
+use Rattle.column.specs.laws.StateLaws.{acceptable}
 use Rattle.column.specs.declared.tree.Tree.{Tree}
 use Rattle.column.specs.declared.state.Column.{Column}
 use Rattle.bank.specs.Banks.{State, columnAt, runs, packetAt, bankRefusal}
 use Rattle.bank.specs.Steps.{Outcome, accepted, refused, after}
 use Rattle.bank.specs.Performs.{perform}
 use Rattle.bank.specs.Rest.{Running, AtRest}
-use Rattle.bank.specs.StandingLaws.{Stands}
-use Rattle.bank.specs.RestLaws.{halted-rests}
-use Rattle.bank.specs.Places.{tree-kept}
+use Rattle.bank.specs.laws.StandingLaws.{Stands}
+use Rattle.bank.specs.laws.RestLaws.{halted-rests}
+use Rattle.bank.specs.laws.Places.{tree-kept}
 use Rattle.bank.specs.declared.bank.Step.{Step}
 use Rattle.bank.specs.declared.bank.Step.the-variants.{Order}
 use Rattle.agreement.specs.History.{World, rootOf, told, run, Line, stepsOf, follow}
 use Rattle.agreement.specs.Agreement.{begin}
 use Rattle.agreement.specs.Companions.{Passes, Ordered, OrdersCount, HaltedRests, KeepsTree}
-use Rattle.agreement.proofs.Model.{Runs}
-use Rattle.agreement.proofs.Move.{Move, orders, order}
-use Rattle.agreement.proofs.View.{modelOf}
-use Rattle.agreement.proofs.Perform.{refines}
-use Rattle.agreement.proofs.Reached.{Reached, after-every, reached-stands, reached-passes}
+use Rattle.agreement.proofs.relation.Model.{Runs}
+use Rattle.agreement.proofs.relation.Move.{Move, orders, order}
+use Rattle.agreement.proofs.relation.View.{modelOf}
+use Rattle.agreement.proofs.refinement.RefineBack.{refines}
+use Rattle.agreement.proofs.refinement.Reached.{Reached, after-every, reached-stands, reached-passes}
 
 pub passes : Passes
 passes = after-every (λ w. bankRefusal (w .state) ≡ 0) reached-passes

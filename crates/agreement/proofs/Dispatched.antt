@@ -7,29 +7,29 @@ use mathlib.Core.Logic.{⊎-elim}
 use mathlib.Core.Bool.{Bool, true, false, not, _&&_, cond, true≢false}
 use mathlib.Core.List.{List, [], _∷_, _++_}
 use lib.ListN.{length}
-use Rattle.column.specs.Cases.{equal-cases, and-left, and-right}
+use Rattle.column.specs.laws.Cases.{equal-cases, and-left, and-right}
 use Rattle.column.specs.Trees.{IsTree}
-use Rattle.column.specs.TreeLaws.{check-exact, tree-sixteen}
+use Rattle.column.specs.laws.TreeLaws.{check-exact, tree-sixteen}
 use Rattle.column.specs.declared.tree.Tree.{Tree}
 use Rattle.bank.specs.Banks.{State, runs, places}
 use Rattle.bank.specs.Steps.{Outcome, accepted, refused}
 use Rattle.bank.specs.Performs.{perform}
 use Rattle.bank.specs.Rest.{isRefused, AtRest}
-use Rattle.bank.specs.RestLaws.{rest-exact}
+use Rattle.bank.specs.laws.RestLaws.{rest-exact}
 use Rattle.bank.specs.Dispatch.{offers, offered, firstAccepted, turn, onward, dispatched, dispatch}
-use Rattle.bank.specs.DispatchLaws.{stops-rest, stops-taken, take-accepted}
+use Rattle.bank.specs.laws.DispatchLaws.{stops-rest, stops-taken, take-accepted}
 use Rattle.bank.specs.declared.bank.Step.{Step}
 use Rattle.bank.specs.declared.bank.Step.the-variants.{Order, Send, Take, Ack, All, Note, Halt, Back, Write}
 use Rattle.agreement.specs.History.{World, columnsOf, ordersAfter, told, run, follow}
 use Rattle.agreement.specs.Dispatching.{stepsWithin, stepBound, isSettling, allSettling, allAccepted, RestsWithin, Settles, Rests, Within2224, Within2160}
-use Rattle.agreement.proofs.Potential.{potential}
-use Rattle.agreement.proofs.Ceiling.{ceiling}
-use Rattle.agreement.proofs.Settling.{settling, fall}
-use Rattle.agreement.proofs.View.{modelOf, OneMove, event}
-use Rattle.agreement.proofs.Perform.{refines}
-use Rattle.agreement.proofs.Reached.{Reached, after-every, next, reached, reached-stands}
+use Rattle.agreement.proofs.bounds.Potential.{potential}
+use Rattle.agreement.proofs.bounds.Ceiling.{ceiling}
+use Rattle.agreement.proofs.bounds.Settling.{settling, fall}
+use Rattle.agreement.proofs.relation.View.{modelOf, OneMove, event}
+use Rattle.agreement.proofs.refinement.RefineBack.{refines}
+use Rattle.agreement.proofs.refinement.Reached.{Reached, after-every, next, reached, reached-stands}
 use Rattle.agreement.proofs.Limits.{reached-room}
-use Rattle.agreement.proofs.RestRefuses.{rest-refuses}
+use Rattle.agreement.proofs.refinement.RestQuiet.{rest-refuses}
 
 -- ---- the potential of a bank with its past
 

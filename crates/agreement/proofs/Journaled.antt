@@ -5,38 +5,37 @@ use mathlib.Core.Path.{_≡_, refl, sym, ap₂, subst, _∙_}
 use mathlib.Core.Bool.{false, true≢false}
 use mathlib.Core.List.{List, [], _∷_, List·Memᴰ, List·Memᴰ·head, List·Memᴰ·tail}
 use Rattle.column.specs.Sets.{has}
-use Rattle.column.specs.TreeLaws.{check-exact}
+use Rattle.column.specs.laws.TreeLaws.{check-exact}
 use Rattle.column.specs.declared.tree.Tree.{Tree}
 use Rattle.column.specs.declared.packet.Packet.{Packet}
 use Rattle.bank.specs.Banks.{State}
 use Rattle.bank.specs.Steps.{Outcome, accepted, refused, haltRefusal, halt}
 use Rattle.bank.specs.Performs.{perform}
-use Rattle.bank.specs.Kinds.{isBack}
+use Rattle.bank.specs.Returns.{isBack}
 use Rattle.bank.specs.Strips.{haltOne, andThen, singles}
-use Rattle.bank.specs.StripLaws.{singly, listed, distinct-listed, members-listed}
-use Rattle.bank.specs.Unchanged.{unchanged}
+use Rattle.bank.specs.laws.strips.StripLaws.{singly, listed, distinct-listed, members-listed}
+use Rattle.bank.specs.laws.RestSteps.{unchanged}
 use Rattle.bank.specs.declared.bank.Step.{Step}
 use Rattle.bank.specs.declared.bank.Step.the-variants.{Order, Send, Take, Ack, All, Note, Halt, Back, Write}
 use Rattle.agreement.specs.History.{World, ordersAfter, told, run}
 use Rattle.agreement.specs.Agreement.{begin}
 use Rattle.agreement.specs.Journals.{Journals, allGot, allSent, journalsAfter, recorded, journals, Stays, NoneBack, Proper, Consistent, JournalsAgree, TextsAgree}
 use Rattle.journals.specs.declared.line.Line.{Line}
-use Rattle.journals.specs.JournalLaws.{AllGood}
-use Rattle.journals.specs.ComparisonLaws.{texts-compared}
-use Rattle.agreement.proofs.Move.{Event, halts}
-use Rattle.agreement.proofs.View.{modelOf, OneMove, event}
-use Rattle.agreement.proofs.Refining.{Refined, accepted-goes}
-use Rattle.agreement.proofs.RefineTake.{refines-halt}
-use Rattle.agreement.proofs.Perform.{refines}
-use Rattle.agreement.proofs.Model as model
-use Rattle.agreement.proofs.Writing.{same-model, written-is}
-use Rattle.agreement.proofs.Reached.{Reached, start, fresh-model, moved, carried, next}
+use Rattle.journals.specs.laws.JournalLaws.{AllGood}
+use Rattle.journals.specs.laws.ComparingLaws.{texts-compared}
+use Rattle.agreement.proofs.relation.Move.{Event, halts}
+use Rattle.agreement.proofs.relation.View.{modelOf, OneMove, event}
+use Rattle.agreement.proofs.refinement.RefineCommon.{Refined, accepted-goes}
+use Rattle.agreement.proofs.refinement.RefineTake.{refines-halt}
+use Rattle.agreement.proofs.refinement.RefineBack.{refines}
+use Rattle.agreement.proofs.relation.Model as model
+use Rattle.agreement.proofs.refinement.Told.{same-model, written-is}
+use Rattle.agreement.proofs.refinement.Reached.{Reached, start, fresh-model, moved, carried, next}
 use Rattle.agreement.proofs.Companions.{run-tree}
-use Rattle.agreement.proofs.SpreadKept.{Onward}
-use Rattle.agreement.proofs.Dues.{Recorded}
-use Rattle.agreement.proofs.Recorded.{recorded-kept, recorded-fresh, consistent}
-use Rattle.agreement.proofs.Entries.{sent-told, got-told}
-use Rattle.agreement.proofs.EventPackets.{gotBy, putBy, gots-by, puts-by}
+use Rattle.agreement.proofs.bounds.SpreadLaws.{Onward}
+use Rattle.agreement.proofs.journals.Dues.{Recorded, gotBy, putBy, gots-by, puts-by}
+use Rattle.agreement.proofs.journals.JournalsKept.{recorded-kept, recorded-fresh, consistent}
+use Rattle.agreement.proofs.journals.StepPackets.{sent-told, got-told}
 
 abbrev RecordedIn : World → Journals → Type 0
 RecordedIn w j = Recorded (w .state .bank .tree) (modelOf (w .state) (w .orders)) j

@@ -11,37 +11,35 @@ use lib.Dec.{eqb}
 use lib.ListN.{length, replicate, length-replicate}
 use borrow.Author.Tests.{eq-eqb, ne-eqb, not-false}
 use Rattle.column.specs.Sets.{has}
-use Rattle.column.specs.SetLaws.{lt-within}
+use Rattle.column.specs.laws.SetLaws.{lt-within}
 use Rattle.column.specs.Trees.{every}
-use Rattle.column.specs.TreeLaws.{every-all, every-fails}
+use Rattle.column.specs.laws.TreeLaws.{every-all, every-fails}
 use Rattle.column.specs.Columns.{stopped}
 use Rattle.column.specs.declared.tree.Tree.{Tree}
 use Rattle.column.specs.declared.state.Column.{Column}
 use Rattle.bank.specs.Banks.{State, columnAt, runs, capacity}
-use Rattle.bank.specs.FreshLaws.{fresh-at}
+use Rattle.bank.specs.laws.StandingLaws.{fresh-at, every-same}
 use Rattle.bank.specs.Steps.{Outcome, accepted, refused, after, membersRun, haltRefusal, halt}
 use Rattle.bank.specs.Performs.{perform}
 use Rattle.bank.specs.Rest.{Running, AtRest}
 use Rattle.bank.specs.Dispatch.{dispatched, dispatchOutcome}
-use Rattle.bank.specs.StandingLaws.{every-same}
-use Rattle.bank.specs.StripStates.{column-at}
-use Rattle.bank.specs.StripLaws.{halt-accepted}
+use Rattle.bank.specs.laws.strips.StripStates.{column-at}
+use Rattle.bank.specs.laws.strips.StripLaws.{halt-accepted}
 use Rattle.bank.specs.declared.bank.Bank.{Bank}
 use Rattle.bank.specs.declared.bank.Step.the-variants.{Order, Halt}
 use Rattle.losses.specs.Losses.{mostColumns, lossesRefusal, ordered, begun, toRest, ended, nobodyRuns, allHold, endsWith, oneIf, countedTo, lossesOf}
-use Rattle.losses.specs.LossesLaws.{begun-tree, ended-tree, Counting, counting, order-accepted}
+use Rattle.losses.specs.laws.LossesLaws.{begun-tree, ended-tree, Counting, counting, order-accepted}
 use Rattle.losses.specs.declared.count.Losses.{Losses}
-use Rattle.agreement.specs.Orders.{given}
-use Rattle.agreement.specs.History.{World, told, run, follow}
+use Rattle.agreement.specs.History.{given, World, told, run, follow}
 use Rattle.agreement.specs.Agreement.{begin}
 use Rattle.agreement.specs.Dispatching.{stepsWithin}
 use Rattle.agreement.specs.Losing.{Ends, Counts, Losing}
-use Rattle.agreement.proofs.Reached.{Reached, start, next, reached, reached-passes}
+use Rattle.agreement.proofs.refinement.Reached.{Reached, start, next, reached, reached-passes}
 use Rattle.agreement.proofs.Companions.{told-tree, run-tree, orders-count}
 use Rattle.agreement.proofs.Agreement.{agrees}
 use Rattle.agreement.proofs.Dispatched.{settles}
-use Rattle.agreement.proofs.DispatchKept.{step-runs, told-state, told-orders, dispatchedOn, dispatch-same, dispatch-is}
-use Rattle.agreement.proofs.Counted.{fails-somewhere, counted-three, counted-full}
+use Rattle.agreement.proofs.refinement.DispatchKept.{step-runs, told-state, told-orders, dispatchedOn, dispatch-same, dispatch-is}
+use Rattle.agreement.proofs.losses.Counted.{fails-somewhere, counted-three, counted-full}
 
 -- 9 times N squared less 5 times N grows with N
 enough : (n : ℕ) → n ≤ mostColumns → stepsWithin n ≤ toRest

@@ -9,10 +9,10 @@ use mathlib.Core.List.{List, [], _∷_, map}
 use lib.Dec.{eqb, ltb}
 use lib.Pow.{pow-mono}
 use borrow.Author.Tests.{eq-eqb, ne-eqb, eqb-true, eqb-false}
-use Rattle.column.specs.Cases.{truth, and-right}
+use Rattle.column.specs.laws.Cases.{truth, and-right}
 use Rattle.column.specs.Sets.{has, single}
-use Rattle.column.specs.SetLaws.{has-single}
-use Rattle.column.specs.TreeLaws.{check-exact, tree-sixteen}
+use Rattle.column.specs.laws.SetLaws.{has-single}
+use Rattle.column.specs.laws.TreeLaws.{check-exact, tree-sixteen}
 use Rattle.column.specs.Columns.{stopped}
 use Rattle.column.specs.Returns.{struck}
 use Rattle.column.specs.declared.state.Column.{Column}
@@ -22,25 +22,25 @@ use Rattle.bank.specs.Steps.{Outcome, accepted, halted}
 use Rattle.bank.specs.Performs.{perform}
 use Rattle.bank.specs.Rest.{Running, AtRest}
 use Rattle.bank.specs.Returns.{backRefusal, returned}
-use Rattle.bank.specs.ReturnLaws.{Returning, returning, place-mine, place-struck}
-use Rattle.bank.specs.RestLaws.{rest-exact, broken-rests}
-use Rattle.bank.specs.StripStates.{column-at}
+use Rattle.bank.specs.laws.ReturnLaws.{Returning, returning, place-mine, place-struck}
+use Rattle.bank.specs.laws.RestLaws.{rest-exact, broken-rests}
+use Rattle.bank.specs.laws.strips.StripStates.{column-at}
 use Rattle.bank.specs.Strips.{among, Distinct}
 use Rattle.bank.specs.declared.bank.Bank.{Bank}
 use Rattle.bank.specs.declared.bank.Step.the-variants.{Note, Halt, Back}
 use Rattle.agreement.specs.History.{World, told, run}
 use Rattle.agreement.specs.Dispatching.{allAccepted}
 use Rattle.agreement.specs.Returning.{RestsAfterAny, StillRests, RestsAfter, noticed, Restored, Undone, Restores}
-use Rattle.agreement.proofs.Members.{absent}
-use Rattle.agreement.proofs.Rest.{none-awaited}
-use Rattle.agreement.proofs.Conditions.{not-member, widths}
-use Rattle.agreement.proofs.Quiet.{quiet-rest}
-use Rattle.agreement.proofs.Refining.{accepted-goes}
-use Rattle.agreement.proofs.Refine.{model-runs}
-use Rattle.agreement.proofs.RefineBack.{rests-after}
-use Rattle.agreement.proofs.RestQuiet.{rest-quiet}
-use Rattle.agreement.proofs.Away.{stepped, halts-alone, Held, each-notes}
-use Rattle.agreement.proofs.Reached.{Reached, after-every, reached-stands, reached-passes}
+use Rattle.agreement.proofs.relation.Members.{absent}
+use Rattle.agreement.proofs.invariant.Rest.{none-awaited}
+use Rattle.agreement.proofs.relation.Conditions.{not-member, widths}
+use Rattle.agreement.proofs.refinement.Quiet.{quiet-rest}
+use Rattle.agreement.proofs.refinement.RefineCommon.{accepted-goes}
+use Rattle.agreement.proofs.refinement.RefineOwn.{model-runs}
+use Rattle.agreement.proofs.refinement.RefineBack.{rests-after}
+use Rattle.agreement.proofs.refinement.RestQuiet.{rest-quiet}
+use Rattle.agreement.proofs.refinement.Away.{stepped, halts-alone, Held, each-notes}
+use Rattle.agreement.proofs.refinement.Reached.{Reached, after-every, reached-stands, reached-passes}
 
 -- ---- what an accepted return leaves, and what it asked
 

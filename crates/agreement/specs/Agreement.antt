@@ -10,8 +10,7 @@ use Rattle.column.specs.declared.tree.Tree.{Tree}
 use Rattle.bank.specs.Banks.{State, state, columnAt, freshBank, capacity}
 use Rattle.bank.specs.Steps.{refused, send}
 use Rattle.bank.specs.Rest.{Running, AtRest}
-use Rattle.agreement.specs.Orders.{given}
-use Rattle.agreement.specs.History.{World, rootOf, Line, follow}
+use Rattle.agreement.specs.History.{given, World, rootOf, Line, follow}
 
 -- a fresh bank, whatever the words in the free places of its network
 abbrev pub begin : Tree → List ℕ → List ℕ → World

@@ -1,4 +1,4 @@
--- What stands beside agreement, so that a bank that refuses everything would not do.
+-- What stands beside demand 3, so that a bank that refuses everything would not do.
 use Prim.Native.Nat.{ℕ, suc}
 use mathlib.Core.Path.{_≡_}
 use mathlib.Core.List.{List}

@@ -2,7 +2,7 @@
 -- times N steps (2,224 for 16)." Point 9: "the packet and step limits of Points 2 and 3 are for watch=root only": the step limit holds whoever
 -- is watched.
 use Prim.Native.Nat.{ℕ, _-_, _*_, _≤_, _<_}
-use mathlib.Core.Path.{_≡_, refl}
+use mathlib.Core.Path.{_≡_}
 use mathlib.Core.Logic.{_↔_}
 use mathlib.Core.Bool.{Bool, true, false, not, _&&_}
 use mathlib.Core.List.{List, [], _∷_}
@@ -65,10 +65,6 @@ pub record Settles (w : World) : Type 0 where
 
 abbrev pub Rests : Type 0
 Rests = AfterEveryList Settles
-
--- "(2,224 for 16)", the most columns that a bank has; by the lower limit 2,160
-pub for-sixteen : (stepsWithin 16 ≡ 2224) × (stepBound 16 ≡ 2160)
-for-sixteen = (refl, refl)
 
 abbrev pub Within2224 : Type 0
 Within2224 = AfterEveryList (RestsWithin 2224)

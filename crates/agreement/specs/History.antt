@@ -133,3 +133,9 @@ stepsOf w (dispatching limit) = dispatched limit (w .state)
 unfoldable pub follow : World → List Line → World
 follow w [] = w
 follow w (l ∷ ls) = follow (run w (stepsOf w l)) ls
+
+-- "From fresh, the n-th accepted order gives number n and its doors": the doors under a number, where the list has the newest first;
+-- none under number 0
+unfoldable pub given : List ℕ → ℕ → ℕ
+given [] k = 0
+given (d ∷ ds) k = cond (eqb k (suc (length ds))) d (given ds k)

@@ -8,8 +8,7 @@ use lib.Dec.{eqb}
 use lib.ListN.{length}
 use Rattle.column.specs.Trees.{treeRefusal}
 use Rattle.column.specs.declared.tree.Tree.{Tree}
-use Rattle.column.specs.Packets.{sender, receiver}
-use Rattle.column.specs.Packets.{numberOf}
+use Rattle.column.specs.Packets.{sender, receiver, numberOf}
 use Rattle.column.specs.Steps as core
 use Rattle.column.specs.declared.packet.Packet.{Packet}
 use Rattle.column.specs.declared.packet.Packet.the-variants.{Message, Acknowledgement}
@@ -17,12 +16,11 @@ use Rattle.bank.specs.Words.{numbers}
 use Rattle.bank.specs.Banks.{State, columnAt, runs, packetAt, capacity}
 use Rattle.bank.specs.Steps.{Outcome, accepted, refused}
 use Rattle.bank.specs.Performs.{perform}
-use Rattle.bank.specs.Kinds.{isBack}
+use Rattle.bank.specs.Returns.{isBack}
 use Rattle.bank.specs.declared.bank.Step.{Step}
 use Rattle.bank.specs.declared.bank.Step.the-variants.{Order, Send, Take, Ack, All, Note, Halt, Back, Write}
-use Rattle.journals.specs.Journals.{line, journalText, journalLimit, missingText, compared}
+use Rattle.journals.specs.Journals.{line, journalText, journalLimit, missingText, compared, Once, journal}
 use Rattle.closing.specs.Closing.{placed}
-use Rattle.journals.specs.ComparisonLaws.{Once, journal}
 use Rattle.journals.specs.declared.line.Way.the-variants.{Sent, Got}
 use Rattle.journals.specs.declared.line.Line.{Line}
 use Rattle.agreement.specs.History.{World, leftBy, told}

@@ -1,7 +1,7 @@
 -- Document 02, Point 3: the network never fills. Point 9 says of watch=sender "the packet and step limits of Points 2 and 3 are for watch=root
 -- only, and 9 may occur": the packet limit holds there too, and 9 never occurs from fresh, whoever is watched.
 use Prim.Native.Nat.{ℕ, _-_, _*_, _≤_}
-use mathlib.Core.Path.{_≡_, refl}
+use mathlib.Core.Path.{_≡_}
 use Rattle.bank.specs.Banks.{State}
 use Rattle.bank.specs.Steps.{refused}
 use Rattle.bank.specs.Performs.{perform}
@@ -25,9 +25,6 @@ At480 = AfterEveryList (λ w. w .state .bank .count ≤ 480)
 -- a lower limit, and nearly met: 434 of the 435 for 16 have been under way (`crowded` of `tests/script_makers.py`)
 abbrev pub packetBound : ℕ → ℕ
 packetBound n = (n - 1) * (2 * n - 3)
-
-pub for-sixteen : (packetLimit 16 ≡ 480) × (packetBound 16 ≡ 435)
-for-sixteen = (refl, refl)
 
 abbrev pub WithinPacketBound : Type 0
 WithinPacketBound = AfterEveryList (λ w. w .state .bank .count ≤ packetBound (columnsOf w))

@@ -8,8 +8,7 @@ use Rattle.column.specs.Sets.{single}
 use Rattle.column.specs.Columns.{haltNoted, withPending}
 use Rattle.column.specs.declared.state.Column.{Column}
 use Rattle.bank.specs.Words.{numbers}
-use Rattle.bank.specs.Banks.{State, columnAt}
-use Rattle.bank.specs.NetworkLaws.{Whole}
+use Rattle.bank.specs.Banks.{State, columnAt, Whole}
 use Rattle.bank.specs.Steps.{accepted}
 use Rattle.bank.specs.Performs.{perform}
 use Rattle.bank.specs.Rest.{Running, AtRest}

@@ -3,8 +3,9 @@
 use Prim.Native.Nat.{ℕ, zero, suc}
 use mathlib.Core.Bool.{Bool, false, not, _&&_, cond}
 use mathlib.Core.List.{List, [], _∷_, _++_}
+use mathlib.Core.Path.{_≡_}
 use lib.Dec.{eqb, leb, ltb}
-use lib.ListN.{getD, replicate}
+use lib.ListN.{getD, replicate, length}
 use Rattle.column.specs.Refusals.{first, earlier}
 use Rattle.column.specs.Sets.{selected}
 use Rattle.column.specs.Trees.{every, treeRefusal, columnRefusal}
@@ -104,3 +105,19 @@ bankRefusal s = earlier (treeRefusal (s .bank .tree)) (first (bankConditions s))
 -- "4: column not below columns"
 abbrev pub actingRefusal : State → ℕ → ℕ
 actingRefusal s i = earlier (bankRefusal s) (first ((4, leb (s .bank .tree .columns) i) ∷ []))
+
+-- every place of the network has its words
+pub record Whole (s : State) : Type 0 where
+  pub heads-length : length (s .heads) ≡ capacity
+  pub doors-length : length (s .doors) ≡ capacity
+
+-- n is the refusal of the bank, whatever the doors
+abbrev pub RefusesBank : ℕ → Bank → List ℕ → Type 0
+RefusesBank n b heads = (doors : List ℕ) → n ≡ bankRefusal (state b heads doors)
+
+-- a bank whose parts are handed over
+abbrev pub joined : Tree → List Column → ℕ → Bank
+joined t columns count = record { tree = t; columns = columns; count = count }
+
+abbrev pub RefusesActing : ℕ → Bank → List ℕ → ℕ → Type 0
+RefusesActing n b heads i = (doors : List ℕ) → n ≡ actingRefusal (state b heads doors) i

@@ -1,14 +1,18 @@
 -- The dispatcher, after document 02, Point 2: "At each turn it takes the first accepted one among, for running columns from 0 up, note
--- (lowest j first), send, ack, all; if no column has any, the oldest packet is taken."
+-- (lowest j first), send, ack, all; if no column has any, the oldest packet is taken." And what it answers: "Dispatcher returns its count,
+-- equal to the steps of the defined run and bounded by the formula", which is `few` of `Settles` in agreement.
 use Prim.Native.Nat.{ℕ, zero, suc}
 use mathlib.Core.Bool.{cond}
 use mathlib.Core.List.{List, [], _∷_, _++_}
-use Rattle.bank.specs.Banks.{State, runs, places, bankRefusal}
-use Rattle.bank.specs.Steps.{Outcome, accepted, refused, unless}
+use mathlib.Core.Path.{_≡_}
+use lib.ListN.{length}
+use Rattle.bank.specs.Banks.{State, runs, places, bankRefusal, state}
+use Rattle.bank.specs.Steps.{Outcome, accepted, refused, unless, answered}
 use Rattle.bank.specs.Performs.{perform}
 use Rattle.bank.specs.Rest.{isRefused}
 use Rattle.bank.specs.declared.bank.Step.{Step}
 use Rattle.bank.specs.declared.bank.Step.the-variants.{Send, Take, Ack, All, Note}
+use Rattle.bank.specs.declared.dispatch.Dispatched.{Dispatched}
 
 -- what column i of n can be given to do
 abbrev pub offers : ℕ → ℕ → List Step
@@ -46,3 +50,7 @@ dispatch (suc limit) s = onward (perform s (turn s)) s (λ next. dispatch limit 
 -- a bank that 2, 3 or 4 refuses is refused as by every step; nothing else refuses a dispatch
 abbrev pub dispatchOutcome : ℕ → State → Outcome State
 dispatchOutcome limit s = unless (bankRefusal s) s (accepted (dispatch limit s))
+
+pub record Dispatches (r : Dispatched) (heads doors : List ℕ) (limit : ℕ) (s : State) (o : Outcome State) : Type 0 where
+  pub count-is : r .steps ≡ length (dispatched limit s)
+  pub outcome-is : answered (r .answer) (state (r .bank) heads doors) ≡ o

@@ -8,9 +8,8 @@ use Rattle.column.specs.Refusals.{first, earlier, Given, given, refused, givenU
 use Rattle.column.specs.Pages as core
 use Rattle.column.specs.declared.page.Byte.{Byte}
 use Rattle.bank.specs.Banks.{State, state, columnAt, actingRefusal}
-use Rattle.bank.specs.Steps.{Outcome, accepted, outcome, unless, withColumn}
+use Rattle.bank.specs.Steps.{Outcome, accepted, unless, withColumn}
 use Rattle.bank.specs.declared.bank.Bank.{Bank}
-use Rattle.bank.specs.declared.bank.Result.{Result}
 use Rattle.bank.specs.declared.page.Line.{Line}
 use Rattle.bank.specs.declared.page.Line.the-variants.{Is, Refused}
 
@@ -35,10 +34,6 @@ writeRefusal s i offset = earlier (actingRefusal s i) (first (core.writeConditio
 abbrev pub write : State → ℕ → ℕ → ℕ → Outcome State
 write s i offset value =
     unless (writeRefusal s i offset) s (accepted (withColumn s i (core.written (columnAt (s .bank) i) offset value)))
-
--- what is answered, whatever the doors under way, which a write keeps
-abbrev pub Writes : Result → Bank → List ℕ → ℕ → ℕ → ℕ → Type 0
-Writes r b heads i offset value = (doors : List ℕ) → outcome r heads doors ≡ write (state b heads doors) i offset value
 
 -- ---- the line of a column
 

@@ -1,20 +1,18 @@
--- A step for a caller that has tested its bank and hands over the place of one column and the count: said of every bank of which these are the parts, where what is
--- known of it is so.
-use Prim.Native.Nat.{ℕ, _%_, _≤_}
+-- A step by parts of a bank that was tested, after document 01, "The shape each place takes": "a step returns it with one place rewritten". It is said of every
+-- bank of which these are the parts, where what is known of it is so.
+use Prim.Native.Nat.{ℕ, _%_}
 use mathlib.Core.Path.{_≡_}
-use mathlib.Core.Bool.{Bool, true, false, cond}
+use mathlib.Core.Bool.{Bool, true, false, cond, _||_}
 use mathlib.Core.List.{List}
-use lib.ListN.{set}
+use lib.ListN.{set, getD}
+use lib.Dec.{leb}
 use Rattle.column.specs.declared.tree.Tree.{Tree}
 use Rattle.column.specs.declared.state.Column.{Column}
-use Rattle.bank.specs.Banks.{State, state, columnAt, runningOf, bankRefusal}
-use Rattle.bank.specs.Standing.{joined, newestStands}
+use Rattle.bank.specs.Banks.{State, state, columnAt, runningOf, bankRefusal, joined, capacity}
 use Rattle.bank.specs.Steps.{answered}
 use Rattle.bank.specs.Performs.{perform}
-use Rattle.bank.specs.Changes.{Lit}
-use Rattle.bank.specs.Moves.{isMove, receiverAt}
+use Rattle.bank.specs.Words.{receiverIn}
 use Rattle.bank.specs.declared.bank.Bank.{Bank}
-use Rattle.bank.specs.declared.bank.Answer.{Answer}
 use Rattle.bank.specs.declared.bank.Step.{Step}
 use Rattle.bank.specs.declared.bank.Step.the-variants.{Order, Send, Take, Ack, All, Note, Halt, Back, Write}
 use Rattle.bank.specs.declared.unchecked_for_script.Tested.{Tested}
@@ -41,6 +39,10 @@ retested v n = record { known = v .known; refusal = n; running = v .running }
 
 -- ---- a step by parts
 
+-- whom the packet at a place is for, where there is such a place
+unfoldable pub receiverAt : ℕ → List ℕ → ℕ
+receiverAt place heads = cond (leb capacity place) 0 (receiverIn (getD heads place 0))
+
 -- whose step it is, where the bank has such a column
 abbrev pub actorOf : Tree → Step → List ℕ → ℕ
 actorOf t (Order doors) heads = t .root
@@ -53,12 +55,6 @@ actorOf t (Halt m) heads = 0
 actorOf t (Back j) heads = 0
 actorOf t (Write i offset value) heads = 0
 
-pub record PartIs (r : Part) (c : Column) (count : ℕ) (a : Answer) (n : ℕ) : Type 0 where
-  pub column-is : r .column ≡ c
-  pub count-is : r .count ≡ count
-  pub answer-is : r .answer ≡ a
-  pub refusal-is : r .refusal ≡ n
-
 -- "a step returns it with one place rewritten"; a number that no place has stands for one that has
 abbrev pub withPart : Bank → ℕ → Part → Bank
 withPart b i r = joined (b .tree) (set (b .columns) (i % 16) (r .column)) (r .count)
@@ -68,15 +64,33 @@ pub record PartOf (r : Part) (v : Tested) (s : State) (x : Step) (i : ℕ) (head
   pub performed : answered (r .answer) (state (withPart (s .bank) i r) heads doors) ≡ perform s x
   pub told : Tells (retested v (r .refusal)) (state (withPart (s .bank) i r) heads doors)
 
+-- those that are a step of the core
+abbrev pub isOwn : Step → Bool
+isOwn (Order doors) = true
+isOwn (Send i) = true
+isOwn (Take place) = false
+isOwn (Ack i) = true
+isOwn (All i) = true
+isOwn (Note i j) = true
+isOwn (Halt m) = false
+isOwn (Back j) = false
+isOwn (Write i offset value) = false
+
+abbrev pub isTake : Step → Bool
+isTake (Order doors) = false
+isTake (Send i) = false
+isTake (Take place) = true
+isTake (Ack i) = false
+isTake (All i) = false
+isTake (Note i j) = false
+isTake (Halt m) = false
+isTake (Back j) = false
+isTake (Write i offset value) = false
+
+abbrev pub isMove : Step → Bool
+isMove x = isTake x || isOwn x
+
 abbrev pub StepsPart : Part → Tested → Tree → Step → ℕ → Column → ℕ → List ℕ → List ℕ → List ℕ → List ℕ → Type 0
 StepsPart r v t x i c count heads doors heads' doors' =
     (columns : List Column) → let s = state (joined t columns count) heads doors in
     Tells v s → isMove x ≡ true → i ≡ actorOf t x heads → columnAt (s .bank) (i % 16) ≡ c → PartOf r v s x i heads' doors'
-
--- ---- what a step can have changed
-
--- a bank that stood before a step is refused by 4 after it, or by nothing
-abbrev pub RefusesAfter : ℕ → Tree → ℕ → ℕ → List ℕ → Type 0
-RefusesAfter n t running count heads =
-    (b : Bank) (doors : List ℕ) → b .tree ≡ t → Lit running b → b .count ≡ count → t .columns ≤ 16 → count ≤ 512
-    → n ≡ cond (newestStands (state b heads doors)) 0 4

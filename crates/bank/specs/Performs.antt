@@ -1,4 +1,5 @@
--- One step, whichever it is. A return asks for rest, which is defined by the other steps.
+-- One step, whichever it is, after document 01, "Steps", and document 02, Points 1, 7 and 12. A return asks for rest, which is defined by the
+-- other steps.
 use Rattle.bank.specs.Banks.{State}
 use Rattle.bank.specs.Steps.{Outcome, order, send, take, ack, all, note, halt}
 use Rattle.bank.specs.Returns.{back}

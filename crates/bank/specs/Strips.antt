@@ -7,9 +7,8 @@ use mathlib.Core.List.{List, [], _∷_}
 use lib.Dec.{eqb}
 use Rattle.column.specs.Sets.{has}
 use Rattle.column.specs.Steps as core
-use Rattle.bank.specs.Banks.{State, columnAt, actingRefusal}
+use Rattle.bank.specs.Banks.{State, columnAt, actingRefusal, Whole}
 use Rattle.bank.specs.Networks.{only, vanished}
-use Rattle.bank.specs.NetworkLaws.{Whole}
 use Rattle.bank.specs.Steps.{Outcome, accepted, refused, unless, settled, haltRefusal, halt}
 
 -- "i stops ..; packets to it vanish": one column, by the core

@@ -1,5 +1,5 @@
--- A packet of the network as two words. The head holds the kind, the ends and the number, the other word the doors. Words 0 and 0 are
--- what a free place holds after a step freed it.
+-- A packet of the network as two words, after document 01, "Packets". The head holds the kind, the ends and the number, the other word the
+-- doors. Words 0 and 0 are what a free place holds after a step freed it.
 use Prim.Native.Nat.{ℕ, _+_, _*_, _/_, _%_}
 use mathlib.Core.Bool.{cond}
 use lib.Dec.{ltb}

@@ -30,11 +30,10 @@ ghost use Prim.Native.Nat.{_≤_, _<_};
 ghost use mathlib.Core.Bool.{true};
 ghost use Rattle.column.specs.Steps.{meant, refused};
 ghost use Rattle.bank.specs.Banks.{state, runningOf, bankRefusal};
-ghost use Rattle.bank.specs.Dispatch.{dispatch, dispatchOutcome};
+ghost use Rattle.bank.specs.Dispatch.{dispatch, dispatchOutcome, Dispatches};
 ghost use Rattle.bank.specs.Steps.{accepted};
-ghost use Rattle.bank.specs.Quick.{isTake, actingIn};
-ghost use Rattle.bank.specs.Turns.{turnEffect, TakesTurn};
-ghost use Rattle.bank.specs.Dispatches.{Dispatches, Ended};
+ghost use Rattle.bank.specs.Parts.{isTake};
+ghost use Rattle.bank.specs.inner.Turning.{actingIn, turnEffect, TakesTurn, Ended};
 
 // The bank after the steps that were taken, and how many they were.
 pub struct Dispatched {

@@ -8,8 +8,8 @@ ghost use mathlib.Core.Path.{_≡_};
 ghost use Prim.Native.Nat.{_+_, _≤_, _<_};
 ghost use lib.ListN.{length, take};
 ghost use Rattle.column.specs.Sets.{has};
-ghost use Rattle.bank.specs.Lists.{closedUp, padded};
-ghost use Rattle.bank.specs.Networks.{Appended, ClosedUp, Kept, Vanishes};
+ghost use Rattle.bank.specs.Networks.{closedUp, padded};
+ghost use Rattle.bank.specs.inner.NetworkWords.{Appended, ClosedUp, Kept, Vanishes};
 
 // The words of packet p stand behind those of `count` others.
 pub fn append(p: Packet, count: usize, heads: &mut [u64; 512], doors: &mut [u64; 512])

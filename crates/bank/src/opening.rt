@@ -5,7 +5,8 @@ use crate::turn::is_take;
 use crate::words::receiver_in;
 use column::precedence::refuse_if;
 ghost use mathlib.Core.Path.{_≡_};
-ghost use Rattle.bank.specs.Moves.{placeIn, receiverAt, openingRefusal};
+ghost use Rattle.bank.specs.inner.Moves.{placeIn, openingRefusal};
+ghost use Rattle.bank.specs.Parts.{receiverAt};
 
 // The place of the packet that a step takes.
 pub(crate) fn place_in(x: Step) -> usize

@@ -10,7 +10,8 @@ use column::page::Byte;
 use column::page::writable;
 use column::page::written;
 use column::precedence::refuse_if;
-ghost use Rattle.bank.specs.Pages.{Reads, Writes, TellsLine};
+ghost use Rattle.bank.specs.Pages.{Reads, TellsLine};
+ghost use Rattle.bank.specs.inner.Changes.{Writes};
 
 pub enum Line {
     Is(bool),

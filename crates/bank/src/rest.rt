@@ -7,7 +7,7 @@ ghost use mathlib.Core.Path.{_≡_};
 ghost use Prim.Native.Nat.{_≤_};
 ghost use Rattle.bank.specs.Banks.{state, runningOf};
 ghost use Rattle.bank.specs.Rest.{atRest};
-ghost use Rattle.bank.specs.RestLaws.{columnsRest};
+ghost use Rattle.bank.specs.inner.Returning.{columnsRest};
 
 // Nobody can do anything, where the bank stands, no packet is under way and the columns in `running` run.
 pub(crate) fn columns_rest(b: Bank, running: u16) -> bool

@@ -17,7 +17,7 @@ ghost use mathlib.Core.Path.{_≡_};
 ghost use Prim.Native.Nat.{_≤_};
 ghost use Rattle.bank.specs.Banks.{runningOf};
 ghost use Rattle.bank.specs.Returns.{withStruck};
-ghost use Rattle.bank.specs.ReturnLaws.{returningRefusal, rejoining, ComesBack};
+ghost use Rattle.bank.specs.inner.Returning.{returningRefusal, rejoining, ComesBack};
 
 // The number n by which the bank is refused, then 4 of a column that it has not, 6 of one of those who run, 15 of the root, 14 where the bank
 // is not at rest, 16 where nobody runs; else 0.

@@ -14,9 +14,7 @@ use column::state::Column;
 ghost use mathlib.Core.Path.{_≡_};
 ghost use Prim.Native.Nat.{_≤_, _<_};
 ghost use Rattle.bank.specs.Banks.{columnAt};
-ghost use Rattle.bank.specs.Offers.{isRefusal};
-ghost use Rattle.bank.specs.StepLaws.{takesOff};
-ghost use Rattle.bank.specs.Changes.{Becomes, Delivers, Settles, SettlesTaken};
+ghost use Rattle.bank.specs.inner.Changes.{isRefusal, takesOff, Becomes, Delivers, Settles, SettlesTaken};
 ghost use Rattle.bank.specs.declared.bank.Answer.the-variants.{Done, Refused};
 
 // Column i, or one that does not run where there is no such place.

@@ -7,8 +7,9 @@ use column::members::has;
 use column::precedence::refuse_if;
 ghost use mathlib.Core.Path.{_≡_};
 ghost use Prim.Native.Nat.{_≤_};
-ghost use Rattle.bank.specs.Standing.{headStands, RefusesBank, RefusesActing};
-ghost use Rattle.bank.specs.Changes.{TellsNewest};
+ghost use Rattle.bank.specs.inner.Surveys.{headStands};
+ghost use Rattle.bank.specs.Banks.{RefusesBank, RefusesActing};
+ghost use Rattle.bank.specs.inner.Changes.{TellsNewest};
 
 // Row 4 of a packet, by its head.
 fn head_stands(columns: usize, root: usize, watch: bool, running: u16, head: u64) -> bool

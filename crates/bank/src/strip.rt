@@ -6,7 +6,7 @@ ghost use mathlib.Core.Path.{_≡_};
 ghost use Prim.Native.Nat.{_≤_, _<_, _^_};
 ghost use Rattle.column.specs.Sets.{has};
 ghost use Rattle.column.specs.Columns.{stopped};
-ghost use Rattle.bank.specs.StepLaws.{haltingRefusal};
+ghost use Rattle.bank.specs.inner.Returning.{haltingRefusal};
 ghost use Rattle.bank.specs.Steps.{withStopped};
 
 // The number n by which the bank is refused, then 4 of a member that it has not, then 5 of one that is none of those who run; else 0.

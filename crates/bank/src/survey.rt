@@ -17,7 +17,7 @@ ghost use Prim.Native.Nat.{ℕ, _^_, _≤_, _<_};
 ghost use lib.ListN.{getD};
 ghost use Rattle.column.specs.Sets.{minus, whole};
 ghost use Rattle.column.specs.Trees.{every};
-ghost use Rattle.bank.specs.Standing.{endsStand, barredOf, pairStands, headStands, placesOf, unseen, setsOf, membersIn, Sees, RefusesSeen, Surveys};
+ghost use Rattle.bank.specs.inner.Surveys.{endsStand, barredOf, pairStands, headStands, placesOf, unseen, setsOf, membersIn, Sees, RefusesSeen, Surveys};
 
 // What is no column's number.
 const NO_END: u8 = 255;

@@ -14,7 +14,8 @@ ghost use Prim.Native.Nat.{_≤_, _<_};
 ghost use mathlib.Core.Bool.{cond};
 ghost use Rattle.column.specs.Sets.{insert, without};
 ghost use Rattle.bank.specs.Banks.{haltedOf};
-ghost use Rattle.bank.specs.Quick.{fits, canSend, canAck, canTakeOver, stepOf, isTake, isReady, readyOf};
+ghost use Rattle.bank.specs.inner.Turning.{fits, canSend, canAck, canTakeOver, stepOf, isReady, readyOf};
+ghost use Rattle.bank.specs.Parts.{isTake};
 ghost use Rattle.bank.specs.declared.bank.Step.the-variants.{Take};
 
 fn fits(full: bool, halted: u16, j: usize) -> bool

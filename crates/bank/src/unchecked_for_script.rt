@@ -14,8 +14,8 @@ use crate::survey::survey;
 use column::state::Column;
 use column::tree::Tree;
 ghost use mathlib.Core.Path.{_≡_};
-ghost use Rattle.bank.specs.Moves.{isMove};
-ghost use Rattle.bank.specs.Parts.{untested, Tests, actorOf, PartIs, RefusesAfter, StepsPart};
+ghost use Rattle.bank.specs.Parts.{isMove, untested, Tests, actorOf, StepsPart};
+ghost use Rattle.bank.specs.inner.Moves.{PartIs, RefusesAfter};
 
 // What is known of a bank: nothing, or by which of 2, 3 and 4 it is refused, else 0, and who runs, where it is 0.
 pub struct Tested {

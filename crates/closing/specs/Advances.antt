@@ -1,5 +1,5 @@
--- A script's run, one text at a time: the table's answer, then each line's, last whether the bank is at rest; and as many texts at a time
--- as surely fit into a buffer.
+-- A script's run, after document 01, "The script program", one text at a time: the table's answer, then each line's, last whether the bank is at
+-- rest; and as many texts at a time as surely fit into a buffer.
 use Prim.Native.Nat.{ℕ, zero, suc, _+_, _-_}
 use mathlib.Core.Path.{_≡_}
 use mathlib.Core.Bool.{Bool, true, false, cond, _||_}
@@ -108,11 +108,6 @@ startRun = record { bank = noBank (noTree .tree); position = 0; begun = false; o
 -- the network's words are 0 at first
 abbrev pub start : Progress
 start = progressOf startRun (replicate capacity 0) (replicate capacity 0) []
-
--- the texts of n advances, joined
-unfoldable pub textsBy : ℕ → List ℕ → Progress → List ℕ
-textsBy zero input p = []
-textsBy (suc n) input p = let q = advance input p in q .text ++ textsBy n input q
 
 -- the run after n calls that fill the buffer
 unfoldable pub filledBy : ℕ → List ℕ → Progress → Progress

@@ -40,10 +40,6 @@ noneKey = bytes "none="
 unfoldable pub countsText : Losses → List ℕ
 countsText l = field keptKey (l .kept) ++ (field lostKey (l .lost) ++ field noneKey (l .none))
 
--- room for three lines of the longest number that is counted
-abbrev pub longestCounts : ℕ
-longestCounts = 27
-
 -- "another form being 13"
 unfoldable pub countedText : Tree → Reading ℕ → List ℕ
 countedText t (read steps) = countsText (lossesOf t steps)

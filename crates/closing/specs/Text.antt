@@ -1,12 +1,16 @@
--- Text as bytes: the keys of tables, requests, scripts and lists, numerals, and bytes written over a buffer.
+-- Text as bytes, after document 01, "The bank and its table" and "The script program": the keys of tables, requests, scripts and lists, numerals,
+-- and bytes written over a buffer.
 use Prim.Native.Nat.{ℕ, zero, suc, _+_, _-_, _*_, _/_, _%_}
 use Prim.Native.Char.{code}
 use Prim.Native.String.{String}
 use Prim.Native.String as string
 use mathlib.Core.Bool.{Bool, true, false, not, _&&_, cond}
 use mathlib.Core.List.{List, [], _∷_, _++_}
+use mathlib.Core.Path.{_≡_}
 use lib.Dec.{eqb, leb, ltb}
 use lib.ListN.{length, take, drop}
+use Rattle.closing.specs.declared.reading.Number.{Number}
+use Rattle.closing.specs.declared.reading.Number.the-variants.{Is, Unread}
 
 -- ---- fixed byte strings
 
@@ -169,3 +173,13 @@ startsWith (k ∷ key) (b ∷ l) = eqb k b && startsWith key l
 -- what stands after a key
 unfoldable pub afterKey : List ℕ → List ℕ → Reading (List ℕ)
 afterKey key l = cond (startsWith key l) (read (drop (length key) l)) unread
+
+-- the values of each case of `Number`
+abbrev pub numberMeant : Number → Reading ℕ
+numberMeant (Is n) = read n
+numberMeant Unread = unread
+
+-- a writer that was lent `old` wrote w from `at` on: it left `new`, and answers the place after w
+pub record Writes (r : ℕ) (new old : List ℕ) (at : ℕ) (w : List ℕ) : Type 0 where
+  pub place : r ≡ at + length w
+  pub left : new ≡ written old at w

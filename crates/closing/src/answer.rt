@@ -9,9 +9,8 @@ ghost use Prim.Native.Nat.{_+_, _≤_};
 ghost use lib.ListN.{length};
 ghost use Rattle.closing.specs.Closing.{longestList};
 ghost use Rattle.closing.specs.Scripts.{refusedText, stepsText};
-ghost use Rattle.closing.specs.Writing.{Writes};
-ghost use Rattle.closing.specs.ScriptLaws.{WritesStep, WritesDispatch};
-ghost use Rattle.closing.specs.PlaceLines.{WritesColumn};
+ghost use Rattle.closing.specs.Text.{Writes};
+ghost use Rattle.closing.specs.inner.ScriptLines.{WritesStep, WritesDispatch, WritesColumn};
 
 pub(crate) fn put_refused(out: &mut [u8], at: usize, n: u8) -> usize
     requires { ⌜ at + longestList ≤ length (now out) ⌝ }

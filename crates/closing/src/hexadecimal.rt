@@ -1,8 +1,8 @@
 // Doors as hexadecimal digits: "`order=` with 16 lowercase hexadecimal digits (byte 0 first)".
 use crate::reading::Number;
 ghost use mathlib.Core.Path.{_≡_};
-ghost use Rattle.closing.specs.Readings.{numberMeant};
-ghost use Rattle.closing.specs.Hexadecimals.{digitRead, byteRead, doorsMeant, doorsRead};
+ghost use Rattle.closing.specs.Text.{numberMeant};
+ghost use Rattle.closing.specs.inner.Hexadecimals.{digitRead, byteRead, doorsMeant, doorsRead};
 
 pub enum Doors {
     Are(u64),

@@ -13,7 +13,7 @@ ghost use Rattle.column.specs.Sets.{insert};
 ghost use Rattle.closing.specs.Text.{read, orderKey, noteKey, haltKey, afterKey};
 ghost use Rattle.closing.specs.Tables.{pieces, numerals, keyed};
 ghost use Rattle.closing.specs.Lines.{lineMeant, asking, doorsIn, noteIn, memberOf, haltAfter, haltIn, commandOf};
-ghost use Rattle.closing.specs.LineLaws.{asked};
+ghost use Rattle.closing.specs.inner.ScriptLines.{asked};
 
 // The set of column 16, which no bank has.
 const SIXTEEN: u32 = 65536;

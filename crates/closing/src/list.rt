@@ -12,9 +12,8 @@ ghost use Prim.Native.Nat.{_≤_, _<_};
 ghost use mathlib.Core.Path.{_≡_};
 ghost use lib.ListN.{length};
 ghost use Rattle.bank.specs.Banks.{state};
-ghost use Rattle.closing.specs.Closing.{longestList, doorsUpTo, divided, listText, listed, placed, loneList, RefusesListing};
-ghost use Rattle.closing.specs.Closing.{list as Closing·list};
-ghost use Rattle.closing.specs.Writing.{Puts};
+ghost use Rattle.closing.specs.Closing.{longestList, doorsUpTo, divided, listText, listed, placed, loneList, RefusesListing, list as Closing·list};
+ghost use Rattle.closing.specs.laws.WritingLaws.{Puts};
 
 // "The longest list is 229."
 pub const LONGEST: usize = 229;

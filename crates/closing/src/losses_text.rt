@@ -13,9 +13,10 @@ use losses::count::losses_refusal;
 ghost use Prim.Native.Nat.{_≤_};
 ghost use mathlib.Core.Path.{_≡_};
 ghost use lib.ListN.{length, drop};
-ghost use Rattle.closing.specs.Readings.{numberMeant};
-ghost use Rattle.closing.specs.LossTexts.{stepCount, countsText, askedText, lossesText, longestCounts};
-ghost use Rattle.closing.specs.Writing.{Writes, Puts};
+ghost use Rattle.closing.specs.Text.{numberMeant, Writes};
+ghost use Rattle.closing.specs.LossTexts.{stepCount, countsText, askedText, lossesText};
+ghost use Rattle.closing.specs.inner.LossAnswers.{longestCounts};
+ghost use Rattle.closing.specs.laws.WritingLaws.{Puts};
 
 // Room for three lines of the longest number that is counted, 256.
 pub const COUNTS: usize = 27;

@@ -7,7 +7,7 @@ use column::tree::ASCENDING;
 ghost use Prim.Native.Nat.{_^_, _<_};
 ghost use mathlib.Core.Path.{_≡_};
 ghost use Rattle.closing.specs.Tables.{numbers, pieces, numerals};
-ghost use Rattle.closing.specs.NumberLists.{withOne, lineMeant, held};
+ghost use Rattle.closing.specs.inner.NumberLists.{withOne, lineMeant, held};
 
 // The numbers of a line: how many, and the first sixteen.
 pub struct NumberList {

@@ -1,9 +1,9 @@
 // Keys and numerals of a text.
 ghost use Prim.Native.Nat.{_≤_, min};
 ghost use mathlib.Core.Path.{_≡_};
-ghost use Rattle.closing.specs.Text.{numeral, startsWith};
+ghost use Rattle.closing.specs.Text.{numeral, startsWith, numberMeant};
 ghost use Rattle.closing.specs.Tables.{keyed};
-ghost use Rattle.closing.specs.Readings.{numberMeant, digits};
+ghost use Rattle.closing.specs.inner.Texts.{digits};
 
 pub enum Number {
     Is(usize),

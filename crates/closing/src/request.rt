@@ -11,12 +11,12 @@ use fastest::strategy::fastest;
 ghost use Prim.Native.Nat.{_≤_};
 ghost use mathlib.Core.Path.{_≡_};
 ghost use lib.ListN.{length, take};
-ghost use Rattle.closing.specs.Text.{columnsKey, delayKey, gapKey};
+ghost use Rattle.closing.specs.Text.{columnsKey, delayKey, gapKey, Writes};
 ghost use Rattle.closing.specs.Closing.{divided};
 ghost use Rattle.closing.specs.Tables.{keyed};
 ghost use Rattle.closing.specs.Requests.{asked, requestOf, tableText, requestText};
-ghost use Rattle.closing.specs.RequestLaws.{requestMeant};
-ghost use Rattle.closing.specs.Writing.{Writes, Puts};
+ghost use Rattle.closing.specs.inner.RequestAnswers.{requestMeant};
+ghost use Rattle.closing.specs.laws.WritingLaws.{Puts};
 
 // The bytes of the longest request; a longer input is refused with 1, whatever it says.
 pub const LIMIT: usize = 29;

@@ -29,9 +29,8 @@ ghost use Rattle.bank.specs.Banks.{state};
 ghost use Rattle.closing.specs.Closing.{longestList};
 ghost use Rattle.closing.specs.Scripts.{restText};
 ghost use Rattle.closing.specs.Advances.{progressOf, startRun, Advanced, bufferSize, fill};
-ghost use Rattle.closing.specs.Writing.{Writes};
-ghost use Rattle.closing.specs.ScriptLaws.{ReadsLine, AdvancedFirst, runTo};
-ghost use Rattle.closing.specs.FillLaws.{Reaches, Fills};
+ghost use Rattle.closing.specs.Text.{Writes};
+ghost use Rattle.closing.specs.inner.ScriptLines.{ReadsLine, AdvancedFirst, runTo, Reaches, Fills};
 
 // The longest input that is read.
 pub const LIMIT: usize = 65536;

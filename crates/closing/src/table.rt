@@ -21,7 +21,7 @@ ghost use mathlib.Core.Path.{_≡_};
 ghost use Rattle.bank.specs.Steps.{answered, refused};
 ghost use Rattle.closing.specs.Text.{read, startsWith};
 ghost use Rattle.closing.specs.Tables.{sequenceLine, watchLine, furtherLines, countedRefusal, placedAt, noTree, readTable};
-ghost use Rattle.closing.specs.TableLaws.{sequenceMeant, heldFrom, watchMeant, watchFrom, furtherMeant, furtherFrom, unlistedRead, watchedRead, treeJudged, heldJudged, linesJudged};
+ghost use Rattle.closing.specs.inner.HeldTables.{sequenceMeant, heldFrom, watchMeant, watchFrom, furtherMeant, furtherFrom, unlistedRead, watchedRead, treeJudged, heldJudged, linesJudged};
 
 // The line of the sequence, where the table has it: whether it is of its form, whether it is there, its numbers, and the place after it.
 struct SequenceRead {

@@ -3,8 +3,8 @@ ghost use Prim.Native.Nat.{_-_, min};
 ghost use mathlib.Core.Path.{_≡_};
 ghost use mathlib.Core.List.{[], _∷_};
 ghost use Rattle.closing.specs.Text.{decimal as Text·decimal, field};
-ghost use Rattle.closing.specs.DividedLaws.{nextText};
-ghost use Rattle.closing.specs.Writing.{Puts};
+ghost use Rattle.closing.specs.inner.Texts.{nextText};
+ghost use Rattle.closing.specs.laws.WritingLaws.{Puts};
 use io::decimal;
 
 // How many of n bytes have room from a place on.

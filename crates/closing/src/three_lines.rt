@@ -2,7 +2,7 @@
 use bytes::scan::find;
 ghost use mathlib.Core.Path.{_≡_};
 ghost use Rattle.closing.specs.Tables.{threeLines};
-ghost use Rattle.closing.specs.LineEnds.{endsMeant, Rising};
+ghost use Rattle.closing.specs.inner.LineEnds.{endsMeant, Rising};
 
 // The places of the bytes 10 that end them.
 pub enum LineEnds {

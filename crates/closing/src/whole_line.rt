@@ -16,14 +16,13 @@ ghost use mathlib.Core.Path.{_≡_};
 ghost use mathlib.Core.Bool.{false};
 ghost use lib.ListN.{length};
 ghost use Rattle.bank.specs.Banks.{state};
-ghost use Rattle.bank.specs.Moves.{isMove};
+ghost use Rattle.bank.specs.Parts.{isMove};
 ghost use Rattle.bank.specs.Performs.{perform};
 ghost use Rattle.bank.specs.Steps.{outcome};
 ghost use Rattle.closing.specs.Closing.{longestList};
 ghost use Rattle.closing.specs.Lines.{lineMeant};
 ghost use Rattle.closing.specs.Scripts.{answered};
-ghost use Rattle.closing.specs.ScriptLaws.{Answers};
-ghost use Rattle.closing.specs.PlaceLines.{byPlace};
+ghost use Rattle.closing.specs.inner.ScriptLines.{Answers, byPlace};
 
 // The bank after a line, and where its text ends.
 pub(crate) struct LineDone {

@@ -8,8 +8,6 @@ use Rattle.column.specs.Refusals.{Given, given, refused}
 use Rattle.column.specs.Packets.{numberOf, narrow, wide, bytesIn, Part, readIn, Wrote, wrote, wroteNone}
 use Rattle.column.specs.declared.packet.Packet.{Packet}
 use Rattle.column.specs.declared.codec.Width.{Width}
-use Rattle.column.specs.declared.converter.Single.{Single}
-use Rattle.column.specs.declared.converter.Single.the-variants as single
 
 -- "one packet (any byte after it is 12)"
 abbrev pub exactly : Given Part → ℕ → Given Packet
@@ -18,11 +16,6 @@ exactly (refused k) n = refused 12
 
 abbrev pub aloneIn : Width → List ℕ → Given Packet
 aloneIn w s = exactly (readIn w s) (length s)
-
--- the values of each case of `Single`
-abbrev pub singleMeant : Single → Given Packet
-singleMeant (single.Is p) = given p
-singleMeant (single.Refused n) = refused n
 
 -- the highest number of the old width
 abbrev pub narrowHighest : ℕ

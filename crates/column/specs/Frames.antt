@@ -63,9 +63,6 @@ frameMeant f = record { count = countMeant (f .count); packets = f .packets }
 abbrev pub framed : ℕ → List Slot → Framed
 framed n slots = record { count = given n; packets = slots }
 
-abbrev pub noFrame : Framed
-noFrame = record { count = refused 12; packets = replicate framePackets noSlot }
-
 -- the packets come first, past them nothing; "yields no packet" where it is refused
 abbrev pub frameOf : Given (List Packet) → Framed
 frameOf (given ps) = framed (length ps) (map slot ps ++ replicate (framePackets - length ps) noSlot)

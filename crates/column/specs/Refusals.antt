@@ -1,4 +1,4 @@
--- Refusals by number, and answers that are a value or a refusal.
+-- Refusals by number, after document 01, "Refused, and by which number", and answers that are a value or a refusal.
 use Prim.Native.Nat.{ℕ}
 use mathlib.Core.Bool.{Bool, cond}
 use mathlib.Core.List.{List, [], _∷_}

@@ -1,5 +1,5 @@
 -- The tree of a bank, after document 01, "The bank and its table", and its sequence, after document 02, Point 6.
-use Prim.Native.Nat.{ℕ, zero, suc, _≤_, _<_, _-_, min}
+use Prim.Native.Nat.{ℕ, zero, suc, _≤_, _<_, min}
 use mathlib.Core.Path.{_≡_}
 use mathlib.Core.Bool.{Bool, true, false, not, _&&_, _||_, cond}
 use mathlib.Core.List.{List, [], _∷_}
@@ -88,26 +88,6 @@ listedIn first (suc k) = insert (listedIn first k) (getD first k 0)
 abbrev pub listsEach : Tree → Bool
 listsEach t = every (listedBelow t) (t .columns) && eqb (listedIn (t .first) (t .columns)) (whole (t .columns))
 
--- what both lists of a tree are tested for in one pass
-abbrev pub listsHold : Tree → Bool
-listsHold t = every (parentBelow t) (t .columns) && listsEach t
-
--- place j of both lists where the parent is below n and lower than its child, of the root 0, and the sequence ascends
-abbrev pub plainAt : ℕ → List ℕ → List ℕ → ℕ → Bool
-plainAt n up first j = ltb (getD up j 0) n && (leb (getD up j 0) (j - 1) && eqb (getD first j 0) j)
-
--- a tree that is seen to be one by a pass over its lists, without a climb: `plain-refusal` of PlainTrees
-abbrev pub plainly : ℕ → ℕ → List ℕ → List ℕ → Bool
-plainly n root up first = not (eqb n 0) && (leb n 16 && (eqb root 0 && every (plainAt n up first) n))
-
--- what the pass over both lists answers, and what a climb rests on: "each parent number is .. tested against the column count in a pass
--- made before any climb"
-pub record Passes (r : Bool) (n : ℕ) (up first : List ℕ) : Type 0 where
-  pub told : r ≡ listsHold (treeInSequence n 0 up first)
-
-pub record ParentsBelow (n : ℕ) (up : List ℕ) : Type 0 where
-  pub each : every (parentBelow (treeOf n 0 up)) n ≡ true
-
 -- "2: columns 0 or above 16. 3: root or parent not below columns, .. root not its own parent, or a climb that misses the root"; "A list that
 -- misses, repeats or exceeds a column is refused with 3."
 abbrev pub treeConditions : Tree → List (ℕ × Bool)
@@ -145,10 +125,6 @@ choose t m = earliestFrom (t .first) m 0 (places t)
 -- "the root names itself, but is nobody's child"
 abbrev pub isChild : Tree → ℕ → ℕ → Bool
 isChild t c j = eqb (parent t j) c && not (eqb j (t .root))
-
--- whether place j has c as its parent
-abbrev pub names : List ℕ → ℕ → ℕ → Bool
-names up c j = eqb (getD up j 0) c
 
 abbrev pub children : Tree → ℕ → ℕ
 children t c = selected (isChild t c) (t .columns)

@@ -1,4 +1,4 @@
--- The steps of a column for the bank, which has tested rows 2 to 4: their own conditions, and one that no tree and state which stand can
+-- The steps of a column, after document 01, "Steps", for the bank, which has tested rows 2 to 4: their own conditions, and one that no tree and state which stand can
 -- break, so that every other one has its answer too. Where those tests let pass they are the steps: `send-unchecked` of UncheckedLaws and its like.
 -- And their effects alone, for a step that is known to be accepted, with that one condition: `send-bounded` of UncheckedLaws and its like.
 use Prim.Native.Nat.{ℕ}
@@ -9,8 +9,7 @@ use Rattle.column.specs.Refusals.{first, earlier}
 use Rattle.column.specs.Sets.{lowest}
 use Rattle.column.specs.Trees.{choose}
 use Rattle.column.specs.Packets.{sender}
-use Rattle.column.specs.Steps.{Result, unless, orderConditions, orderEffect, sendConditions, sendEffect, takeConditions, takeEffect}
-use Rattle.column.specs.Steps.{ackConditions, ackEffect, allConditions, allEffect, noteConditions, noteEffect}
+use Rattle.column.specs.Steps.{Result, unless, orderConditions, orderEffect, sendConditions, sendEffect, takeConditions, takeEffect, ackConditions, ackEffect, allConditions, allEffect, noteConditions, noteEffect}
 use Rattle.column.specs.declared.tree.Tree.{Tree}
 use Rattle.column.specs.declared.state.Column.{Column}
 use Rattle.column.specs.declared.packet.Packet.{Packet}

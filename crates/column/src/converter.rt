@@ -13,7 +13,8 @@ use crate::packet::number_of;
 ghost use Prim.Native.Nat.{_≤_};
 ghost use mathlib.Core.Path.{_≡_};
 ghost use Rattle.column.specs.Packets.{numberSize, wide, writeMeant};
-ghost use Rattle.column.specs.Conversions.{aloneIn, singleMeant, narrowed, convert};
+ghost use Rattle.column.specs.Conversions.{aloneIn, narrowed, convert};
+ghost use Rattle.column.specs.inner.Answers.{singleMeant};
 
 // The highest number of two bytes.
 const NARROW_HIGHEST: Number = 65535;

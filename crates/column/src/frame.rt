@@ -3,7 +3,8 @@ use crate::codec::Reading;
 use crate::codec::read;
 use crate::packet::Packet;
 ghost use mathlib.Core.Path.{_≡_};
-ghost use Rattle.column.specs.Frames.{readFrame, frameMeant, frameOf, noFrame};
+ghost use Rattle.column.specs.Frames.{readFrame, frameMeant, frameOf};
+ghost use Rattle.column.specs.inner.Answers.{noFrame};
 
 // "A frame of more than 512 packets is 12."
 pub const FRAME_PACKETS: usize = 512;

@@ -9,7 +9,8 @@ ghost use mathlib.Core.Path.{_≡_};
 ghost use mathlib.Core.Bool.{true};
 ghost use Prim.Native.Nat.{_≤_, _<_};
 ghost use Rattle.column.specs.Sets.{selected};
-ghost use Rattle.column.specs.Trees.{treeOf, every, plainly, climbsIn, Passes, ParentsBelow, names, children, subtreeIn, subtreesIn};
+ghost use Rattle.column.specs.Trees.{treeOf, every, climbsIn, children, subtreeIn, subtreesIn};
+ghost use Rattle.column.specs.inner.TreePasses.{plainly, Passes, ParentsBelow, names};
 
 // What must hold of the two lists of a tree before any climb: every parent is below n, and the first n places of the sequence have each
 // column below n. One pass goes over both.

@@ -4,8 +4,7 @@ use mathlib.Core.Path.{_≡_}
 use lib.Dec.{eqb}
 use Rattle.column.specs.Trees.{parent, IsTree}
 use Rattle.column.specs.declared.tree.Tree.{Tree}
-use Rattle.fastest.specs.Counts.{count}
-use Rattle.fastest.specs.Schedules.{arrival, Keeps, CompleteBy, Follows}
+use Rattle.fastest.specs.Schedules.{count, arrival, Keeps, CompleteBy, Follows}
 use Rattle.fastest.specs.Strategy.{fastestTree, fastestSent}
 use Rattle.fastest.specs.Formula.{sum, Formula}
 

@@ -1,12 +1,11 @@
 -- Schedules of a tree, after document 02, Point 8, and the report's section 4: who is sent the message when.
-use Prim.Native.Nat.{ℕ, _+_, _*_, _≤_, _<_}
+use Prim.Native.Nat.{ℕ, _+_, _*_, _≤_, _<_, zero, suc}
 use mathlib.Core.Path.{_≡_}
 use mathlib.Core.Bool.{Bool, not, _&&_, cond}
 use mathlib.Core.Logic.{_⊎_}
 use lib.Dec.{eqb}
 use Rattle.column.specs.Trees.{parent}
 use Rattle.column.specs.declared.tree.Tree.{Tree}
-use Rattle.fastest.specs.Counts.{count}
 
 -- a schedule says when each column other than the root is sent the message; "arrival is D units later", and the root has it at 0
 abbrev pub heard : ℕ → ℕ → (ℕ → ℕ) → ℕ → ℕ
@@ -33,6 +32,10 @@ CompleteBy delay t sent time = (c : ℕ) → c < t .columns → arrival delay t 
 -- to how many of the columns below k, the root 0 aside, column i sends
 abbrev pub sends : (ℕ → ℕ) → ℕ → ℕ → Bool
 sends up i c = not (eqb c 0) && eqb (up c) i
+
+unfoldable pub count : (ℕ → Bool) → ℕ → ℕ
+count p zero = 0
+count p (suc n) = cond (p n) 1 0 + count p n
 
 abbrev pub served : (ℕ → ℕ) → ℕ → ℕ → ℕ
 served up i k = count (sends up i) k

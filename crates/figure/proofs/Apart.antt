@@ -10,11 +10,11 @@ use lib.Bits.{bitAnd, and-comm, and-le-r, and-zero-l}
 use lib.Dec.{eqb, ltb}
 use borrow.Author.Tests.{eqb-true, leb-false}
 use Rattle.column.specs.Refusals.{first, earlier}
-use Rattle.column.specs.RefusalLaws.{passed, earlier-none}
+use Rattle.column.specs.laws.RefusalLaws.{passed, earlier-none}
 use Rattle.column.specs.Sets.{has, insert, without, minus}
 use Rattle.column.specs.Trees.{choose}
-use Rattle.column.specs.SetLaws.{has-and, has-none, has-insert, has-without, insert-lt, and-insert, no-members}
-use Rattle.column.specs.TreeLaws.{tree-sixteen}
+use Rattle.column.specs.laws.SetLaws.{has-and, has-none, has-insert, has-without, insert-lt, and-insert, no-members}
+use Rattle.column.specs.laws.TreeLaws.{tree-sixteen}
 use Rattle.column.specs.Columns.{standing, withRegisters}
 use Rattle.column.specs.Pages.{maskOffset, clearOffset, written, writeRefusal}
 use Rattle.column.specs.Steps.{Result, accepted, refused, unless, orderRefusal, orderEffect, sendConditions, sendRefusal, sendEffect, packetRefusal, takeConditions, takeRefusal, takeEffect, acknowledgementEffect, messageEffect, receiveEffect, ackRefusal, ackEffect, allRefusal, allEffect, noteConditions, noteRefusal, noteEffect, haltRefusal, haltEffect}

@@ -6,7 +6,7 @@ use mathlib.Core.Bool.{Bool, true, false, not, _&&_, cond, and-true, and-comm, f
 use lib.Dec.{eqb, eqb·suc-zero}
 use borrow.Author.Tests.{eq-eqb, eqb-true}
 use Rattle.column.specs.Sets.{single, selected}
-use Rattle.column.specs.SetLaws.{has-single}
+use Rattle.column.specs.laws.SetLaws.{has-single}
 use Rattle.column.specs.Trees.{parent, children}
 use Rattle.column.specs.Steps.{Result, accepted, unless}
 use Rattle.column.specs.declared.tree.Tree.{Tree}

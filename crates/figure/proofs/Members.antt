@@ -7,9 +7,9 @@ use mathlib.Core.List.{List, [], _∷_, _++_}
 use mathlib.Core.Logic.{_⊎_, inl, inr}
 use native.Mathlib.Omega.{arith}
 use Rattle.column.specs.Sets.{has, without, lowest}
-use Rattle.column.specs.Cases.{compare-cases}
-use Rattle.column.specs.SetLaws.{has-none, has-without-self, has-without-other}
-use Rattle.column.specs.LowestLaws.{lowest-none, lowest-lt, lowest-member}
+use Rattle.column.specs.laws.Cases.{compare-cases}
+use Rattle.column.specs.laws.SetLaws.{has-none, has-without-self, has-without-other}
+use Rattle.column.specs.laws.Digits.{lowest-none, lowest-lt, lowest-member}
 use Rattle.figure.specs.Figure.{membersBelow}
 
 -- the column n, where a test says so

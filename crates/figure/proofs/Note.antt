@@ -10,7 +10,7 @@ use lib.Dec.{eqb}
 use lib.Pow.{pow-pos}
 use borrow.Author.Tests.{ne-eqb}
 use Rattle.column.specs.Sets.{has, single, join, insert, without}
-use Rattle.column.specs.SetLaws.{and-insert}
+use Rattle.column.specs.laws.SetLaws.{and-insert}
 use Rattle.column.specs.Trees.{children}
 use Rattle.column.specs.Steps.{noteRefusal, noteEffect}
 use Rattle.column.specs.declared.tree.Tree.{Tree}

@@ -9,8 +9,8 @@ use lib.Count.{ones, ones-le}
 use lib.Dec.{eqb}
 use borrow.Author.Tests.{eqb-true, eqb-false}
 use Rattle.column.specs.Sets.{has, without, lowest, within}
-use Rattle.column.specs.SetLaws.{has-without, without-lt, within-lt, lt-within, member-lt, ones-without}
-use Rattle.column.specs.LowestLaws.{lowest-member}
+use Rattle.column.specs.laws.SetLaws.{has-without, without-lt, within-lt, lt-within, member-lt, ones-without}
+use Rattle.column.specs.laws.Digits.{lowest-member}
 use Rattle.column.specs.Columns.{withSets}
 use Rattle.column.specs.declared.tree.Tree.{Tree}
 use Rattle.column.specs.declared.state.Column.{Column}

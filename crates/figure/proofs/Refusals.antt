@@ -7,11 +7,11 @@ use native.Mathlib.Nat.{lt-of-lt-of-le}
 use lib.Dec.{eqb, leb}
 use lib.Pow.{pow-mono}
 use borrow.Author.Tests.{not-false}
-use Rattle.column.specs.RefusalLaws.{passed, earlier-none}
+use Rattle.column.specs.laws.RefusalLaws.{passed, earlier-none}
 use Rattle.column.specs.Sets.{has, within}
-use Rattle.column.specs.SetLaws.{within-lt}
+use Rattle.column.specs.laws.SetLaws.{within-lt}
 use Rattle.column.specs.Trees.{treeRefusal}
-use Rattle.column.specs.TreeLaws.{tree-sixteen}
+use Rattle.column.specs.laws.TreeLaws.{tree-sixteen}
 use Rattle.column.specs.Columns.{standing, stateConditions, stateRefusal}
 use Rattle.column.specs.Steps.{Result, unless}
 use Rattle.column.specs.declared.tree.Tree.{Tree}

@@ -15,8 +15,7 @@ use Rattle.column.specs.declared.tree.Tree.{Tree}
 use Rattle.column.specs.declared.state.Column.{Column}
 use Rattle.column.specs.declared.packet.Packet.{Packet}
 use Rattle.column.specs.declared.packet.Packet.the-variants.{Message, Acknowledgement}
-use Rattle.figure.specs.Figure.{Variables, Made, makes, aborts, meet, initially, sendGuard, sendCommand, failedGuard, failedCommand, acknowledgementCommand, takeoverGuard, takeoverCommand, messageCommand, ackGuard, ackCommand, broadcastGuard, broadcastCommand}
-use Rattle.figure.specs.Figure.{senderTakeoverGuard, senderRootAckGuard, senderBroadcastGuard}
+use Rattle.figure.specs.Figure.{Variables, Made, makes, aborts, meet, initially, sendGuard, sendCommand, failedGuard, failedCommand, acknowledgementCommand, takeoverGuard, takeoverCommand, messageCommand, ackGuard, ackCommand, broadcastGuard, broadcastCommand, senderTakeoverGuard, senderRootAckGuard, senderBroadcastGuard}
 
 -- ---- the column read as the report's variables; failed(p) is 'noted by this column'
 

@@ -1,3 +1,3 @@
 pub mod Figure
 pub mod Comparison
-pub mod ComparisonExamples
+pub mod examples

@@ -1,4 +1,4 @@
--- What each call of the boundary answers and leaves, by the core's own definitions. A refused call leaves every lent byte.
+-- What each call of the boundary to C answers and leaves, by the core's own definitions: no paper names them. A refused call leaves every lent byte.
 use Prim.Native.Nat.{ℕ, _+_}
 use mathlib.Core.Bool.{Bool, _&&_, cond}
 use mathlib.Core.List.{List, [], _∷_}

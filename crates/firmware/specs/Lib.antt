@@ -1,8 +1,4 @@
 pub mod Blocks
 pub mod Calls
-pub mod CallLaws
-pub mod BlockLaws
-pub mod PutLaws
-pub mod PageCalls
-pub mod KeptLaws
-pub mod AnswerLaws
+pub mod inner
+pub mod laws

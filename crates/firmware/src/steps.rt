@@ -33,7 +33,7 @@ ghost use Rattle.column.specs.Packets.{write as Packets·write};
 ghost use Rattle.column.specs.Steps.{meant, send as core·send, ack as core·ack, all as core·all, note as core·note, halt as core·halt};
 ghost use Rattle.firmware.specs.Blocks.{columnSize};
 ghost use Rattle.firmware.specs.Calls.{packetSize, leftInPlace, called, packetPut, stepLeft, stepSizes, stepCall, writeCall, orderCall, takeCall};
-ghost use Rattle.firmware.specs.CallLaws.{stepOf};
+ghost use Rattle.firmware.specs.inner.StepCalls.{stepOf};
 
 // What is left where no packet is to be put.
 const NO_PACKET: [u8; PACKET_SIZE] = [0; PACKET_SIZE];

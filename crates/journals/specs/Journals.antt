@@ -1,7 +1,7 @@
 -- Journals of columns as text, and two of them compared: Point 11 of document 02.
-use Prim.Native.Nat.{ℕ, zero, suc, _+_, _/_}
+use Prim.Native.Nat.{ℕ, zero, suc}
 use mathlib.Core.Bool.{Bool, true, false, not, _&&_, _||_, cond}
-use mathlib.Core.List.{List, [], _∷_, _++_}
+use mathlib.Core.List.{List, [], _∷_, _++_, List·Memᴰ}
 use lib.Dec.{eqb, ltb}
 use lib.ListN.{length}
 use Rattle.column.specs.Refusals.{first, Given, given, refused}
@@ -14,6 +14,8 @@ use Rattle.journals.specs.declared.line.Way.the-variants.{Sent, Got}
 use Rattle.journals.specs.declared.line.Line.{Line}
 use Rattle.journals.specs.declared.line.LineAnswer.{LineAnswer}
 use Rattle.journals.specs.declared.line.LineAnswer.the-variants as answer
+use Rattle.journals.specs.declared.comparison.Compared.{Compared}
+use Rattle.journals.specs.declared.comparison.Compared.the-variants as answer
 
 abbrev pub sentKey : List ℕ
 sentKey = bytes "sent="
@@ -111,14 +113,6 @@ headed most unended = refused 19
 abbrev pub journalLimit : ℕ
 journalLimit = 32768
 
--- the bytes of the shortest line, `got=1,0,0`, with its byte 10
-abbrev pub shortestLine : ℕ
-shortestLine = 10
-
--- as many lines as a journal can have
-abbrev pub linesLimit : ℕ
-linesLimit = journalLimit / shortestLine + 1
-
 unfoldable pub journalOf : List ℕ → Given Journal
 journalOf s = cond (ltb journalLimit (length s)) (refused 19) (headed (length s) (cut s))
 
@@ -210,3 +204,20 @@ linesText (x ∷ l) = lineText x ++ (newline ∷ linesText l)
 
 abbrev pub journalText : ℕ → List Line → List ℕ
 journalText owner l = columnKey ++ (decimal owner ++ (newline ∷ linesText l))
+
+-- what the call answers, and the whole buffer after it
+abbrev pub comparedMeant : Compared → List ℕ → Listed
+comparedMeant (answer.Length n) out = record { answer = given n; buffer = out }
+comparedMeant (answer.Refused n) out = record { answer = refused n; buffer = out }
+
+-- no line twice
+unfoldable pub Once : List Line → Type 0
+Once [] = Unit {0}
+Once (x ∷ l) = (List·Memᴰ x l → ⊥) × Once l
+
+unfoldable pub entriesOf : List Line → List Entry
+entriesOf [] = []
+entriesOf (x ∷ l) = entry (lineText x) x ∷ entriesOf l
+
+abbrev pub journal : ℕ → List Line → Journal
+journal owner l = record { owner = owner; entries = entriesOf l }

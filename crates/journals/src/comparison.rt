@@ -12,9 +12,9 @@ ghost use mathlib.Core.Path.{_≡_};
 ghost use lib.Dec.{leb};
 ghost use lib.ListN.{length};
 ghost use Rattle.closing.specs.Closing.{placed};
-ghost use Rattle.journals.specs.Journals.{linesLimit, missingText, pairCompared, compared};
-ghost use Rattle.journals.specs.JournalReads.{journalIn, Holds};
-ghost use Rattle.journals.specs.Comparing.{comparedMeant, Ready, missingSize};
+ghost use Rattle.journals.specs.inner.JournalKeys.{linesLimit};
+ghost use Rattle.journals.specs.Journals.{missingText, pairCompared, compared, comparedMeant};
+ghost use Rattle.journals.specs.inner.ReadJournals.{journalIn, Holds, Ready, missingSize};
 
 pub enum Compared {
     Length(usize),

@@ -8,9 +8,9 @@ ghost use Prim.Native.Nat.{_+_, _≤_, _<_};
 ghost use mathlib.Core.Path.{_≡_};
 ghost use mathlib.Core.Bool.{_&&_};
 ghost use lib.ListN.{length};
-ghost use Rattle.journals.specs.Chains.{buckets, Indexed, Placed, among, Chained};
-ghost use Rattle.journals.specs.Hearing.{heardKey, heardKeys};
-ghost use Rattle.journals.specs.Missing.{missedKey};
+ghost use Rattle.journals.specs.inner.Chains.{buckets, Indexed, Placed, among, Chained};
+ghost use Rattle.journals.specs.inner.LineWords.{heardKey, heardKeys};
+ghost use Rattle.journals.specs.inner.MissingTexts.{missedKey};
 
 // How many remainders there are: a prime, so that words of one pattern spread.
 const BUCKETS: u64 = 4093;

@@ -10,9 +10,9 @@ ghost use Prim.Native.Nat.{_*_, _≤_};
 ghost use mathlib.Core.Path.{_≡_};
 ghost use lib.ListN.{length, drop};
 ghost use Rattle.closing.specs.Tables.{cut};
-ghost use Rattle.journals.specs.Journals.{entriesIn, journalLimit, shortestLine};
-ghost use Rattle.journals.specs.JournalKeys.{entryKey, entrySize, valuesIn, nextCut, nextMeant, countMeant, countOf};
-ghost use Rattle.journals.specs.JournalReads.{IsRead};
+ghost use Rattle.journals.specs.Journals.{entriesIn, journalLimit};
+ghost use Rattle.journals.specs.inner.JournalKeys.{shortestLine, entryKey, entrySize, valuesIn, nextCut, nextMeant, countMeant, countOf};
+ghost use Rattle.journals.specs.inner.ReadJournals.{IsRead};
 
 // The bytes of the shortest line, `got=1,0,0`, with its byte 10.
 const SHORTEST: usize = 10;

@@ -6,10 +6,10 @@ ghost use mathlib.Core.Path.{_≡_};
 ghost use mathlib.Core.Bool.{cond};
 ghost use mathlib.Core.List.{[]};
 ghost use lib.ListN.{length};
-ghost use Rattle.closing.specs.Writing.{Writes};
-ghost use Rattle.journals.specs.Chains.{Placed};
-ghost use Rattle.journals.specs.Journals.{linesLimit};
-ghost use Rattle.journals.specs.Missing.{missedLength, textFrom, Walked};
+ghost use Rattle.closing.specs.Text.{Writes};
+ghost use Rattle.journals.specs.inner.Chains.{Placed};
+ghost use Rattle.journals.specs.inner.JournalKeys.{linesLimit};
+ghost use Rattle.journals.specs.inner.MissingTexts.{missedLength, textFrom, Walked};
 
 fn counted(missed: bool, n: usize) -> usize
     ensures { λ r. ⌜ (r ≡ cond missed n 0) × (r ≤ n) ⌝ }

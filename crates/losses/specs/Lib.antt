@@ -1,3 +1,4 @@
 pub mod Losses
-pub mod LossesLaws
-pub mod LossesExamples
+pub mod inner
+pub mod laws
+pub mod examples

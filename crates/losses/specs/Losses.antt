@@ -70,11 +70,6 @@ counted f (suc n) = counted f n + oneIf (f n)
 abbrev pub losses : ℕ → ℕ → ℕ → ℕ → Losses
 losses refusal kept lost none = record { refusal = refusal; kept = kept; lost = lost; none = none }
 
--- one set more, which ended in bank b
-abbrev pub withEnded : Losses → Bank → Losses
-withEnded l b =
-    losses (l .refusal) (l .kept + oneIf (endsWith 1 b)) (l .lost + oneIf (endsWith 0 b)) (l .none + oneIf (nobodyRuns b))
-
 -- "how many sets end with record 1, how many with record 0, and how many with no column running", of the first n
 abbrev pub countedTo : State → ℕ → Losses
 countedTo s n =

@@ -11,7 +11,8 @@ use column::tree::Tree;
 ghost use Prim.Native.Nat.{_≤_, _<_};
 ghost use mathlib.Core.Path.{_≡_};
 ghost use Rattle.bank.specs.Banks.{state};
-ghost use Rattle.losses.specs.Losses.{oneIf, nobodyRuns, allHold, lossesRefusal, withEnded, ended, countedOf, refusedLosses, lossesOf};
+ghost use Rattle.losses.specs.Losses.{oneIf, nobodyRuns, allHold, lossesRefusal, ended, countedOf, refusedLosses, lossesOf};
+ghost use Rattle.losses.specs.inner.Counting.{withEnded};
 
 // The most columns whose sets are tried.
 pub const MOST_COLUMNS: usize = 8;

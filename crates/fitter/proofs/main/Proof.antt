@@ -3,7 +3,7 @@ use mathlib.Core.Path.{sym}
 use native.Mathlib.Omega.{arith}
 use lib.ListN.{length}
 use lib.Seq.{length-take-le}
-use Rattle.journals.specs.Comparing.{length-within}
+use Rattle.journals.specs.laws.ComparingLaws.{length-within}
 use borrow.Author.Needs.{needs}
 use Rattle.fitter.proofs.main.Statement.{statement}
 use Rattle.fitter.proofs.main.Tie as tie

@@ -2,7 +2,8 @@ use Prim.Native.Nat.{_-_, _≤_}
 use mathlib.Core.Path.{_≡_, refl, sym, _∙_}
 use native.Mathlib.Omega.{arith}
 use lib.ListN.{length, drop}
-use Rattle.laps.specs.Laps.{numberFrom, number-next, number-below, number-above, number-done}
+use Rattle.laps.specs.Laps.{numberFrom}
+use Rattle.laps.specs.laws.LapLaws.{number-next, number-below, number-above, number-done}
 use borrow.Author.Needs.{needs}
 use Rattle.laps.proofs.number.Statement.{statement}
 use Rattle.laps.proofs.number.Tie as tie

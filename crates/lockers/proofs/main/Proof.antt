@@ -5,10 +5,9 @@ use mathlib.Core.Path.{_≡_, sym, ap, _∙_}
 use lib.ListN.{length, take, replicate}
 use lib.Seq.{length-take-le}
 use Rattle.bank.specs.Banks.{capacity}
-use Rattle.closing.specs.Advances.{progressOf, bufferSize, fill, filledBy}
-use Rattle.closing.specs.Advances.{start as beginning}
-use Rattle.closing.specs.Printing.{calls-next}
-use Rattle.closing.specs.ScriptLaws.{text-within}
+use Rattle.closing.specs.Advances.{progressOf, bufferSize, fill, filledBy, start as beginning}
+use Rattle.closing.specs.laws.Printing.{calls-next}
+use Rattle.closing.specs.laws.ScriptLaws.{text-within}
 use Rattle.closing.specs.declared.script.Run.{Run}
 use Rattle.lockers.proofs.main.Statement.{statement}
 use Rattle.lockers.proofs.main.Tie as tie

@@ -4,7 +4,7 @@ use mathlib.Core.Path.{_≡_, sym, ap, _∙_}
 use borrow.Author.Tests.{eq-eqb, ne-eqb}
 use Rattle.bank.specs.Banks.{State, state, bankRefusal}
 use Rattle.bank.specs.Steps.{refused}
-use Rattle.bank.specs.QuickSteps.{broken}
+use Rattle.bank.specs.laws.turns.TurnsTaken.{broken}
 use Rattle.bank.proofs.dispatch.dispatch.Statement.{statement}
 use Rattle.bank.proofs.dispatch.dispatch.Tie as tie
 

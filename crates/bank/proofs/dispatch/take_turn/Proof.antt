@@ -2,7 +2,7 @@ use borrow.Author.Needs.{needs}
 use mathlib.Core.Path.{_≡_, sym, ap, _∙_}
 use native.Mathlib.Omega.{arith}
 use Rattle.column.specs.Unchecked.{boundedTake}
-use Rattle.bank.specs.TurnLaws.{turn-own, turn-taken}
+use Rattle.bank.specs.laws.turns.TurnLaws.{turn-own, turn-taken}
 use Rattle.bank.proofs.dispatch.take_turn.Statement.{statement}
 use Rattle.bank.proofs.dispatch.take_turn.Tie as tie
 

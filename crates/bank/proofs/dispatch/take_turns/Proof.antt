@@ -6,21 +6,22 @@ use mathlib.Core.Path.{_≡_, refl, sym, ap, subst, _∙_}
 use mathlib.Core.Bool.{Bool, true, false, not, _&&_, _||_, true≢false}
 use lib.Dec.{eqb, ltb}
 use borrow.Author.Tests.{eq-eqb, eqb-true, eqb-false, ltb-true, not-true, not-false}
-use Rattle.column.specs.Cases.{and-left, and-right}
+use Rattle.column.specs.laws.Cases.{and-left, and-right}
 use Rattle.column.specs.Sets.{minus, whole}
-use Rattle.column.specs.TreeLaws.{tree-sixteen}
+use Rattle.column.specs.laws.TreeLaws.{tree-sixteen}
 use Rattle.column.specs.declared.tree.Tree.{Tree}
-use Rattle.bank.specs.StandingLaws.{stands}
-use Rattle.bank.specs.SurveyLaws.{others-halted}
+use Rattle.bank.specs.laws.StandingLaws.{stands}
+use Rattle.bank.specs.laws.SurveyLaws.{others-halted}
 use Rattle.bank.specs.Banks.{State, state, haltedOf, bankRefusal}
 use Rattle.bank.specs.Performs.{perform}
-use Rattle.bank.specs.Changes.{stored, changed, Lit}
-use Rattle.bank.specs.ChangeLaws.{changed-refused, changed-done, lit-running, lit-on, halted-on}
-use Rattle.bank.specs.Quick.{isTake, readyOf, quickTurn}
-use Rattle.bank.specs.ReadyTurn.{ready-some, ready-turn}
-use Rattle.bank.specs.ReadyLaws.{ready-kept}
-use Rattle.bank.specs.TurnLaws.{turn-below}
-use Rattle.bank.specs.QuickSteps.{Going, over, going-start, going-over, going-broken, going-stops, Turned, turned as turn-taken}
+use Rattle.bank.specs.inner.Changes.{stored, changed, Lit}
+use Rattle.bank.specs.laws.ChangeLaws.{changed-refused, changed-done, lit-running, lit-on, halted-on}
+use Rattle.bank.specs.Parts.{isTake}
+use Rattle.bank.specs.inner.Turning.{readyOf, quickTurn}
+use Rattle.bank.specs.laws.turns.LowestReady.{ready-some, ready-turn}
+use Rattle.bank.specs.laws.turns.ReadyAfter.{ready-kept}
+use Rattle.bank.specs.laws.turns.TurnLaws.{turn-below}
+use Rattle.bank.specs.laws.turns.TurnsTaken.{Going, over, going-start, going-over, going-broken, going-stops, Turned, turned as turn-taken}
 use Rattle.bank.proofs.dispatch.take_turns.Statement.{statement}
 use Rattle.bank.proofs.dispatch.take_turns.Tie as tie
 

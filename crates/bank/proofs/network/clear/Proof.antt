@@ -3,7 +3,8 @@ use Prim.Native.Nat.{_-_, _≤_}
 use mathlib.Core.Path.{_≡_, refl, ap, _∙_}
 use native.Mathlib.Omega.{arith}
 use lib.ListN.{length, take, length-take, length-set}
-use Rattle.bank.specs.Lists.{padded, padded-none, padded-step}
+use Rattle.bank.specs.Networks.{padded}
+use Rattle.bank.specs.laws.ListSteps.{padded-none, padded-step}
 use Rattle.bank.proofs.network.clear.Statement.{statement}
 use Rattle.bank.proofs.network.clear.Tie as tie
 

@@ -3,7 +3,7 @@ use Prim.Native.Nat.{_+_, _-_, _≤_, _<_}
 use mathlib.Core.Path.{_≡_, refl, sym, ap, ap₂, _∙_}
 use native.Mathlib.Omega.{arith}
 use lib.ListN.{length, set, length-set}
-use Rattle.bank.specs.Lists.{shifted, shifted-start, shifted-step, shifted-end}
+use Rattle.bank.specs.laws.ListSteps.{shifted, shifted-start, shifted-step, shifted-end}
 use Rattle.bank.proofs.network.close_up.Statement.{statement}
 use Rattle.bank.proofs.network.close_up.Tie as tie
 

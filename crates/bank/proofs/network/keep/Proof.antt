@@ -6,8 +6,9 @@ use mathlib.Core.Bool.{true, false, not}
 use native.Mathlib.Omega.{arith}
 use Rattle.column.specs.Sets.{has}
 use lib.ListN.{length, set, take, getD, length-set}
-use Rattle.bank.specs.Lists.{keeping, keeping-longer, keeping-no, partly, partly-start, partly-read, partly-yes, partly-no}
-use Rattle.bank.specs.Networks.{elsewhere}
+use Rattle.bank.specs.Networks.{keeping, elsewhere}
+use Rattle.bank.specs.laws.ListSteps.{keeping-longer, keeping-no, partly-start, partly-read, partly-yes, partly-no}
+use Rattle.bank.specs.inner.NetworkWords.{partly}
 use Rattle.bank.proofs.network.keep.Statement.{statement}
 use Rattle.bank.proofs.network.keep.Tie as tie
 

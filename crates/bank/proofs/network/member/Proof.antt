@@ -1,6 +1,6 @@
 use borrow.Author.Needs.{needs}
 use mathlib.Core.Path.{sym}
-use Rattle.column.specs.SetLaws.{has-above}
+use Rattle.column.specs.laws.SetLaws.{has-above}
 use Rattle.bank.proofs.network.member.Statement.{statement}
 use Rattle.bank.proofs.network.member.Tie as tie
 

@@ -3,8 +3,8 @@ use Prim.Native.Nat.{ℕ, _+_, _-_, _<_}
 use mathlib.Core.Path.{_≡_, refl, sym, ap₂, _∙_}
 use mathlib.Core.List.{List}
 use native.Mathlib.Omega.{arith}
-use Rattle.bank.specs.Lists.{closedUp}
-use Rattle.bank.specs.Networks.{ClosedUp}
+use Rattle.bank.specs.Networks.{closedUp}
+use Rattle.bank.specs.inner.NetworkWords.{ClosedUp}
 use Rattle.bank.proofs.network.remove.Statement.{statement}
 use Rattle.bank.proofs.network.remove.Tie as tie
 

@@ -3,10 +3,10 @@ use Prim.Native.Nat.{_≤_}
 use mathlib.Core.Path.{_≡_, _∙_}
 use native.Mathlib.Omega.{arith}
 use lib.ListN.{length, take, length-take}
-use Rattle.bank.specs.Lists.{keeping, keeping-few, keeping-same, partly-padded}
+use Rattle.bank.specs.Networks.{keeping, elsewhere, vanished, counting}
+use Rattle.bank.specs.laws.ListSteps.{keeping-few, keeping-same, partly-padded}
 use Rattle.column.specs.Sets.{has}
 use Rattle.bank.specs.Banks.{state}
-use Rattle.bank.specs.Networks.{elsewhere, vanished, counting}
 use Rattle.bank.proofs.network.vanish.Statement.{statement}
 use Rattle.bank.proofs.network.vanish.Tie as tie
 

@@ -4,7 +4,7 @@ use Prim.Native.Nat.{ℕ}
 use mathlib.Core.List.{[], _∷_}
 use lib.Dec.{leb}
 use Rattle.column.specs.Refusals.{first, earlier}
-use Rattle.bank.specs.Moves.{opening-take, opening-own}
+use Rattle.bank.specs.laws.MoveLaws.{opening-take, opening-own}
 use Rattle.bank.proofs.opening.opening.Statement.{statement}
 use Rattle.bank.proofs.opening.opening.Tie as tie
 

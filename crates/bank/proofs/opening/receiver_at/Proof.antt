@@ -1,7 +1,8 @@
 use borrow.Author.Needs.{needs}
 use mathlib.Core.Path.{sym, _∙_}
 use borrow.Author.Tests.{le-leb}
-use Rattle.bank.specs.Moves.{receiverAt, receiver-at}
+use Rattle.bank.specs.Parts.{receiverAt}
+use Rattle.bank.specs.laws.MoveLaws.{receiver-at}
 use Rattle.bank.proofs.opening.receiver_at.Statement.{statement}
 use Rattle.bank.proofs.opening.receiver_at.Tie as tie
 

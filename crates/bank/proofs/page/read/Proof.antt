@@ -5,7 +5,7 @@ use Rattle.column.specs.Refusals.{refused}
 use Rattle.column.specs.Pages as core
 use Rattle.column.specs.declared.state.Column.{Column}
 use Rattle.bank.specs.Banks.{state}
-use Rattle.bank.specs.PageSteps.{page-read}
+use Rattle.bank.specs.laws.PageLaws.{page-read}
 use Rattle.bank.proofs.page.read.Statement.{statement}
 use Rattle.bank.proofs.page.read.Tie as tie
 

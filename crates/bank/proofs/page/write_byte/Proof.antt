@@ -3,12 +3,12 @@ use Prim.Native.Nat.{ℕ, _<_}
 use mathlib.Core.Path.{_≡_, sym, ap, _∙_}
 use mathlib.Core.List.{List, []}
 use native.Mathlib.Omega.{arith}
-use Rattle.column.specs.RefusalLaws.{earlier-none}
-use Rattle.column.specs.TreeLaws.{tree-sixteen}
+use Rattle.column.specs.laws.RefusalLaws.{earlier-none}
+use Rattle.column.specs.laws.TreeLaws.{tree-sixteen}
 use Rattle.column.specs.declared.state.Column.{Column}
 use Rattle.bank.specs.Banks.{State, state, actingRefusal}
-use Rattle.bank.specs.StandingLaws.{acting}
-use Rattle.bank.specs.StepLaws.{unless-refused, unless-goes, accepted-words}
+use Rattle.bank.specs.laws.StandingLaws.{acting}
+use Rattle.bank.specs.laws.StepLaws.{unless-refused, unless-goes, accepted-words}
 use Rattle.bank.specs.Steps.{accepted, withPlace}
 use Rattle.bank.specs.Pages.{writeRefusal}
 use Rattle.bank.proofs.page.write_byte.Statement.{statement}

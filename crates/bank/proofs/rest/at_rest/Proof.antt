@@ -1,11 +1,11 @@
 use borrow.Author.Needs.{needs}
 use mathlib.Core.Path.{_≡_, sym, _∙_}
 use borrow.Author.Tests.{ne-eqb}
-use Rattle.column.specs.TreeLaws.{tree-sixteen}
+use Rattle.column.specs.laws.TreeLaws.{tree-sixteen}
 use Rattle.bank.specs.Banks.{State, state, bankRefusal}
 use Rattle.bank.specs.Rest.{atRest}
-use Rattle.bank.specs.StandingLaws.{stands}
-use Rattle.bank.specs.RestLaws.{broken-rests, rest-columns}
+use Rattle.bank.specs.laws.StandingLaws.{stands}
+use Rattle.bank.specs.laws.RestLaws.{broken-rests, rest-columns}
 use Rattle.bank.proofs.rest.at_rest.Statement.{statement}
 use Rattle.bank.proofs.rest.at_rest.Tie as tie
 

@@ -2,7 +2,7 @@ use borrow.Author.Needs.{needs}
 use Prim.Native.Nat.{ℕ}
 use mathlib.Core.Path.{ap}
 use lib.Dec.{eqb}
-use Rattle.bank.specs.SurveyLaws.{others-halted}
+use Rattle.bank.specs.laws.SurveyLaws.{others-halted}
 use Rattle.bank.proofs.rest.columns_rest.Statement.{statement}
 use Rattle.bank.proofs.rest.columns_rest.Tie as tie
 

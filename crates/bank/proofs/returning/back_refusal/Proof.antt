@@ -6,9 +6,8 @@ use mathlib.Core.List.{List, [], _∷_}
 use lib.Dec.{eqb}
 use borrow.Author.Tests.{eq-eqb, ne-eqb, not-true, not-false}
 use Rattle.column.specs.Refusals.{first, earlier}
-use Rattle.column.specs.RefusalLaws.{following, in-turn}
-use Rattle.bank.specs.RestLaws.{columnsRest}
-use Rattle.bank.specs.ReturnLaws.{returningConditions, returningRefusal}
+use Rattle.column.specs.laws.RefusalLaws.{following, in-turn}
+use Rattle.bank.specs.inner.Returning.{columnsRest, returningConditions, returningRefusal}
 use Rattle.bank.proofs.returning.back_refusal.Statement.{statement}
 use Rattle.bank.proofs.returning.back_refusal.Tie as tie
 

@@ -4,16 +4,17 @@ use mathlib.Core.Path.{_≡_, sym, ap, _∙_}
 use mathlib.Core.List.{List, []}
 use native.Mathlib.Omega.{arith}
 use Rattle.column.specs.Sets.{lowest}
-use Rattle.column.specs.SetLaws.{selected-lt}
-use Rattle.column.specs.LowestLaws.{lowest-lt}
-use Rattle.column.specs.TreeLaws.{check-exact, tree-sixteen}
+use Rattle.column.specs.laws.SetLaws.{selected-lt}
+use Rattle.column.specs.laws.Digits.{lowest-lt}
+use Rattle.column.specs.laws.TreeLaws.{check-exact, tree-sixteen}
 use Rattle.column.specs.declared.state.Column.{Column}
 use Rattle.bank.specs.Banks.{State, state, columnAt, runs, runningOf}
-use Rattle.bank.specs.StandingLaws.{stands, stands-passes}
-use Rattle.bank.specs.StepLaws.{unless-refused, unless-goes, accepted-words}
+use Rattle.bank.specs.laws.StandingLaws.{stands, stands-passes}
+use Rattle.bank.specs.laws.StepLaws.{unless-refused, unless-goes, accepted-words}
 use Rattle.bank.specs.Steps.{accepted, withPlace}
 use Rattle.bank.specs.Returns.{backRefusal, withStruck, returned}
-use Rattle.bank.specs.ReturnLaws.{rejoining, Returning, returning, returning-refusal, rejoining-struck}
+use Rattle.bank.specs.inner.Returning.{rejoining}
+use Rattle.bank.specs.laws.ReturnLaws.{Returning, returning, returning-refusal, rejoining-struck}
 use Rattle.bank.specs.declared.bank.Bank.{Bank}
 use Rattle.bank.proofs.returning.bring_back.Statement.{statement}
 use Rattle.bank.proofs.returning.bring_back.Tie as tie

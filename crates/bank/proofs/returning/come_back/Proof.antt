@@ -1,6 +1,4 @@
 use borrow.Author.Needs.{needs}
-use native.Mathlib.Omega.{arith}
-use lib.Count.{trailing-le}
 use mathlib.Core.Path.{_∙_}
 use Rattle.bank.proofs.returning.come_back.Statement.{statement}
 use Rattle.bank.proofs.returning.come_back.Tie as tie

@@ -10,7 +10,7 @@ use Rattle.column.specs.Returns.{struck}
 use Rattle.column.specs.declared.state.Column.{Column}
 use Rattle.bank.specs.Banks.{noColumn}
 use Rattle.bank.specs.Steps.{withRewritten}
-use Rattle.bank.specs.Rewriting.{upto, rewrite-start, rewrite-yes}
+use Rattle.bank.specs.laws.strips.Rewriting.{upto, rewrite-start, rewrite-yes}
 use Rattle.bank.specs.declared.bank.Bank.{Bank}
 use Rattle.bank.proofs.returning.strike_noted.Statement.{statement}
 use Rattle.bank.proofs.returning.strike_noted.Tie as tie

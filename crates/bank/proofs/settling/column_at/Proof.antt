@@ -3,7 +3,7 @@ use mathlib.Core.Path.{_≡_, sym}
 use native.Mathlib.Omega.{arith}
 use lib.ListN.{length, List·getD-eq-default}
 use Rattle.bank.specs.Banks.{noColumn}
-use Rattle.bank.specs.Lists.{length-mapped}
+use Rattle.bank.specs.laws.ListSteps.{length-mapped}
 use Rattle.bank.proofs.settling.column_at.Statement.{statement}
 use Rattle.bank.proofs.settling.column_at.Tie as tie
 

@@ -5,7 +5,7 @@ use native.Mathlib.Omega.{arith}
 use borrow.Author.Tests.{not-true, not-false}
 use Rattle.column.specs.Sets.{has}
 use Rattle.column.specs.Packets.{receiver}
-use Rattle.bank.specs.ChangeLaws.{delivered-halted, delivered-full, delivered-put}
+use Rattle.bank.specs.laws.ChangeLaws.{delivered-halted, delivered-full, delivered-put}
 use Rattle.bank.proofs.settling.deliver.Statement.{statement}
 use Rattle.bank.proofs.settling.deliver.Tie as tie
 

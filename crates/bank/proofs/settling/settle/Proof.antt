@@ -1,10 +1,8 @@
 use borrow.Author.Needs.{needs}
 use mathlib.Core.Path.{sym, ap, _∙_}
-use mathlib.Core.Logic.{⊎-elim}
-use Rattle.bank.specs.ChangeLaws.{settled-none, refused-at}
-use mathlib.Core.Logic.{inl, inr}
+use mathlib.Core.Logic.{⊎-elim, inl, inr}
+use Rattle.bank.specs.laws.ChangeLaws.{settled-none, refused-at, settled-put}
 use Rattle.column.specs.declared.outcome.Answer.the-variants as core-is
-use Rattle.bank.specs.ChangeLaws.{settled-put}
 use Rattle.bank.proofs.settling.settle.Statement.{statement}
 use Rattle.bank.proofs.settling.settle.Tie as tie
 

@@ -2,17 +2,13 @@ use borrow.Author.Needs.{needs}
 use mathlib.Core.Path.{sym, ap, _∙_}
 use native.Mathlib.Omega.{arith}
 use borrow.Author.Tests.{not-true, not-false}
-use Rattle.bank.specs.Banks.{state}
-use Rattle.bank.specs.Networks.{removed}
-use Rattle.bank.specs.StepLaws.{settled-stays}
-use Rattle.bank.specs.ChangeLaws.{changed-off}
-use Prim.Native.Nat.{_-_}
+use Rattle.bank.specs.Banks.{state, State}
+use Rattle.bank.specs.Networks.{removed, counting}
+use Rattle.bank.specs.laws.StepLaws.{settled-stays}
+use Rattle.bank.specs.laws.ChangeLaws.{changed-off, removed-words}
+use Prim.Native.Nat.{_-_, ℕ, _<_}
 use Rattle.column.specs.Steps.{meant}
-use Rattle.bank.specs.Banks.{State}
-use Rattle.bank.specs.Networks.{counting}
 use Rattle.bank.specs.Steps.{settled}
-use Prim.Native.Nat.{ℕ, _<_}
-use Rattle.bank.specs.ChangeLaws.{removed-words}
 use Rattle.bank.proofs.settling.settle_taken.Statement.{statement}
 use Rattle.bank.proofs.settling.settle_taken.Tie as tie
 

@@ -1,6 +1,6 @@
 use borrow.Author.Needs.{needs}
 use mathlib.Core.Path.{sym}
-use Rattle.bank.specs.HeadLaws.{head-ends}
+use Rattle.bank.specs.laws.HeadLaws.{head-ends}
 use Rattle.bank.proofs.standing.head_stands.Statement.{statement}
 use Rattle.bank.proofs.standing.head_stands.Tie as tie
 

@@ -3,7 +3,7 @@ use mathlib.Core.Path.{_≡_, sym, _∙_}
 use Prim.Native.Nat.{_-_}
 use lib.ListN.{getD}
 use borrow.Author.Tests.{eq-eqb, ne-eqb}
-use Rattle.bank.specs.StandingLaws.{head-stands}
+use Rattle.bank.specs.laws.StandingLaws.{head-stands}
 use Rattle.bank.proofs.standing.newest_stands.Statement.{statement}
 use Rattle.bank.proofs.standing.newest_stands.Tie as tie
 

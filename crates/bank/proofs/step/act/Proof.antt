@@ -3,14 +3,15 @@ use borrow.Author.Tests.{not-true, not-false}
 use mathlib.Core.Path.{_≡_, refl, sym, ap, _∙_}
 use native.Mathlib.Omega.{arith}
 use Prim.Native.Nat.{ℕ, _<_, _≤_, _-_}
-use Rattle.column.specs.TreeLaws.{tree-sixteen}
-use Rattle.bank.specs.Banks.{State, state, runningOf}
-use Rattle.bank.specs.Standing.{Passing, RefusesBank}
-use Rattle.bank.specs.StandingLaws.{stands-passes}
-use Rattle.bank.specs.SurveyLaws.{passing-start, passing-on, passing-tells}
-use Rattle.bank.specs.Changes.{changed}
-use Rattle.bank.specs.ChangeLaws.{lit-running, changed-refused, changed-done}
-use Rattle.bank.specs.Moves.{openingRefusal, opening, Opened, opened, opening-refused}
+use Rattle.column.specs.laws.TreeLaws.{tree-sixteen}
+use Rattle.bank.specs.Banks.{State, state, runningOf, RefusesBank}
+use Rattle.bank.specs.inner.Surveys.{Passing}
+use Rattle.bank.specs.laws.StandingLaws.{stands-passes}
+use Rattle.bank.specs.laws.SurveyLaws.{passing-start, passing-on, passing-tells}
+use Rattle.bank.specs.inner.Changes.{changed}
+use Rattle.bank.specs.laws.ChangeLaws.{lit-running, changed-refused, changed-done}
+use Rattle.bank.specs.inner.Moves.{openingRefusal}
+use Rattle.bank.specs.laws.MoveLaws.{opening, Opened, opened, opening-refused}
 use Rattle.bank.specs.Performs.{perform}
 use Rattle.bank.specs.declared.bank.Answer.the-variants.{Refused}
 use Rattle.bank.proofs.step.act.Statement.{statement}

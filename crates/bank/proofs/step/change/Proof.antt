@@ -4,15 +4,13 @@ use mathlib.Core.Path.{_≡_, refl, sym, ap, subst, _∙_}
 use native.Mathlib.Omega.{arith}
 use Rattle.column.specs.Columns.{standing}
 use Rattle.column.specs.Packets.{receiver}
-use Rattle.column.specs.Steps as core
 use Rattle.column.specs.declared.state.Column.{Column}
-use Rattle.bank.specs.Banks.{State, state, packetAt}
-use Rattle.bank.specs.Standing.{joined}
-use Rattle.bank.specs.StandingLaws.{stands}
+use Rattle.bank.specs.Banks.{state, packetAt, joined}
+use Rattle.bank.specs.laws.StandingLaws.{stands}
 use Rattle.bank.specs.Steps.{delivered}
-use Rattle.bank.specs.Changes.{coreStep}
-use Rattle.bank.specs.ChangeLaws.{stands-at, own-done}
-use Rattle.bank.specs.Moves.{own-is, take-acts, take-performs}
+use Rattle.bank.specs.inner.Changes.{coreStep}
+use Rattle.bank.specs.laws.ChangeLaws.{stands-at, own-done}
+use Rattle.bank.specs.laws.MoveLaws.{own-is, take-acts, take-performs}
 use Rattle.bank.proofs.step.change.Statement.{statement}
 use Rattle.bank.proofs.step.change.Tie as tie
 

@@ -1,6 +1,6 @@
 use borrow.Author.Needs.{needs}
 use mathlib.Core.Path.{_∙_}
-use Rattle.column.specs.UncheckedLaws.{order-unchecked, send-unchecked, ack-unchecked, all-unchecked}
+use Rattle.column.specs.laws.UncheckedLaws.{order-unchecked, send-unchecked, ack-unchecked, all-unchecked}
 use Rattle.bank.proofs.step.core_step.Statement.{statement}
 use Rattle.bank.proofs.step.core_step.Tie as tie
 

@@ -1,18 +1,18 @@
 use borrow.Author.Needs.{needs}
-use Prim.Native.Nat.{ℕ, _≤_, _<_, _-_, _^_}
+use Prim.Native.Nat.{_≤_, _<_, _-_, _^_}
 use mathlib.Core.Path.{_≡_, refl, sym, ap, _∙_}
 use native.Mathlib.Nat.{lt-of-lt-of-le}
 use native.Mathlib.Omega.{arith}
 use lib.Pow.{pow-mono}
 use Rattle.column.specs.Sets.{has}
-use Rattle.column.specs.TreeLaws.{tree-sixteen}
-use Rattle.bank.specs.Banks.{State, state, runningOf, bankRefusal}
-use Rattle.bank.specs.Standing.{Passing, RefusesBank}
-use Rattle.bank.specs.StandingLaws.{stands}
-use Rattle.bank.specs.SurveyLaws.{passing-start, passing-on, passing-tells}
-use Rattle.bank.specs.StepLaws.{unless-refused, unless-goes, halting-refusal}
+use Rattle.column.specs.laws.TreeLaws.{tree-sixteen}
+use Rattle.bank.specs.Banks.{State, state, runningOf, bankRefusal, RefusesBank}
+use Rattle.bank.specs.inner.Surveys.{Passing}
+use Rattle.bank.specs.laws.StandingLaws.{stands}
+use Rattle.bank.specs.laws.SurveyLaws.{passing-start, passing-on, passing-tells}
+use Rattle.bank.specs.laws.StepLaws.{unless-refused, unless-goes, halting-refusal}
 use Rattle.bank.specs.Steps.{accepted, haltRefusal, halted, withStopped}
-use Rattle.bank.specs.StripLaws.{halts}
+use Rattle.bank.specs.laws.strips.StripLaws.{halts}
 use Rattle.bank.specs.declared.bank.Answer.the-variants.{Refused}
 use Rattle.bank.specs.declared.bank.Bank.{Bank}
 use Rattle.bank.proofs.step.halt_columns.Statement.{statement}

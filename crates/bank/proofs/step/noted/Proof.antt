@@ -2,8 +2,8 @@ use borrow.Author.Needs.{needs}
 use mathlib.Core.Path.{sym, _∙_}
 use borrow.Author.Tests.{not-true, not-false}
 use Rattle.column.specs.Sets.{has}
-use Rattle.column.specs.UncheckedLaws.{note-unchecked}
-use Rattle.bank.specs.StepLaws.{note-halted, note-running}
+use Rattle.column.specs.laws.UncheckedLaws.{note-unchecked}
+use Rattle.bank.specs.laws.StepLaws.{note-halted, note-running}
 use Rattle.bank.proofs.step.noted.Statement.{statement}
 use Rattle.bank.proofs.step.noted.Tie as tie
 

@@ -1,12 +1,12 @@
 use borrow.Author.Needs.{needs}
-use mathlib.Core.Path.{_≡_, refl, sym, ap, _∙_}
+use mathlib.Core.Path.{_≡_, refl, sym, ap, _∙_, subst}
 use borrow.Author.Tests.{eq-eqb}
 use Rattle.bank.specs.Banks.{state}
 use Rattle.bank.specs.Performs.{perform}
-use Rattle.bank.specs.Moves.{isMove, taker}
-use mathlib.Core.Path.{subst}
+use Rattle.bank.specs.Parts.{isMove}
+use Rattle.bank.specs.laws.MoveLaws.{taker}
 use mathlib.Core.Bool.{true}
-use Rattle.bank.specs.Places.{acts}
+use Rattle.bank.specs.inner.Moves.{acts}
 use Rattle.bank.specs.declared.bank.Step.{Step}
 use Rattle.bank.proofs.step.perform.Statement.{statement}
 use Rattle.bank.proofs.step.perform.Tie as tie

@@ -1,6 +1,6 @@
 use borrow.Author.Needs.{needs}
 use Rattle.bank.specs.Banks.{state}
-use Rattle.bank.specs.Moves.{taker}
+use Rattle.bank.specs.laws.MoveLaws.{taker}
 use Rattle.bank.specs.Performs.{perform}
 use Rattle.bank.proofs.step.take.Statement.{statement}
 use Rattle.bank.proofs.step.take.Tie as tie

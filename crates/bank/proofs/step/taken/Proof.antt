@@ -6,8 +6,8 @@ use Rattle.column.specs.Unchecked.{takeUnchecked}
 use Rattle.column.specs.declared.tree.Tree.{Tree}
 use Rattle.column.specs.declared.state.Column.{Column}
 use Rattle.bank.specs.Banks.{state, columnAt}
-use Rattle.bank.specs.StandingLaws.{stands}
-use Rattle.bank.specs.ChangeLaws.{taken-done}
+use Rattle.bank.specs.laws.StandingLaws.{stands}
+use Rattle.bank.specs.laws.ChangeLaws.{taken-done}
 use Rattle.bank.proofs.step.taken.Statement.{statement}
 use Rattle.bank.proofs.step.taken.Tie as tie
 

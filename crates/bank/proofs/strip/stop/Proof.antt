@@ -10,7 +10,7 @@ use Rattle.column.specs.declared.state.Column.{Column}
 use Rattle.bank.specs.Banks.{noColumn}
 use Rattle.bank.specs.Steps.{withStopped}
 use Rattle.column.specs.Columns.{stopped}
-use Rattle.bank.specs.Rewriting.{upto, rewrite-start, rewrite-yes, rewrite-no, rewrite-end}
+use Rattle.bank.specs.laws.strips.Rewriting.{upto, rewrite-start, rewrite-yes, rewrite-no, rewrite-end}
 use Rattle.bank.specs.declared.bank.Bank.{Bank}
 use Rattle.bank.proofs.strip.stop.Statement.{statement}
 use Rattle.bank.proofs.strip.stop.Tie as tie

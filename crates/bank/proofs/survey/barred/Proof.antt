@@ -1,5 +1,5 @@
 use borrow.Author.Needs.{needs}
-use Rattle.bank.specs.Standing.{barredOf}
+use Rattle.bank.specs.inner.Surveys.{barredOf}
 use Rattle.bank.proofs.survey.barred.Statement.{statement}
 use Rattle.bank.proofs.survey.barred.Tie as tie
 

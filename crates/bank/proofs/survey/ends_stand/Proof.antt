@@ -4,7 +4,7 @@ use Prim.Native.Nat.{ℕ}
 use mathlib.Core.Bool.{Bool, true, false, not, _&&_, _||_, true≢false}
 use mathlib.Core.Path.{_≡_, refl, sym}
 use lib.Dec.{eqb, leb, ltb}
-use Rattle.bank.specs.Standing.{endsStand}
+use Rattle.bank.specs.inner.Surveys.{endsStand}
 use Rattle.bank.specs.Words.{acknowledging, receiverIn, senderIn}
 use Rattle.bank.proofs.survey.ends_stand.Statement.{statement}
 use Rattle.bank.proofs.survey.ends_stand.Tie as tie

@@ -1,7 +1,7 @@
 -- The packets before place k have ends that stand, and whether they stand is whether their receivers, gathered, run.
 use borrow.Author.Needs.{needs}
 use Prim.Native.Nat.{ℕ, _<_, _≤_, _-_, _*_, _/_, _%_, _^_}
-use mathlib.Core.Bool.{Bool, true, false, _&&_}
+use mathlib.Core.Bool.{Bool, _&&_}
 use mathlib.Core.Path.{_≡_, sym, ap, _∙_}
 use native.Mathlib.Nat.{mod-eq-of-lt}
 use native.Mathlib.Numerals.{add-one}
@@ -11,11 +11,11 @@ use lib.ListN.{getD}
 use lib.Pow.{pow-lt, pow-pos}
 use borrow.Author.Tests.{not-true, not-false}
 use Rattle.column.specs.Sets.{has, join}
-use Rattle.column.specs.SetLaws.{insert-lt}
+use Rattle.column.specs.laws.SetLaws.{insert-lt}
 use Rattle.column.specs.Trees.{every}
-use Rattle.column.specs.TreeLaws.{every-fails}
-use Rattle.bank.specs.Standing.{barredOf, pairStands, headStands}
-use Rattle.bank.specs.HeadLaws.{pair-below, head-pair, covers-none, covers-insert}
+use Rattle.column.specs.laws.TreeLaws.{every-fails}
+use Rattle.bank.specs.inner.Surveys.{pairStands, headStands}
+use Rattle.bank.specs.laws.HeadLaws.{pair-below, head-pair, covers-none, covers-insert}
 use Rattle.bank.specs.Words.{numbers, receiverIn}
 use Rattle.bank.proofs.survey.heads_stand.Statement.{statement}
 use Rattle.bank.proofs.survey.heads_stand.Tie as tie

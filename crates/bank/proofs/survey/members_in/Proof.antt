@@ -1,9 +1,8 @@
 use borrow.Author.Needs.{needs}
 use Prim.Native.Nat.{_*_, _/_, _%_}
 use native.Mathlib.Omega.{arith}
-use Rattle.column.specs.SetLaws.{join-lt}
-use Rattle.column.specs.Sets.{join}
-use Rattle.bank.specs.Standing.{kind}
+use Rattle.column.specs.laws.SetLaws.{join-lt}
+use Rattle.bank.specs.inner.Surveys.{kind}
 use Rattle.bank.proofs.survey.members_in.Statement.{statement}
 use Rattle.bank.proofs.survey.members_in.Tie as tie
 

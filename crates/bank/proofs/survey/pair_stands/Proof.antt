@@ -1,10 +1,7 @@
 use borrow.Author.Needs.{needs}
-use mathlib.Core.Bool.{Bool, true, false, _||_}
-use mathlib.Core.Path.{_≡_, refl}
 use borrow.Author.Tests.{lt-ltb, le-ltb, eq-eqb, ne-eqb}
 use Prim.Native.Nat.{ℕ, _/_, _%_}
-use lib.Dec.{eqb, ltb}
-use Rattle.bank.specs.Standing.{pairStands}
+use Rattle.bank.specs.inner.Surveys.{pairStands}
 use Rattle.bank.specs.Words.{ends}
 use Rattle.bank.proofs.survey.pair_stands.Statement.{statement}
 use Rattle.bank.proofs.survey.pair_stands.Tie as tie

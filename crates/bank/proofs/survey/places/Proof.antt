@@ -1,5 +1,5 @@
 use borrow.Author.Tests.{lt-ltb, le-ltb}
-use Rattle.bank.specs.Standing.{placesOf}
+use Rattle.bank.specs.inner.Surveys.{placesOf}
 use Rattle.bank.proofs.survey.places.Statement.{statement}
 use Rattle.bank.proofs.survey.places.Tie as tie
 

@@ -8,9 +8,9 @@ use native.Mathlib.Omega.{arith}
 use lib.Bits.{or-zero-r}
 use lib.Pow.{pow-lt}
 use Rattle.column.specs.Sets.{has, join, insert, within}
-use Rattle.column.specs.SetLaws.{has-join}
-use Rattle.bank.specs.Standing.{membersIn, Sees}
-use Rattle.bank.specs.SetsWordLaws.{Narrow, sets-joined, owed-digit}
+use Rattle.column.specs.laws.SetLaws.{has-join}
+use Rattle.bank.specs.inner.Surveys.{membersIn}
+use Rattle.bank.specs.laws.SetsWordLaws.{Narrow, sets-joined, owed-digit}
 use Rattle.bank.proofs.survey.see.Statement.{statement}
 use Rattle.bank.proofs.survey.see.Tie as tie
 

@@ -3,18 +3,17 @@ use mathlib.Core.Path.{_≡_, sym, ap, _∙_}
 use mathlib.Core.Bool.{Bool, true, false, not, _&&_, _||_}
 use mathlib.Core.List.{List, [], _∷_}
 use Prim.Native.Nat.{ℕ, _≤_, _<_}
-use native.Mathlib.Omega.{arith}
 use lib.ListN.{getD}
 use borrow.Author.Tests.{eq-eqb, ne-eqb, lt-leb, lt-ltb, le-ltb, not-true, not-false}
 use lib.Dec.{leb}
 use Rattle.column.specs.Refusals.{first}
 use Rattle.column.specs.Sets.{has, within}
 use Rattle.column.specs.Trees.{every, treeRefusal}
-use Rattle.column.specs.TreeLaws.{check-exact, tree-sixteen, tree-root}
+use Rattle.column.specs.laws.TreeLaws.{check-exact, tree-sixteen, tree-root}
 use Rattle.column.specs.declared.state.Column.{Column}
-use Rattle.bank.specs.Banks.{state, columnAt, columnsStand, packetsStand, capacity, bankRefusal}
-use Rattle.bank.specs.Standing.{headStands, joined, tells, Saw}
-use Rattle.bank.specs.StandingLaws.{heads-stand}
+use Rattle.bank.specs.Banks.{state, columnAt, columnsStand, packetsStand, capacity, bankRefusal, joined}
+use Rattle.bank.specs.inner.Surveys.{headStands, tells, Saw}
+use Rattle.bank.specs.laws.StandingLaws.{heads-stand}
 use Rattle.bank.specs.declared.bank.Bank.{Bank}
 use Rattle.bank.proofs.survey.seen_refusal.Statement.{statement}
 use Rattle.bank.proofs.survey.seen_refusal.Tie as tie

@@ -3,11 +3,11 @@ use Prim.Native.Nat.{_≤_, _-_}
 use mathlib.Core.Path.{_≡_, sym, _∙_}
 use mathlib.Core.List.{[]}
 use native.Mathlib.Omega.{arith}
-use Rattle.column.specs.TreeLaws.{tree-sixteen}
-use Rattle.bank.specs.Banks.{state, runningOf}
-use Rattle.bank.specs.Standing.{Passing, RefusesBank}
-use Rattle.bank.specs.StandingLaws.{stands}
-use Rattle.bank.specs.SurveyLaws.{passing-start, passing-on, passing-tells}
+use Rattle.column.specs.laws.TreeLaws.{tree-sixteen}
+use Rattle.bank.specs.Banks.{state, runningOf, RefusesBank}
+use Rattle.bank.specs.inner.Surveys.{Passing}
+use Rattle.bank.specs.laws.StandingLaws.{stands}
+use Rattle.bank.specs.laws.SurveyLaws.{passing-start, passing-on, passing-tells}
 use Rattle.bank.proofs.survey.survey.Statement.{statement}
 use Rattle.bank.proofs.survey.survey.Tie as tie
 

@@ -10,7 +10,7 @@ use native.Mathlib.Omega.{arith}
 use lib.Pow.{pow-lt}
 use Rattle.column.specs.Sets.{selected}
 use Rattle.bank.specs.Banks.{columnAt}
-use Rattle.bank.specs.Quick.{isFull, isReady}
+use Rattle.bank.specs.inner.Turning.{isFull, isReady}
 use Rattle.bank.specs.declared.bank.Bank.{Bank}
 use Rattle.bank.proofs.turn.ready_columns.Statement.{statement}
 use Rattle.bank.proofs.turn.ready_columns.Tie as tie

@@ -2,7 +2,7 @@ use borrow.Author.Needs.{needs}
 use borrow.Author.Tests.{eq-eqb, ne-eqb, not-true, not-false}
 use mathlib.Core.Path.{refl, sym, ap, _∙_}
 use Rattle.column.specs.Sets.{minus}
-use Rattle.bank.specs.Offers.{step-is}
+use Rattle.bank.specs.laws.turns.LowestReady.{step-is}
 use Rattle.bank.specs.declared.bank.Step.the-variants.{Note, Take}
 use Rattle.bank.proofs.turn.step_of.Statement.{statement}
 use Rattle.bank.proofs.turn.step_of.Tie as tie

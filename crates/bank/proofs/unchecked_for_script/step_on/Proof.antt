@@ -1,19 +1,18 @@
 use borrow.Author.Needs.{needs}
 use borrow.Author.Tests.{le-leb, leb-true, not-true, not-false}
 use mathlib.Core.Path.{_≡_, refl, sym, ap₂, _∙_}
-use mathlib.Core.Bool.{Bool, true, false, _&&_, true≢false}
+use mathlib.Core.Bool.{true, _&&_, true≢false}
 use mathlib.Core.List.{List}
-use Prim.Native.Nat.{ℕ, _%_}
+use Prim.Native.Nat.{_%_}
 use lib.Dec.{leb}
-use Rattle.column.specs.Cases.{and-left, and-right}
+use Rattle.column.specs.laws.Cases.{and-left, and-right}
 use Rattle.column.specs.declared.state.Column.{Column}
-use Rattle.bank.specs.Banks.{State, state, columnAt}
-use Rattle.bank.specs.Standing.{joined}
-use Rattle.bank.specs.Changes.{changed}
+use Rattle.bank.specs.Banks.{State, state, columnAt, joined}
+use Rattle.bank.specs.inner.Changes.{changed}
 use Rattle.bank.specs.Performs.{perform}
-use Rattle.bank.specs.Moves.{isMove, openingRefusal}
-use Rattle.bank.specs.Parts.{Tells, actorOf}
-use Rattle.bank.specs.PartLaws.{opening-there, part-closed, part-opened, stood, lit, place-is, part-refused, part-accepted}
+use Rattle.bank.specs.Parts.{isMove, Tells, actorOf}
+use Rattle.bank.specs.inner.Moves.{openingRefusal}
+use Rattle.bank.specs.laws.PartLaws.{opening-there, part-closed, part-opened, stood, lit, place-is, part-refused, part-accepted}
 use Rattle.bank.proofs.unchecked_for_script.step_on.Statement.{statement}
 use Rattle.bank.proofs.unchecked_for_script.step_on.Tie as tie
 

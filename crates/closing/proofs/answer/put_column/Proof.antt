@@ -1,10 +1,10 @@
 use borrow.Author.Needs.{needs}
 use borrow.Author.Tests.{not-true, not-false}
-use mathlib.Core.Path.{_≡_, sym, subst, _∙_}
+use mathlib.Core.Path.{sym, subst, _∙_}
 use Prim.Native.Nat.{ℕ, _≤_, _<_, _%_}
 use native.Mathlib.Omega.{arith}
-use Rattle.closing.specs.PlaceLines.{same-text, listed-bank, listed-none, listed-halted, listed-runs}
-use Rattle.closing.specs.Writing.{puts-all}
+use Rattle.closing.specs.laws.PlaceLineLaws.{same-text, listed-bank, listed-none, listed-halted, listed-runs}
+use Rattle.closing.specs.laws.WritingLaws.{puts-all}
 use Rattle.closing.proofs.answer.put_column.Statement.{statement}
 use Rattle.closing.proofs.answer.put_column.Tie as tie
 

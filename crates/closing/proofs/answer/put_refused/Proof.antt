@@ -1,8 +1,8 @@
 use borrow.Author.Needs.{needs}
 use native.Mathlib.Omega.{arith}
 use Rattle.closing.specs.Scripts.{refusedText}
-use Rattle.closing.specs.ScriptLaws.{refused-length}
-use Rattle.closing.specs.Writing.{puts-all}
+use Rattle.closing.specs.laws.ScriptLaws.{refused-length}
+use Rattle.closing.specs.laws.WritingLaws.{puts-all}
 use Rattle.closing.proofs.answer.put_refused.Statement.{statement}
 use Rattle.closing.proofs.answer.put_refused.Tie as tie
 

@@ -2,7 +2,7 @@ use borrow.Author.Needs.{needs}
 use native.Mathlib.Omega.{arith}
 use Rattle.closing.specs.Text.{stepOk}
 use Rattle.closing.specs.Scripts.{stepText}
-use Rattle.closing.specs.Writing.{puts-all}
+use Rattle.closing.specs.laws.WritingLaws.{puts-all}
 use Rattle.closing.proofs.answer.put_step.Statement.{statement}
 use Rattle.closing.proofs.answer.put_step.Tie as tie
 

@@ -2,8 +2,8 @@ use borrow.Author.Needs.{needs}
 use native.Mathlib.Omega.{arith}
 use Rattle.closing.specs.Text.{stepsKey, stepOk, field}
 use Rattle.closing.specs.Scripts.{stepsText}
-use Rattle.closing.specs.ScriptLaws.{steps-length}
-use Rattle.closing.specs.Writing.{puts-all, puts-more}
+use Rattle.closing.specs.laws.ScriptLaws.{steps-length}
+use Rattle.closing.specs.laws.WritingLaws.{puts-all, puts-more}
 use Rattle.closing.proofs.answer.put_steps.Statement.{statement}
 use Rattle.closing.proofs.answer.put_steps.Tie as tie
 

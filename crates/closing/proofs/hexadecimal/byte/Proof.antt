@@ -1,8 +1,8 @@
 use mathlib.Core.Path.{_≡_, sym, ap, _∙_}
 use native.Mathlib.Omega.{arith}
-use Rattle.closing.specs.Text.{read}
-use Rattle.closing.specs.Readings.{numberMeant}
-use Rattle.closing.specs.Hexadecimals.{digitRead, byteRead, digit-is, digit-lt, digit-none}
+use Rattle.closing.specs.Text.{read, numberMeant}
+use Rattle.closing.specs.inner.Hexadecimals.{digitRead, byteRead}
+use Rattle.closing.specs.laws.HexadecimalLaws.{digit-is, digit-lt, digit-none}
 use borrow.Author.Needs.{needs}
 use Rattle.closing.proofs.hexadecimal.byte.Statement.{statement}
 use Rattle.closing.proofs.hexadecimal.byte.Tie as tie

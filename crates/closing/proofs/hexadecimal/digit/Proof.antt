@@ -1,6 +1,6 @@
 use native.Mathlib.Omega.{arith}
 use borrow.Author.Tests.{lt-ltb, le-ltb, le-leb, lt-leb}
-use Rattle.closing.specs.Hexadecimals.{digitRead}
+use Rattle.closing.specs.inner.Hexadecimals.{digitRead}
 use borrow.Author.Needs.{needs}
 use Rattle.closing.proofs.hexadecimal.digit.Statement.{statement}
 use Rattle.closing.proofs.hexadecimal.digit.Tie as tie

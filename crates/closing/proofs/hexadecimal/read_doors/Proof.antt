@@ -10,9 +10,9 @@ use lib.ListN.{length, getD, drop, drop-of-length-le}
 use borrow.Author.Tests.{eq-eqb, ne-eqb}
 use Rattle.column.specs.Packets.{lowValue}
 use Rattle.closing.specs.Lines.{hexadecimalBytes, allHexadecimal}
-use Rattle.closing.specs.Text.{read}
-use Rattle.closing.specs.Readings.{numberMeant}
-use Rattle.closing.specs.Hexadecimals.{byteRead, doorsRead, byte-is, byte-lt, byte-none, value-more, all-more, all-part}
+use Rattle.closing.specs.Text.{read, numberMeant}
+use Rattle.closing.specs.inner.Hexadecimals.{byteRead, doorsRead}
+use Rattle.closing.specs.laws.HexadecimalLaws.{byte-is, byte-lt, byte-none, value-more, all-more, all-part}
 use borrow.Author.Needs.{needs}
 use Rattle.closing.proofs.hexadecimal.read_doors.Statement.{statement}
 use Rattle.closing.proofs.hexadecimal.read_doors.Tie as tie

@@ -5,7 +5,7 @@ use lib.ListN.{length}
 use borrow.Author.Tests.{not-true, not-false}
 use Rattle.closing.specs.Text.{haltKey, startsWith}
 use Rattle.closing.specs.Lines.{haltIn}
-use Rattle.closing.specs.Readings.{starts-length, after-other, after-rest}
+use Rattle.closing.specs.laws.ReadingLaws.{starts-length, after-other, after-rest}
 use borrow.Author.Needs.{needs}
 use Rattle.closing.proofs.line.halt.Statement.{statement}
 use Rattle.closing.proofs.line.halt.Tie as tie

@@ -4,9 +4,9 @@ use native.Mathlib.Omega.{arith}
 use lib.ListN.{length}
 use Rattle.closing.specs.Tables.{pieces, numerals}
 use Rattle.closing.specs.Lines.{haltAfter}
-use Rattle.closing.specs.LineLaws.{member-read, member-unread, members-read}
-use Rattle.closing.specs.Readings.{numberMeant}
-use Rattle.closing.specs.Cutting.{piecesFrom, pieces-all}
+use Rattle.closing.specs.laws.LineLaws.{member-read, member-unread, members-read}
+use Rattle.closing.specs.Text.{numberMeant}
+use Rattle.closing.specs.laws.Cutting.{piecesFrom, pieces-all}
 use borrow.Author.Needs.{needs}
 use Rattle.closing.proofs.line.members_in.Statement.{statement}
 use Rattle.closing.proofs.line.members_in.Tie as tie

@@ -6,10 +6,10 @@ use mathlib.Core.Bool.{true}
 use native.Mathlib.Omega.{arith}
 use lib.ListN.{length, take, drop}
 use borrow.Author.Tests.{not-true, not-false}
-use Rattle.closing.specs.Text.{noteKey, numeral, startsWith, afterKey}
+use Rattle.closing.specs.Text.{noteKey, numeral, startsWith, afterKey, numberMeant}
 use Rattle.closing.specs.Lines.{noteOf, noteIn}
-use Rattle.closing.specs.Readings.{numberMeant, starts-length, after-other}
-use Rattle.closing.specs.LineLaws.{note-one, note-two}
+use Rattle.closing.specs.laws.ReadingLaws.{starts-length, after-other}
+use Rattle.closing.specs.laws.LineLaws.{note-one, note-two}
 use borrow.Author.Needs.{needs}
 use Rattle.closing.proofs.line.note.Statement.{statement}
 use Rattle.closing.proofs.line.note.Tie as tie

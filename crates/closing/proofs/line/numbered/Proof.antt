@@ -3,7 +3,7 @@ use mathlib.Core.Path.{_≡_, sym, ap, _∙_}
 use native.Mathlib.Omega.{arith}
 use Rattle.closing.specs.Tables.{keyed}
 use Rattle.closing.specs.Lines.{asking}
-use Rattle.closing.specs.Readings.{numberMeant}
+use Rattle.closing.specs.Text.{numberMeant}
 use borrow.Author.Needs.{needs}
 use Rattle.closing.proofs.line.numbered.Statement.{statement}
 use Rattle.closing.proofs.line.numbered.Tie as tie

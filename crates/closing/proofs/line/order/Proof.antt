@@ -5,8 +5,9 @@ use borrow.Author.Tests.{not-true, not-false}
 use Rattle.bank.specs.declared.bank.Step.the-variants.{Order}
 use Rattle.closing.specs.Text.{orderKey, startsWith, afterKey}
 use Rattle.closing.specs.Lines.{perform, doorsIn, asking}
-use Rattle.closing.specs.Readings.{starts-length, after-other, after-rest}
-use Rattle.closing.specs.Hexadecimals.{doorsMeant, doors-asked}
+use Rattle.closing.specs.laws.ReadingLaws.{starts-length, after-other, after-rest}
+use Rattle.closing.specs.inner.Hexadecimals.{doorsMeant}
+use Rattle.closing.specs.laws.HexadecimalLaws.{doors-asked}
 use borrow.Author.Needs.{needs}
 use Rattle.closing.proofs.line.order.Statement.{statement}
 use Rattle.closing.proofs.line.order.Tie as tie

@@ -1,7 +1,7 @@
 -- `line::parse` meets its contract: each arm has the only key that its first bytes allow.
 -- Assumes nothing.
 use mathlib.Core.Path.{sym, _∙_}
-use Rattle.closing.specs.LineLaws.{short-line, order-line, send-line, take-line, ack-line, all-line, note-line, halt-line, back-line, list-line, run-line, other-line}
+use Rattle.closing.specs.laws.LineLaws.{short-line, order-line, send-line, take-line, ack-line, all-line, note-line, halt-line, back-line, list-line, run-line, other-line}
 use borrow.Author.Needs.{needs}
 use Rattle.closing.proofs.line.parse.Statement.{statement}
 use Rattle.closing.proofs.line.parse.Tie as tie

@@ -7,7 +7,7 @@ use lib.ListN.{length}
 use borrow.Author.Tests.{eq-eqb, ne-eqb, lt-leb}
 use Rattle.bank.specs.Banks.{State, state, columnAt}
 use Rattle.closing.specs.Closing.{listText, listRefusal, placed, list}
-use Rattle.closing.specs.ClosingLaws.{list-sixteen, whole, placed-part}
+use Rattle.closing.specs.laws.ClosingLaws.{list-sixteen, whole, placed-part}
 use Rattle.closing.proofs.list.list.Statement.{statement}
 use Rattle.closing.proofs.list.list.Tie as tie
 

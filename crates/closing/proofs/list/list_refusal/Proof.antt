@@ -5,7 +5,7 @@ use mathlib.Core.List.{List, []}
 use native.Mathlib.Omega.{arith}
 use borrow.Author.Tests.{eq-eqb, ne-eqb}
 use Rattle.bank.specs.Banks.{state, actingRefusal}
-use Rattle.closing.specs.ClosingLaws.{acting-sixteen}
+use Rattle.closing.specs.laws.ClosingLaws.{acting-sixteen}
 use Rattle.closing.proofs.list.list_refusal.Statement.{statement}
 use Rattle.closing.proofs.list.list_refusal.Tie as tie
 

@@ -5,9 +5,9 @@ use native.Mathlib.Nat.{div-one}
 use native.Mathlib.Omega.{arith}
 use lib.ListN.{length}
 use Rattle.closing.specs.Closing.{doorsUpTo, divided}
-use Rattle.closing.specs.Writing.{Puts, puts-none, puts-more}
-use Rattle.closing.specs.DoorLaws.{noneBefore, free, doors-none, doors-rest, door-within, doors-next, some-before, rest-next}
-use Rattle.closing.specs.DividedLaws.{nextText}
+use Rattle.closing.specs.laws.WritingLaws.{Puts, puts-none, puts-more}
+use Rattle.closing.specs.laws.DoorLaws.{noneBefore, free, doors-none, doors-rest, door-within, doors-next, some-before, rest-next}
+use Rattle.closing.specs.inner.Texts.{nextText}
 use Rattle.closing.proofs.list.put_doors.Statement.{statement}
 use Rattle.closing.proofs.list.put_doors.Tie as tie
 

@@ -6,8 +6,8 @@ use lib.Count.{ones, ones-le}
 use lib.ListN.{length}
 use Rattle.closing.specs.Text.{columnKey, numberKey, occupiedKey, doorsKey, newline, field}
 use Rattle.closing.specs.Closing.{longestList, doorsUpTo, divided, listText}
-use Rattle.closing.specs.ClosingLaws.{list-longest}
-use Rattle.closing.specs.Writing.{puts-more}
+use Rattle.closing.specs.laws.ClosingLaws.{list-longest}
+use Rattle.closing.specs.laws.WritingLaws.{puts-more}
 use Rattle.closing.proofs.list.put_list.Statement.{statement}
 use Rattle.closing.proofs.list.put_list.Tie as tie
 
@@ -99,9 +99,9 @@ returns c =
     let occupied = field occupiedKey (ones (a .c .doors)) in
     let number = field numberKey (a .c .number) in (
       puts-more (field columnKey (a .i)) (number ++ (occupied ++ (doorsKey ++ (doors ++ end)))) (n .put-field .ensures)
-    (puts-more number (occupied ++ (doorsKey ++ (doors ++ end))) (o .put-field2 .ensures)
-    (puts-more occupied (doorsKey ++ (doors ++ end)) (k .put-field3 .ensures)
-    (puts-more doorsKey (doors ++ end) (d .put-all .ensures) (puts-more doors end (e .put-doors .ensures) (f .put-all2 .ensures))))),
+          (puts-more number (occupied ++ (doorsKey ++ (doors ++ end))) (o .put-field2 .ensures)
+          (puts-more occupied (doorsKey ++ (doors ++ end)) (k .put-field3 .ensures)
+          (puts-more doorsKey (doors ++ end) (d .put-all .ensures) (puts-more doors end (e .put-doors .ensures) (f .put-all2 .ensures))))),
       λ h. few (start n) h,
     )
 

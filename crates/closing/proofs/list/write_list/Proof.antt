@@ -1,5 +1,5 @@
 use borrow.Author.Needs.{needs}
-use Prim.Native.Nat.{ℕ, _+_, _^_, _≤_, _<_}
+use Prim.Native.Nat.{ℕ, _+_, _^_, _<_}
 use mathlib.Core.Path.{_≡_, sym, ap, ap₂, _∙_}
 use mathlib.Core.List.{List}
 use native.Mathlib.Omega.{arith}
@@ -7,8 +7,9 @@ use lib.ListN.{length, take, replicate}
 use borrow.Author.Tests.{le-leb, lt-leb}
 use Rattle.column.specs.Refusals.{given}
 use Rattle.closing.specs.Closing.{longestList, listText, placed}
-use Rattle.closing.specs.ClosingLaws.{list-of-any}
-use Rattle.closing.specs.Writing.{Writes, written-taken, writes-within, puts-all}
+use Rattle.closing.specs.laws.ClosingLaws.{list-of-any}
+use Rattle.closing.specs.Text.{Writes}
+use Rattle.closing.specs.laws.WritingLaws.{written-taken, writes-within, puts-all}
 use Rattle.closing.proofs.list.write_list.Statement.{statement}
 use Rattle.closing.proofs.list.write_list.Tie as tie
 

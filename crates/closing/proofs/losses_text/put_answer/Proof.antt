@@ -6,7 +6,7 @@ use Rattle.bank.specs.Steps.{answered}
 use Rattle.bank.specs.declared.bank.Answer.{Answer}
 use Rattle.closing.specs.Tables.{Placed, placedAt}
 use Rattle.closing.specs.LossTexts.{tableText, lossesText}
-use Rattle.closing.specs.LossTextLaws.{refused-written, losses-long, losses-read}
+use Rattle.closing.specs.laws.LossTextLaws.{refused-written, losses-long, losses-read}
 use Rattle.closing.proofs.losses_text.put_answer.Statement.{statement}
 use Rattle.closing.proofs.losses_text.put_answer.Tie as tie
 

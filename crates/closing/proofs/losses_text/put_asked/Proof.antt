@@ -5,10 +5,10 @@ use native.Mathlib.Omega.{arith}
 use lib.ListN.{length, drop, length-drop}
 use lib.Seq.{take-all}
 use Rattle.losses.specs.Losses.{lossesRefusal}
-use Rattle.closing.specs.Readings.{numberMeant}
+use Rattle.closing.specs.Text.{numberMeant}
 use Rattle.closing.specs.LossTexts.{stepCount}
-use Rattle.closing.specs.Writing.{puts-all}
-use Rattle.closing.specs.LossTextLaws.{counts-fit, refused-written, asked-refused, asked-unread, asked-missing, asked-counts}
+use Rattle.closing.specs.laws.WritingLaws.{puts-all}
+use Rattle.closing.specs.laws.LossTextLaws.{counts-fit, refused-written, asked-refused, asked-unread, asked-missing, asked-counts}
 use Rattle.closing.specs.declared.reading.Number.{Number}
 use Rattle.closing.proofs.losses_text.put_asked.Statement.{statement}
 use Rattle.closing.proofs.losses_text.put_asked.Tie as tie

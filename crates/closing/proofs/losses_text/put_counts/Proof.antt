@@ -2,7 +2,7 @@ use borrow.Author.Needs.{needs}
 use mathlib.Core.List.{_++_}
 use Rattle.closing.specs.Text.{field}
 use Rattle.closing.specs.LossTexts.{keptKey, lostKey, noneKey, countsText}
-use Rattle.closing.specs.Writing.{puts-more}
+use Rattle.closing.specs.laws.WritingLaws.{puts-more}
 use Rattle.closing.proofs.losses_text.put_counts.Statement.{statement}
 use Rattle.closing.proofs.losses_text.put_counts.Tie as tie
 

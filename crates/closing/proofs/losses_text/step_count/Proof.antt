@@ -5,7 +5,7 @@ use native.Mathlib.Omega.{arith}
 use lib.ListN.{length, take, drop, length-drop}
 use borrow.Author.Tests.{eq-eqb, ne-eqb}
 use Rattle.closing.specs.Tables.{ended, cut}
-use Rattle.closing.specs.Cutting.{line-ended, line-unended}
+use Rattle.closing.specs.laws.Cutting.{line-ended, line-unended}
 use Rattle.closing.specs.LossTexts.{stepsIn}
 use Rattle.closing.proofs.losses_text.step_count.Statement.{statement}
 use Rattle.closing.proofs.losses_text.step_count.Tie as tie

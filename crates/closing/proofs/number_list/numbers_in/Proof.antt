@@ -4,9 +4,11 @@ use mathlib.Core.List.{[]}
 use native.Mathlib.Omega.{arith}
 use lib.ListN.{length}
 use Rattle.closing.specs.Tables.{pieces, numerals}
-use Rattle.closing.specs.Readings.{numberMeant, numeral-two}
-use Rattle.closing.specs.Cutting.{piecesFrom, pieces-all}
-use Rattle.closing.specs.NumberLists.{listOf, withOne, held, heldAfter, held-all, piece-read, piece-unread, pieces-read}
+use Rattle.closing.specs.Text.{numberMeant}
+use Rattle.closing.specs.laws.ReadingLaws.{numeral-two}
+use Rattle.closing.specs.laws.Cutting.{piecesFrom, pieces-all}
+use Rattle.closing.specs.inner.NumberLists.{listOf, withOne, held}
+use Rattle.closing.specs.laws.NumberListLaws.{heldAfter, held-all, piece-read, piece-unread, pieces-read}
 use borrow.Author.Needs.{needs}
 use Rattle.closing.proofs.number_list.numbers_in.Statement.{statement}
 use Rattle.closing.proofs.number_list.numbers_in.Tie as tie

@@ -5,8 +5,8 @@ use lib.ListN.{length}
 use borrow.Author.Tests.{not-true, not-false}
 use Rattle.closing.specs.Text.{startsWith}
 use Rattle.closing.specs.Tables.{numbersIn}
-use Rattle.closing.specs.Readings.{starts-length, after-other, after-rest}
-use Rattle.closing.specs.NumberLists.{held}
+use Rattle.closing.specs.laws.ReadingLaws.{starts-length, after-other, after-rest}
+use Rattle.closing.specs.inner.NumberLists.{held}
 use borrow.Author.Needs.{needs}
 use Rattle.closing.proofs.number_list.numbers_of.Statement.{statement}
 use Rattle.closing.proofs.number_list.numbers_of.Tie as tie

@@ -1,5 +1,5 @@
 use borrow.Author.Tests.{lt-ltb, le-ltb}
-use Rattle.closing.specs.NumberLists.{withOne}
+use Rattle.closing.specs.inner.NumberLists.{withOne}
 use borrow.Author.Needs.{needs}
 use Rattle.closing.proofs.number_list.with_number.Statement.{statement}
 use Rattle.closing.proofs.number_list.with_number.Tie as tie

@@ -1,6 +1,6 @@
 use mathlib.Core.Path.{sym, _∙_}
 use native.Mathlib.Omega.{arith}
-use Rattle.closing.specs.Readings.{numeral-none, numeral-long, numeral-zero, numeral-digits, leading-one, leading-other}
+use Rattle.closing.specs.laws.ReadingLaws.{numeral-none, numeral-long, numeral-zero, numeral-digits, leading-one, leading-other}
 use borrow.Author.Needs.{needs}
 use Rattle.closing.proofs.reading.numeral.Statement.{statement}
 use Rattle.closing.proofs.reading.numeral.Tie as tie

@@ -3,7 +3,7 @@ use mathlib.Core.Path.{_≡_, refl, sym, _∙_}
 use native.Mathlib.Omega.{arith}
 use lib.ListN.{length, drop}
 use Rattle.closing.specs.Text.{startsWith}
-use Rattle.closing.specs.Readings.{starts-same, starts-other, starts-short, starts-done}
+use Rattle.closing.specs.laws.ReadingLaws.{starts-same, starts-other, starts-short, starts-done}
 use borrow.Author.Needs.{needs}
 use Rattle.closing.proofs.reading.starts_with.Statement.{statement}
 use Rattle.closing.proofs.reading.starts_with.Tie as tie

@@ -4,7 +4,8 @@ use Prim.Native.Nat.{_-_, _^_, _≤_, _<_}
 use mathlib.Core.Path.{_≡_, refl, sym, _∙_}
 use native.Mathlib.Omega.{arith}
 use lib.ListN.{length, drop}
-use Rattle.closing.specs.Readings.{digits, digits-next, digits-below, digits-above, digits-done}
+use Rattle.closing.specs.inner.Texts.{digits}
+use Rattle.closing.specs.laws.ReadingLaws.{digits-next, digits-below, digits-above, digits-done}
 use borrow.Author.Needs.{needs}
 use Rattle.closing.proofs.reading.value_of.Statement.{statement}
 use Rattle.closing.proofs.reading.value_of.Tie as tie

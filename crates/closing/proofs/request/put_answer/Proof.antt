@@ -7,12 +7,12 @@ use borrow.Author.Tests.{eq-eqb, not-true, not-false}
 use Rattle.fastest.specs.Strategy.{fastestRefusal, fastestTree, fastestPlan}
 use Rattle.fastest.specs.declared.strategy.Plan.{Plan}
 use Rattle.closing.specs.Text.{read, unread}
-use Rattle.closing.specs.Writing.{puts-all}
+use Rattle.closing.specs.laws.WritingLaws.{puts-all}
 use Rattle.closing.specs.Scripts.{refusedText}
-use Rattle.closing.specs.ScriptLaws.{refused-length}
+use Rattle.closing.specs.laws.ScriptLaws.{refused-length}
 use Rattle.closing.specs.Requests.{requestOf, tableText}
 use Rattle.closing.specs.Requests as requests
-use Rattle.closing.specs.AnswerLaws.{answer-unread, answer-refused, answer-table, table-fits}
+use Rattle.closing.specs.laws.AnswerLaws.{answer-unread, answer-refused, answer-table, table-fits}
 use Rattle.closing.proofs.request.put_answer.Statement.{statement}
 use Rattle.closing.proofs.request.put_answer.Tie as tie
 

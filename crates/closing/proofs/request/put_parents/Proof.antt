@@ -1,11 +1,12 @@
 use borrow.Author.Needs.{needs}
-use Prim.Native.Nat.{_+_, _-_, _≤_}
+use Prim.Native.Nat.{_-_, _≤_}
 use mathlib.Core.Path.{_≡_, refl, _∙_}
 use native.Mathlib.Omega.{arith}
 use lib.ListN.{length, getD, take}
 use Rattle.closing.specs.Closing.{divided}
-use Rattle.closing.specs.Writing.{Puts, puts-none, puts-more}
-use Rattle.closing.specs.DividedLaws.{nextText, none, taken-more, taken-first}
+use Rattle.closing.specs.laws.WritingLaws.{Puts, puts-none, puts-more}
+use Rattle.closing.specs.inner.Texts.{nextText}
+use Rattle.closing.specs.laws.DividedLaws.{none, taken-more, taken-first}
 use Rattle.closing.proofs.request.put_parents.Statement.{statement}
 use Rattle.closing.proofs.request.put_parents.Tie as tie
 

@@ -1,11 +1,10 @@
 use borrow.Author.Needs.{needs}
 use mathlib.Core.List.{[], _∷_, _++_}
-use native.Mathlib.Omega.{arith}
-use lib.ListN.{length, take}
+use lib.ListN.{take}
 use Rattle.closing.specs.Text.{columnsKey, rootKey, upKey, newline, field}
 use Rattle.closing.specs.Closing.{divided}
 use Rattle.closing.specs.Requests.{tableText}
-use Rattle.closing.specs.Writing.{puts-more}
+use Rattle.closing.specs.laws.WritingLaws.{puts-more}
 use Rattle.closing.proofs.request.put_table.Statement.{statement}
 use Rattle.closing.proofs.request.put_table.Tie as tie
 

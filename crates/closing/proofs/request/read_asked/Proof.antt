@@ -1,5 +1,5 @@
 use mathlib.Core.Path.{sym, ap, _∙_}
-use Rattle.closing.specs.Readings.{numberMeant}
+use Rattle.closing.specs.Text.{numberMeant}
 use Rattle.closing.specs.Requests.{asked}
 use borrow.Author.Needs.{needs}
 use Rattle.closing.proofs.request.read_asked.Statement.{statement}

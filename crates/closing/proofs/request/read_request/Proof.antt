@@ -1,8 +1,8 @@
 use Prim.Native.Nat.{ℕ}
 use mathlib.Core.Path.{sym, _∙_}
 use mathlib.Core.List.{List}
-use Rattle.closing.specs.LineEnds.{as-rising}
-use Rattle.closing.specs.RequestLaws.{request-fewer, request-longer, request-whole}
+use Rattle.closing.specs.laws.LineEndLaws.{as-rising}
+use Rattle.closing.specs.laws.RequestLaws.{request-fewer, request-longer, request-whole}
 use borrow.Author.Needs.{needs}
 use Rattle.closing.proofs.request.read_request.Statement.{statement}
 use Rattle.closing.proofs.request.read_request.Tie as tie

@@ -1,10 +1,10 @@
 use borrow.Author.Needs.{needs}
 use mathlib.Core.Path.{refl}
 use mathlib.Core.List.{[]}
-use Rattle.closing.specs.Writing.{writes-none}
+use Rattle.closing.specs.laws.WritingLaws.{writes-none}
 use Rattle.closing.specs.Advances.{Progress, progressOf, mostTexts, saying}
-use Rattle.closing.specs.ScriptLaws.{text-advanced, advanced-writes}
-use Rattle.closing.specs.FillLaws.{filled-over, table, fill-later, fill-ends, fill-goes-on}
+use Rattle.closing.specs.laws.ScriptLaws.{text-advanced, advanced-writes}
+use Rattle.closing.specs.laws.FillLaws.{filled-over, table, fill-later, fill-ends, fill-goes-on}
 use Rattle.closing.proofs.script.fill.Statement.{statement}
 use Rattle.closing.proofs.script.fill.Tie as tie
 

@@ -6,10 +6,10 @@ use native.Mathlib.Omega.{arith}
 use Rattle.bank.specs.Steps.{answered}
 use Rattle.bank.specs.declared.bank.Answer.{Answer}
 use Rattle.closing.specs.Text.{tableOk}
-use Rattle.closing.specs.Writing.{puts-all}
+use Rattle.closing.specs.laws.WritingLaws.{puts-all}
 use Rattle.closing.specs.Tables.{Placed, placedAt, readTable}
 use Rattle.closing.specs.Advances.{progressOf, tableAdvance, firstAdvance}
-use Rattle.closing.specs.ScriptLaws.{text-advanced, first-long, first-read, fresh-bank}
+use Rattle.closing.specs.laws.ScriptLaws.{text-advanced, first-long, first-read, fresh-bank}
 use Rattle.closing.proofs.script.first.Statement.{statement}
 use Rattle.closing.proofs.script.first.Tie as tie
 

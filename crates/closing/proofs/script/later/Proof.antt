@@ -3,7 +3,7 @@ use Prim.Native.Nat.{_≤_}
 use mathlib.Core.Path.{_∙_}
 use native.Mathlib.Omega.{arith}
 use lib.ListN.{length}
-use Rattle.closing.specs.FillLaws.{reaches-full, reaches-rest}
+use Rattle.closing.specs.laws.FillLaws.{reaches-full, reaches-rest}
 use Rattle.closing.proofs.script.later.Statement.{statement}
 use Rattle.closing.proofs.script.later.Tie as tie
 

@@ -1,9 +1,9 @@
 -- What is known of the bank is so at every line that goes by place.
 use borrow.Author.Needs.{needs}
 use borrow.Author.Tests.{leb-true, le-leb, ltb-true, ltb-false, not-true, not-false}
-use Prim.Native.Nat.{ℕ, _+_, _-_, _%_, _≤_, _<_}
+use Prim.Native.Nat.{ℕ, _+_, _-_, _≤_, _<_}
 use mathlib.Core.Path.{_≡_, refl, sym, ap, subst, _∙_}
-use mathlib.Core.Bool.{Bool, true, false, _&&_, true≢false}
+use mathlib.Core.Bool.{Bool, true, _&&_, true≢false}
 use mathlib.Core.Logic.{⊎-elim}
 use mathlib.Core.List.{List, [], _∷_}
 use native.Mathlib.Omega.{arith}
@@ -11,18 +11,18 @@ use lib.Dec.{leb, ltb}
 use lib.ListN.{length}
 use types.Run.{OneOf, miss}
 use denote.Enum.Declared.{tagOf}
-use Rattle.column.specs.Cases.{and-left, and-right}
+use Rattle.column.specs.laws.Cases.{and-left, and-right}
 use Rattle.bank.specs.Banks.{State, state}
-use Rattle.bank.specs.Parts.{Tells, withPart, retested, PartOf}
+use Rattle.bank.specs.Parts.{Tells, withPart, retested}
 use Rattle.bank.specs.declared.bank.Bank.{Bank}
 use Rattle.bank.specs.declared.unchecked_for_script.Tested.{Tested}
 use Rattle.closing.specs.Closing.{longestList}
 use Rattle.closing.specs.Lines.{lineMeant}
 use Rattle.closing.specs.Scripts.{Printed, printed, refusedText, answered}
 use Rattle.closing.specs.Advances.{room}
-use Rattle.closing.specs.ScriptLaws.{Answers, step-answers, line-on}
-use Rattle.closing.specs.PlaceLines.{byPlace}
-use Rattle.closing.specs.FillLaws.{Carries, carried-line}
+use Rattle.closing.specs.inner.ScriptLines.{Answers, byPlace, Carries}
+use Rattle.closing.specs.laws.ScriptLaws.{step-answers, line-on}
+use Rattle.closing.specs.laws.FillLaws.{carried-line}
 use Rattle.closing.specs.declared.line.Line.{Line}
 use Rattle.closing.specs.declared.line.Line.the-variants as line-is
 use Rattle.closing.proofs.line.Line as line-type

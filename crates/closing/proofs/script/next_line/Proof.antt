@@ -5,7 +5,8 @@ use native.Mathlib.Omega.{arith}
 use Rattle.closing.specs.Text.{Reading}
 use Rattle.closing.specs.Lines.{Command}
 use Rattle.closing.specs.Scripts.{answered}
-use Rattle.closing.specs.ScriptLaws.{replied, next-unended, next-ended}
+use Rattle.closing.specs.inner.ScriptLines.{replied}
+use Rattle.closing.specs.laws.ScriptLaws.{next-unended, next-ended}
 use Rattle.closing.proofs.script.next_line.Statement.{statement}
 use Rattle.closing.proofs.script.next_line.Tie as tie
 

@@ -2,7 +2,7 @@ use borrow.Author.Needs.{needs}
 use mathlib.Core.Path.{sym, _∙_}
 use native.Mathlib.Omega.{arith}
 use Rattle.closing.specs.Text.{restYes, restNo}
-use Rattle.closing.specs.Writing.{puts-all}
+use Rattle.closing.specs.laws.WritingLaws.{puts-all}
 use Rattle.closing.proofs.script.put_rest.Statement.{statement}
 use Rattle.closing.proofs.script.put_rest.Tie as tie
 

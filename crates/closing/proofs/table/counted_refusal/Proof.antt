@@ -2,7 +2,7 @@ use mathlib.Core.Path.{ap}
 use Prim.Native.Nat.{ℕ}
 use borrow.Author.Needs.{needs}
 use Rattle.column.specs.Refusals.{earlier}
-use Rattle.column.specs.RefusalLaws.{in-turn}
+use Rattle.column.specs.laws.RefusalLaws.{in-turn}
 use Rattle.column.specs.Trees.{treeRefusal}
 use Rattle.closing.specs.Tables.{countedConditions}
 use Rattle.closing.proofs.table.counted_refusal.Statement.{statement}

@@ -1,6 +1,6 @@
 use borrow.Author.Needs.{needs}
 use borrow.Author.Tests.{not-true, not-false}
-use Rattle.closing.specs.TableLaws.{heldJudged}
+use Rattle.closing.specs.inner.HeldTables.{heldJudged}
 use Rattle.closing.proofs.table.join.Statement.{statement}
 use Rattle.closing.proofs.table.join.Tie as tie
 

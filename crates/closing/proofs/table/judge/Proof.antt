@@ -1,7 +1,7 @@
 use mathlib.Core.Path.{sym}
 use borrow.Author.Needs.{needs}
 use borrow.Author.Tests.{eq-eqb, ne-eqb}
-use Rattle.closing.specs.TableLaws.{treeJudged}
+use Rattle.closing.specs.inner.HeldTables.{treeJudged}
 use Rattle.closing.proofs.table.judge.Statement.{statement}
 use Rattle.closing.proofs.table.judge.Tie as tie
 

@@ -1,6 +1,6 @@
 use mathlib.Core.Path.{sym, ap, _∙_}
 use borrow.Author.Needs.{needs}
-use Rattle.closing.specs.TableLaws.{furtherOf, further-is, further-both}
+use Rattle.closing.specs.laws.TableLaws.{furtherOf, further-is, further-both}
 use Rattle.closing.proofs.table.read_further.Statement.{statement}
 use Rattle.closing.proofs.table.read_further.Tie as tie
 

@@ -2,10 +2,10 @@ use mathlib.Core.Path.{_≡_, refl, sym, ap, _∙_}
 use mathlib.Core.Bool.{Bool, true, false, cond}
 use lib.ListN.{drop}
 use borrow.Author.Tests.{not-true, not-false}
-use Rattle.closing.specs.Text.{columnsKey, rootKey, upKey, Reading, read, unread}
+use Rattle.closing.specs.Text.{columnsKey, rootKey, upKey, Reading, read, unread, numberMeant}
 use Rattle.closing.specs.Tables.{keyed, numbers, furtherLines, joined, judged}
-use Rattle.closing.specs.Readings.{numberMeant}
-use Rattle.closing.specs.TableLaws.{HeldFurther, furtherFrom, heldJudged, linesJudged, judged-held}
+use Rattle.closing.specs.inner.HeldTables.{HeldFurther, furtherFrom, heldJudged, linesJudged}
+use Rattle.closing.specs.laws.TableLaws.{judged-held}
 use borrow.Author.Needs.{needs}
 use Rattle.closing.proofs.table.read_lines.Statement.{statement}
 use Rattle.closing.proofs.table.read_lines.Tie as tie

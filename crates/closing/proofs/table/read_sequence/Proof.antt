@@ -5,7 +5,8 @@ use native.Mathlib.Omega.{arith}
 use lib.ListN.{length, drop}
 use borrow.Author.Tests.{not-true, not-false}
 use Rattle.closing.specs.Text.{firstKey, startsWith}
-use Rattle.closing.specs.TableLaws.{sequenceMeant, heldBy, held-by, sequence-none, sequence-unended, sequence-ended}
+use Rattle.closing.specs.inner.HeldTables.{sequenceMeant}
+use Rattle.closing.specs.laws.TableLaws.{heldBy, held-by, sequence-none, sequence-unended, sequence-ended}
 use borrow.Author.Needs.{needs}
 use Rattle.closing.proofs.table.read_sequence.Statement.{statement}
 use Rattle.closing.proofs.table.read_sequence.Tie as tie

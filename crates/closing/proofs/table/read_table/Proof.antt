@@ -1,8 +1,8 @@
 use Prim.Native.Nat.{ℕ}
 use mathlib.Core.Path.{sym, _∙_}
 use mathlib.Core.List.{List}
-use Rattle.closing.specs.LineEnds.{as-rising}
-use Rattle.closing.specs.TableLaws.{table-fewer, table-found}
+use Rattle.closing.specs.laws.LineEndLaws.{as-rising}
+use Rattle.closing.specs.laws.TableLaws.{table-fewer, table-found}
 use borrow.Author.Needs.{needs}
 use Rattle.closing.proofs.table.read_table.Statement.{statement}
 use Rattle.closing.proofs.table.read_table.Tie as tie

@@ -4,7 +4,8 @@ use lib.ListN.{drop}
 use borrow.Author.Needs.{needs}
 use borrow.Author.Tests.{not-true, not-false}
 use Rattle.closing.specs.Text.{watchKey, startsWith}
-use Rattle.closing.specs.TableLaws.{watchMeant, watch-none, watch-root, watch-sender, watch-unread}
+use Rattle.closing.specs.inner.HeldTables.{watchMeant}
+use Rattle.closing.specs.laws.TableLaws.{watch-none, watch-root, watch-sender, watch-unread}
 use Rattle.closing.proofs.table.read_watch.Statement.{statement}
 use Rattle.closing.proofs.table.read_watch.Tie as tie
 

@@ -1,8 +1,8 @@
-use Prim.Native.Nat.{_+_, _-_, _≤_, min}
+use Prim.Native.Nat.{_-_, _≤_, min}
 use mathlib.Core.Path.{_≡_, refl, sym, ap, _∙_}
 use native.Mathlib.Omega.{arith}
 use lib.ListN.{length, take, length-set, length-take}
-use Rattle.closing.specs.Writing.{written-none, written-next, take-fewer}
+use Rattle.closing.specs.laws.WritingLaws.{written-none, written-next, take-fewer}
 use Rattle.closing.specs.Text.{written}
 use borrow.Author.Needs.{needs}
 use Rattle.closing.proofs.text.put_all.Statement.{statement}

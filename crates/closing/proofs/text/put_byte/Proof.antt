@@ -1,9 +1,8 @@
 use borrow.Author.Needs.{needs}
-use Prim.Native.Nat.{_+_, _≤_}
 use mathlib.Core.Path.{refl}
 use mathlib.Core.List.{[], _∷_}
 use native.Mathlib.Omega.{arith}
-use Rattle.closing.specs.Writing.{written-one, writes-puts, puts-past}
+use Rattle.closing.specs.laws.WritingLaws.{written-one, writes-puts, puts-past}
 use Rattle.closing.proofs.text.put_byte.Statement.{statement}
 use Rattle.closing.proofs.text.put_byte.Tie as tie
 

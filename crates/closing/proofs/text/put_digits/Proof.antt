@@ -2,7 +2,7 @@ use borrow.Author.Needs.{needs}
 use mathlib.Core.Path.{_≡_, _∙_}
 use lib.ListN.{take}
 use Rattle.closing.specs.Text.{decimal}
-use Rattle.closing.specs.DecimalLaws.{few-digits, digits-decimal}
+use Rattle.closing.specs.laws.DecimalLaws.{few-digits, digits-decimal}
 use Rattle.closing.proofs.text.put_digits.Statement.{statement}
 use Rattle.closing.proofs.text.put_digits.Tie as tie
 

@@ -1,7 +1,7 @@
 use borrow.Author.Needs.{needs}
 use mathlib.Core.List.{[], _∷_}
 use Rattle.closing.specs.Text.{comma, decimal}
-use Rattle.closing.specs.Writing.{puts-more}
+use Rattle.closing.specs.laws.WritingLaws.{puts-more}
 use Rattle.closing.proofs.text.put_next.Statement.{statement}
 use Rattle.closing.proofs.text.put_next.Tie as tie
 

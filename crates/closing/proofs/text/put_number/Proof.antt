@@ -1,11 +1,8 @@
 use borrow.Author.Needs.{needs}
 use Prim.Native.Nat.{ℕ, _+_, _/_, _%_}
-use mathlib.Core.Path.{_≡_}
-use mathlib.Core.List.{List, [], _∷_, _++_}
-use native.Mathlib.Omega.{arith}
-use Rattle.closing.specs.Text.{decimal}
-use Rattle.closing.specs.DecimalLaws.{decimal-one, decimal-two}
-use Rattle.closing.specs.Writing.{puts-more}
+use mathlib.Core.List.{List, [], _∷_}
+use Rattle.closing.specs.laws.DecimalLaws.{decimal-one, decimal-two}
+use Rattle.closing.specs.laws.WritingLaws.{puts-more}
 use Rattle.closing.proofs.text.put_number.Statement.{statement}
 use Rattle.closing.proofs.text.put_number.Tie as tie
 

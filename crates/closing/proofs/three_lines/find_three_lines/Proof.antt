@@ -2,7 +2,7 @@ use Prim.Native.Nat.{_<_}
 use mathlib.Core.Path.{sym}
 use native.Mathlib.Omega.{arith}
 use lib.ListN.{length}
-use Rattle.closing.specs.LineEnds.{first-fewer, second-fewer, third-fewer, three-found}
+use Rattle.closing.specs.laws.LineEndLaws.{first-fewer, second-fewer, third-fewer, three-found}
 use borrow.Author.Needs.{needs}
 use Rattle.closing.proofs.three_lines.find_three_lines.Statement.{statement}
 use Rattle.closing.proofs.three_lines.find_three_lines.Tie as tie

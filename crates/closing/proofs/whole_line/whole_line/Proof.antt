@@ -1,10 +1,10 @@
 use borrow.Author.Needs.{needs}
-use mathlib.Core.Path.{_≡_, sym, ap, _∙_}
-use mathlib.Core.Bool.{true, false, true≢false}
+use mathlib.Core.Path.{sym, ap, _∙_}
+use mathlib.Core.Bool.{true≢false}
 use Rattle.bank.specs.Banks.{state}
 use Rattle.closing.specs.Scripts.{answered}
-use Rattle.closing.specs.ScriptLaws.{step-answers, dispatch-answers}
-use Rattle.closing.specs.PlaceLines.{byPlace}
+use Rattle.closing.specs.laws.ScriptLaws.{step-answers, dispatch-answers}
+use Rattle.closing.specs.inner.ScriptLines.{byPlace}
 use Rattle.closing.proofs.whole_line.whole_line.Statement.{statement}
 use Rattle.closing.proofs.whole_line.whole_line.Tie as tie
 

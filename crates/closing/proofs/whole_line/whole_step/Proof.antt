@@ -1,7 +1,7 @@
 use borrow.Author.Needs.{needs}
-use mathlib.Core.Path.{_≡_, sym, ap, _∙_}
-use mathlib.Core.Bool.{true, false, true≢false}
-use Rattle.bank.specs.Moves.{isMove}
+use mathlib.Core.Path.{sym, ap, _∙_}
+use mathlib.Core.Bool.{true≢false}
+use Rattle.bank.specs.Parts.{isMove}
 use Rattle.bank.specs.Performs.{perform}
 use Rattle.closing.proofs.whole_line.whole_step.Statement.{statement}
 use Rattle.closing.proofs.whole_line.whole_step.Tie as tie

@@ -5,7 +5,7 @@ use mathlib.Core.Path.{_≡_, sym, ap, _∙_}
 use native.Mathlib.Omega.{arith}
 use Rattle.column.specs.Sets.{has}
 use Rattle.column.specs.Trees.{earliestFrom}
-use Rattle.column.specs.ChoiceLaws.{from-here, from-next}
+use Rattle.column.specs.laws.ChoiceLaws.{from-here, from-next}
 use Rattle.column.proofs.choice.choose.Statement.{statement}
 use Rattle.column.proofs.choice.choose.Tie as tie
 

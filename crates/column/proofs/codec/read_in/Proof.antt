@@ -5,10 +5,9 @@ use mathlib.Core.Path.{_≡_, sym, ap, _∙_}
 use native.Mathlib.Omega.{arith}
 use lib.ListN.{length, getD, take, drop, length-take}
 use borrow.Author.Tests.{eq-eqb, ne-eqb, le-leb, lt-leb}
-use Rattle.column.specs.Packets.{lowValue, highValue}
-use Rattle.column.specs.NumberLaws.{high-value-lt, part-bytes, word-is}
-use Rattle.column.specs.Packets.{readIn}
-use Rattle.column.specs.PacketLaws.{read-short}
+use Rattle.column.specs.Packets.{lowValue, highValue, readIn}
+use Rattle.column.specs.laws.NumberLaws.{high-value-lt, part-bytes, word-is}
+use Rattle.column.specs.laws.PacketLaws.{read-short}
 use borrow.Author.Needs.{needs}
 use Rattle.column.proofs.codec.read_in.Statement.{statement}
 use Rattle.column.proofs.codec.read_in.Tie as tie

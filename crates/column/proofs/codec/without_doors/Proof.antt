@@ -1,5 +1,5 @@
 -- `codec::without_doors` meets its contract. Assumes nothing.
-use Rattle.column.specs.PacketPlaces.{number-put}
+use Rattle.column.specs.laws.PacketPlaces.{number-put}
 use borrow.Author.Needs.{needs}
 use Rattle.column.proofs.codec.without_doors.Statement.{statement}
 use Rattle.column.proofs.codec.without_doors.Tie as tie

@@ -1,7 +1,7 @@
 -- `codec::write_in` meets its contract, for any kinds and any size of a number that fits.
 -- Assumes nothing.
 use Rattle.column.specs.Packets.{bytesIn}
-use Rattle.column.specs.PacketPlaces.{acknowledgement-put, doors-put}
+use Rattle.column.specs.laws.PacketPlaces.{acknowledgement-put, doors-put}
 use borrow.Author.Needs.{needs}
 use Rattle.column.proofs.codec.write_in.Statement.{statement}
 use Rattle.column.proofs.codec.write_in.Tie as tie

@@ -8,7 +8,7 @@ use borrow.Author.Tests.{not-true, not-false}
 use Rattle.column.specs.Sets.{lowest}
 use Rattle.column.specs.Steps.{ackEffect}
 use Rattle.column.specs.Unchecked.{bounded}
-use Rattle.column.specs.UncheckedLaws.{bounds, beyond-bounds, within-bounds}
+use Rattle.column.specs.laws.UncheckedLaws.{bounds, beyond-bounds, within-bounds}
 use Rattle.column.proofs.effect.ack_effect.Statement.{statement}
 use Rattle.column.proofs.effect.ack_effect.Tie as tie
 

@@ -2,7 +2,7 @@ use borrow.Author.Needs.{needs}
 use Prim.Native.Nat.{_<_, _^_}
 use mathlib.Core.Path.{_∙_}
 use native.Mathlib.Omega.{arith}
-use Rattle.column.specs.LowestLaws.{lowest-lt}
+use Rattle.column.specs.laws.Digits.{lowest-lt}
 use Rattle.column.proofs.effect.acknowledge_lowest.Statement.{statement}
 use Rattle.column.proofs.effect.acknowledge_lowest.Tie as tie
 

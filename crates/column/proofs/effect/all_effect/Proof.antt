@@ -4,7 +4,7 @@ use mathlib.Core.Bool.{true}
 use borrow.Author.Tests.{not-true, not-false}
 use Rattle.column.specs.Steps.{allEffect}
 use Rattle.column.specs.Unchecked.{bounded}
-use Rattle.column.specs.UncheckedLaws.{bounds, beyond-bounds, within-bounds}
+use Rattle.column.specs.laws.UncheckedLaws.{bounds, beyond-bounds, within-bounds}
 use Rattle.column.proofs.effect.all_effect.Statement.{statement}
 use Rattle.column.proofs.effect.all_effect.Tie as tie
 

@@ -5,7 +5,7 @@ use mathlib.Core.Logic.{⊎-elim}
 use borrow.Author.Tests.{not-true, not-false}
 use Rattle.column.specs.Steps.{meant, noteEffect}
 use Rattle.column.specs.Unchecked.{bounded}
-use Rattle.column.specs.UncheckedLaws.{Bounds, bounds, beyond-bounds, within-bounds}
+use Rattle.column.specs.laws.UncheckedLaws.{Bounds, bounds, beyond-bounds, within-bounds}
 use Rattle.column.proofs.effect.note_effect.Statement.{statement}
 use Rattle.column.proofs.effect.note_effect.Tie as tie
 

@@ -1,11 +1,10 @@
 use borrow.Author.Needs.{needs}
 use mathlib.Core.Path.{_≡_, sym, ap, _∙_}
-use mathlib.Core.Bool.{true}
 use borrow.Author.Tests.{eq-eqb, ne-eqb, not-true, not-false}
 use Rattle.column.specs.Trees.{choose}
 use Rattle.column.specs.Steps.{meant, sendEffect}
 use Rattle.column.specs.Unchecked.{bounded, boundedSend}
-use Rattle.column.specs.UncheckedLaws.{Bounds, bounds, beyond-bounds, within-bounds}
+use Rattle.column.specs.laws.UncheckedLaws.{Bounds, bounds, beyond-bounds, within-bounds}
 use Rattle.column.proofs.effect.send_effect.Statement.{statement}
 use Rattle.column.proofs.effect.send_effect.Tie as tie
 

@@ -5,7 +5,7 @@ use borrow.Author.Tests.{not-true, not-false}
 use Rattle.column.specs.Packets.{sender}
 use Rattle.column.specs.Steps.{meant, takeEffect}
 use Rattle.column.specs.Unchecked.{bounded, boundedTake}
-use Rattle.column.specs.UncheckedLaws.{Bounds, bounds, beyond-bounds, within-bounds}
+use Rattle.column.specs.laws.UncheckedLaws.{Bounds, bounds, beyond-bounds, within-bounds}
 use Rattle.column.proofs.effect.take_effect.Statement.{statement}
 use Rattle.column.proofs.effect.take_effect.Tie as tie
 

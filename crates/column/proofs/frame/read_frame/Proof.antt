@@ -8,9 +8,10 @@ use lib.ListN.{length, take, drop, set, length-drop, length-set}
 use lib.Seq.{drop-drop, take-all}
 use Rattle.column.specs.Refusals.{given}
 use Rattle.column.specs.Packets.{part, wide, read}
-use Rattle.column.specs.PacketLaws.{read-sized}
-use Rattle.column.specs.Frames.{framePackets, readFrame, slot, noFrame, frameOf}
-use Rattle.column.specs.FramePlaces.{laidFrom, laid-frame, laid-ends, laid-full, laid-refused, laid-more}
+use Rattle.column.specs.laws.PacketLaws.{read-sized}
+use Rattle.column.specs.Frames.{framePackets, readFrame, slot, frameOf}
+use Rattle.column.specs.inner.Answers.{noFrame}
+use Rattle.column.specs.laws.PacketPlaces.{laidFrom, laid-frame, laid-ends, laid-full, laid-refused, laid-more}
 use borrow.Author.Needs.{needs}
 use Rattle.column.proofs.frame.read_frame.Statement.{statement}
 use Rattle.column.proofs.frame.read_frame.Tie as tie

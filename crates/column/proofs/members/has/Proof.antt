@@ -1,6 +1,6 @@
 use borrow.Author.Needs.{needs}
 use mathlib.Core.Path.{sym}
-use Rattle.column.specs.SetLaws.{has-above}
+use Rattle.column.specs.laws.SetLaws.{has-above}
 use Rattle.column.proofs.members.has.Statement.{statement}
 use Rattle.column.proofs.members.has.Tie as tie
 

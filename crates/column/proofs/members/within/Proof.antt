@@ -3,7 +3,7 @@ use Prim.Native.Nat.{_^_, _<_}
 use mathlib.Core.Path.{sym}
 use native.Mathlib.Nat.{lt-of-lt-of-le}
 use lib.Pow.{pow-mono}
-use Rattle.column.specs.SetLaws.{lt-within}
+use Rattle.column.specs.laws.SetLaws.{lt-within}
 use Rattle.column.proofs.members.within.Statement.{statement}
 use Rattle.column.proofs.members.within.Tie as tie
 

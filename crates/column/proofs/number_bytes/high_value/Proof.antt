@@ -8,7 +8,7 @@ use native.Mathlib.Omega.{arith}
 use lib.ListN.{length, getD, take, length-take}
 use lib.Seq.{take-suc, take-length}
 use Rattle.column.specs.Packets.{lowValue, highValue}
-use Rattle.column.specs.NumberLaws.{bytes-take, high-value-lt}
+use Rattle.column.specs.laws.NumberLaws.{bytes-take, high-value-lt}
 use borrow.Author.Tests.{le-leb, lt-leb}
 use borrow.Author.Needs.{needs}
 use Rattle.column.proofs.number_bytes.high_value.Statement.{statement}

@@ -8,7 +8,7 @@ use native.Mathlib.Omega.{arith}
 use lib.ListN.{length, getD, drop, length-drop}
 use lib.Seq.{drop-cons, drop-length}
 use Rattle.column.specs.Packets.{lowValue}
-use Rattle.column.specs.NumberLaws.{bytes-drop, low-value-lt}
+use Rattle.column.specs.laws.NumberLaws.{bytes-drop, low-value-lt}
 use borrow.Author.Tests.{le-leb, lt-leb}
 use borrow.Author.Needs.{needs}
 use Rattle.column.proofs.number_bytes.low_value.Statement.{statement}

@@ -2,9 +2,9 @@ use borrow.Author.Needs.{needs}
 use mathlib.Core.Path.{sym, ap, _∙_, _≡_}
 use borrow.Author.Tests.{eq-eqb, ne-eqb, leb-false}
 use Rattle.column.specs.Refusals.{refused}
-use Rattle.column.specs.RefusalLaws.{passed, earlier-none}
+use Rattle.column.specs.laws.RefusalLaws.{passed, earlier-none}
 use Rattle.column.specs.Columns.{standing}
-use Rattle.column.specs.StateLaws.{standing-column}
+use Rattle.column.specs.laws.StateLaws.{standing-column}
 use Rattle.column.specs.Pages.{pageSize, readConditions, readRefusal}
 use Rattle.column.proofs.page.read.Statement.{statement}
 use Rattle.column.proofs.page.read.Tie as tie

@@ -1,6 +1,6 @@
 use borrow.Author.Needs.{needs}
 use mathlib.Core.Path.{sym}
-use Rattle.column.specs.RefusalLaws.{earlier-zero}
+use Rattle.column.specs.laws.RefusalLaws.{earlier-zero}
 use Rattle.column.proofs.precedence.refuse_if.Statement.{statement}
 use Rattle.column.proofs.precedence.refuse_if.Tie as tie
 

@@ -1,5 +1,5 @@
 use borrow.Author.Needs.{needs}
-use Rattle.column.specs.RefusalLaws.{in-turn}
+use Rattle.column.specs.laws.RefusalLaws.{in-turn}
 use Rattle.column.specs.Columns.{standing}
 use Rattle.column.specs.Steps.{haltConditions, haltRefusal}
 use Rattle.column.proofs.refusal.halt_refusal.Statement.{statement}

@@ -1,5 +1,5 @@
 use borrow.Author.Needs.{needs}
-use Rattle.column.specs.RefusalLaws.{in-turn}
+use Rattle.column.specs.laws.RefusalLaws.{in-turn}
 use Rattle.column.specs.Steps.{orderConditions}
 use Rattle.column.proofs.refusal.order_conditions.Statement.{statement}
 use Rattle.column.proofs.refusal.order_conditions.Tie as tie

@@ -1,5 +1,5 @@
 use borrow.Author.Needs.{needs}
-use Rattle.column.specs.RefusalLaws.{in-turn}
+use Rattle.column.specs.laws.RefusalLaws.{in-turn}
 use Rattle.column.specs.Steps.{packetConditions, packetRefusal}
 use Rattle.column.proofs.refusal.packet_refusal.Statement.{statement}
 use Rattle.column.proofs.refusal.packet_refusal.Tie as tie

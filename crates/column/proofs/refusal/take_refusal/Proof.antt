@@ -1,6 +1,6 @@
 use borrow.Author.Needs.{needs}
 use Rattle.column.specs.Refusals.{first}
-use Rattle.column.specs.RefusalLaws.{earlier-assoc}
+use Rattle.column.specs.laws.RefusalLaws.{earlier-assoc}
 use Rattle.column.specs.Columns.{standing}
 use Rattle.column.specs.Steps.{packetRefusal, takeConditions, takeRefusal}
 use Rattle.column.proofs.refusal.take_refusal.Statement.{statement}

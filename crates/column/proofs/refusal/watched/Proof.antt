@@ -1,4 +1,3 @@
-use borrow.Author.Needs.{needs}
 use Rattle.column.proofs.refusal.watched.Statement.{statement}
 use Rattle.column.proofs.refusal.watched.Tie as tie
 

@@ -1,5 +1,5 @@
 use borrow.Author.Needs.{needs}
-use Rattle.column.specs.SetLaws.{has-above, without-none}
+use Rattle.column.specs.laws.SetLaws.{has-above, without-none}
 use Rattle.column.proofs.returning.strike.Statement.{statement}
 use Rattle.column.proofs.returning.strike.Tie as tie
 

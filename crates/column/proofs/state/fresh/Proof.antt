@@ -1,11 +1,7 @@
 use borrow.Author.Needs.{needs}
-use native.Mathlib.Omega.{arith}
 use mathlib.Core.Path.{sym, ap, _∙_}
 use borrow.Author.Tests.{eq-eqb, ne-eqb}
 use Rattle.column.specs.Refusals.{given, refused}
-use Rattle.column.specs.RefusalLaws.{earlier-none}
-use Rattle.column.specs.Trees.{treeRefusal}
-use Rattle.column.specs.TreeLaws.{tree-root}
 use Rattle.column.proofs.state.fresh.Statement.{statement}
 use Rattle.column.proofs.state.fresh.Tie as tie
 

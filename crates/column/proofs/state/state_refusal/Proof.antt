@@ -5,9 +5,9 @@ use mathlib.Core.Bool.{Bool, true, false, not, _&&_}
 use borrow.Author.Tests.{lt-leb, le-leb, not-true, not-false}
 use mathlib.Core.List.{List, [], _∷_}
 use lib.Dec.{eqb, leb}
-use Rattle.column.specs.Cases.{cond-and}
+use Rattle.column.specs.laws.Cases.{cond-and}
 use Rattle.column.specs.Sets.{has, join, within}
-use Rattle.column.specs.SetLaws.{within-join}
+use Rattle.column.specs.laws.SetLaws.{within-join}
 use Rattle.column.specs.Refusals.{first}
 use Rattle.column.specs.Columns.{stateRefusal}
 use Rattle.column.specs.declared.tree.Tree.{Tree}

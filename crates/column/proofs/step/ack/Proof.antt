@@ -1,7 +1,7 @@
 use borrow.Author.Needs.{needs}
 use mathlib.Core.Path.{sym, _∙_}
 use Rattle.column.specs.Steps.{ackRefusal}
-use Rattle.column.specs.UncheckedLaws.{standing-refused, ack-unchecked}
+use Rattle.column.specs.laws.UncheckedLaws.{standing-refused, ack-unchecked}
 use Rattle.column.proofs.step.ack.Statement.{statement}
 use Rattle.column.proofs.step.ack.Tie as tie
 

@@ -1,7 +1,7 @@
 use borrow.Author.Needs.{needs}
 use mathlib.Core.Path.{sym, _∙_}
 use Rattle.column.specs.Steps.{allRefusal}
-use Rattle.column.specs.UncheckedLaws.{standing-refused, all-unchecked}
+use Rattle.column.specs.laws.UncheckedLaws.{standing-refused, all-unchecked}
 use Rattle.column.proofs.step.all.Statement.{statement}
 use Rattle.column.proofs.step.all.Tie as tie
 

@@ -1,7 +1,7 @@
 use borrow.Author.Needs.{needs}
 use mathlib.Core.Path.{sym, _∙_}
 use Rattle.column.specs.Steps.{noteRefusal}
-use Rattle.column.specs.UncheckedLaws.{standing-refused, note-unchecked}
+use Rattle.column.specs.laws.UncheckedLaws.{standing-refused, note-unchecked}
 use Rattle.column.proofs.step.note.Statement.{statement}
 use Rattle.column.proofs.step.note.Tie as tie
 

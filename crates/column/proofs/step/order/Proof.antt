@@ -1,7 +1,7 @@
 use borrow.Author.Needs.{needs}
 use mathlib.Core.Path.{sym, _∙_}
 use Rattle.column.specs.Steps.{orderRefusal}
-use Rattle.column.specs.UncheckedLaws.{standing-refused, order-unchecked}
+use Rattle.column.specs.laws.UncheckedLaws.{standing-refused, order-unchecked}
 use Rattle.column.proofs.step.order.Statement.{statement}
 use Rattle.column.proofs.step.order.Tie as tie
 

@@ -1,7 +1,7 @@
 use borrow.Author.Needs.{needs}
 use mathlib.Core.Path.{sym, _∙_}
 use Rattle.column.specs.Steps.{sendRefusal}
-use Rattle.column.specs.UncheckedLaws.{standing-refused, send-unchecked}
+use Rattle.column.specs.laws.UncheckedLaws.{standing-refused, send-unchecked}
 use Rattle.column.proofs.step.send.Statement.{statement}
 use Rattle.column.proofs.step.send.Tie as tie
 

@@ -2,10 +2,10 @@ use borrow.Author.Needs.{needs}
 use Prim.Native.Nat.{ℕ}
 use mathlib.Core.Path.{_≡_, sym, ap, _∙_}
 use Rattle.column.specs.Refusals.{first, earlier}
-use Rattle.column.specs.RefusalLaws.{earlier-none, earlier-assoc}
+use Rattle.column.specs.laws.RefusalLaws.{earlier-none, earlier-assoc}
 use Rattle.column.specs.Columns.{standing}
 use Rattle.column.specs.Steps.{unless, packetRefusal, takeConditions, takeRefusal, takeEffect}
-use Rattle.column.specs.UncheckedLaws.{standing-refused, take-unchecked}
+use Rattle.column.specs.laws.UncheckedLaws.{standing-refused, take-unchecked}
 use Rattle.column.proofs.step.take.Statement.{statement}
 use Rattle.column.proofs.step.take.Tie as tie
 

@@ -5,10 +5,11 @@ use mathlib.Core.Bool.{Bool, true, false, not, cond}
 use mathlib.Core.List.{List, [], _∷_}
 use borrow.Author.Tests.{eq-eqb, ne-eqb, lt-ltb, le-ltb, lt-leb, le-leb, not-true, not-false}
 use lib.Dec.{eqb}
-use Rattle.column.specs.Cases.{and-left, cond-and}
+use Rattle.column.specs.laws.Cases.{and-left, cond-and}
 use Rattle.column.specs.Refusals.{first}
-use Rattle.column.specs.Trees.{Passes, ParentsBelow, parent, every, parentBelow, climbsIn, listsEach, listsHold, treeRefusal}
-use Rattle.column.specs.TreeLaws.{every-climbs-alike}
+use Rattle.column.specs.inner.TreePasses.{Passes, ParentsBelow, listsHold}
+use Rattle.column.specs.Trees.{parent, every, parentBelow, climbsIn, listsEach, treeRefusal}
+use Rattle.column.specs.laws.TreeLaws.{every-climbs-alike}
 use Rattle.column.proofs.topology.climbed_refusal.Statement.{statement}
 use Rattle.column.proofs.topology.climbed_refusal.Tie as tie
 

@@ -4,7 +4,7 @@ use native.Mathlib.Omega.{arith}
 use borrow.Author.Tests.{eq-eqb, ne-eqb}
 use Rattle.column.specs.Refusals.{given, refused}
 use Rattle.column.specs.Trees.{columnRefusal}
-use Rattle.column.specs.TreeLaws.{column-accepted}
+use Rattle.column.specs.laws.TreeLaws.{column-accepted}
 use Rattle.column.proofs.topology.subtree.Statement.{statement}
 use Rattle.column.proofs.topology.subtree.Tie as tie
 

@@ -2,9 +2,9 @@ use borrow.Author.Needs.{needs}
 use mathlib.Core.Path.{_≡_, sym, ap, _∙_}
 use borrow.Author.Tests.{eq-eqb, ne-eqb}
 use Rattle.column.specs.Refusals.{given, refused}
-use Rattle.column.specs.RefusalLaws.{earlier-none}
+use Rattle.column.specs.laws.RefusalLaws.{earlier-none}
 use Rattle.column.specs.Trees.{treeRefusal, setRefusal}
-use Rattle.column.specs.TreeLaws.{tree-sixteen}
+use Rattle.column.specs.laws.TreeLaws.{tree-sixteen}
 use Rattle.column.proofs.topology.subtrees.Statement.{statement}
 use Rattle.column.proofs.topology.subtrees.Tie as tie
 

@@ -1,6 +1,6 @@
 use borrow.Author.Needs.{needs}
-use mathlib.Core.Path.{_≡_, sym, _∙_}
-use Rattle.column.specs.PlainTrees.{plain-refusal}
+use mathlib.Core.Path.{sym, _∙_}
+use Rattle.column.specs.laws.PlainTrees.{plain-refusal}
 use Rattle.column.proofs.topology.tree_refusal.Statement.{statement}
 use Rattle.column.proofs.topology.tree_refusal.Tie as tie
 

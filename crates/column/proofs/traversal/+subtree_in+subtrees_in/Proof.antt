@@ -5,9 +5,9 @@ use mathlib.Core.Path.{_≡_, sym, ap, _∙_}
 use native.Mathlib.Omega.{arith}
 use borrow.Fn.Kinds.{In}
 use borrow.Fn.PlainCycle.{Measures, is, falls, and}
-use Rattle.column.specs.LowestLaws.{lowest-lt}
+use Rattle.column.specs.laws.Digits.{lowest-lt}
 use Rattle.column.specs.Trees.{subtreeIn, subtreesIn}
-use Rattle.column.specs.Descents.{subtree-more, subtrees-more}
+use Rattle.column.specs.laws.Descents.{subtree-more, subtrees-more}
 use Rattle.column.proofs.traversal.subtree_in.Reads as subtree-in
 use Rattle.column.proofs.traversal.subtree_in.Kinds as subtree-in-kinds
 use Rattle.column.proofs.traversal.+subtree_in+subtrees_in.Lts-subtree_in as subtree-in-lts

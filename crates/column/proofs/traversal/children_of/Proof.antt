@@ -1,5 +1,5 @@
 use borrow.Author.Needs.{needs}
-use Rattle.column.specs.ChildLaws.{naming-children, naming-all}
+use Rattle.column.specs.laws.ChildLaws.{naming-children, naming-all}
 use Rattle.column.proofs.traversal.children_of.Statement.{statement}
 use Rattle.column.proofs.traversal.children_of.Tie as tie
 

@@ -7,7 +7,7 @@ use native.Mathlib.Numerals.{add-one}
 use native.Mathlib.Omega.{arith}
 use borrow.Author.Tests.{not-true, not-false}
 use Rattle.column.specs.Trees.{treeOf, every, climbsIn}
-use Rattle.column.specs.TreeLaws.{every-fails}
+use Rattle.column.specs.laws.TreeLaws.{every-fails}
 use Rattle.column.proofs.traversal.climbs_end.Statement.{statement}
 use Rattle.column.proofs.traversal.climbs_end.Tie as tie
 

@@ -6,7 +6,7 @@ use mathlib.Core.Bool.{true}
 use native.Mathlib.Omega.{arith}
 use borrow.Author.Tests.{ltb-true}
 use Rattle.column.specs.Trees.{treeOf, parent, climb, parentBelow, climbsIn}
-use Rattle.column.specs.TreeLaws.{every-at, climb-zero, climb-suc, climbs-more, climb-ends, ends-climb, climbs-on}
+use Rattle.column.specs.laws.TreeLaws.{every-at, climb-zero, climb-suc, climbs-more, climb-ends, ends-climb, climbs-on}
 use Rattle.column.specs.declared.tree.Tree.{Tree}
 use Rattle.column.proofs.traversal.climbs_in.Statement.{statement}
 use Rattle.column.proofs.traversal.climbs_in.Tie as tie

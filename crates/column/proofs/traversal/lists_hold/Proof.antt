@@ -10,7 +10,7 @@ use lib.Dec.{eqb}
 use lib.ListN.{getD}
 use Rattle.column.specs.Sets.{insert, whole}
 use Rattle.column.specs.Trees.{treeInSequence, every, parentBelow, listedBelow, listedIn, listsEach}
-use Rattle.column.specs.TreeLaws.{every-fails}
+use Rattle.column.specs.laws.TreeLaws.{every-fails}
 use Rattle.column.proofs.traversal.lists_hold.Statement.{statement}
 use Rattle.column.proofs.traversal.lists_hold.Tie as tie
 

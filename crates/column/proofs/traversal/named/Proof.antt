@@ -8,7 +8,7 @@ use native.Mathlib.Omega.{arith}
 use borrow.Author.Tests.{eq-eqb, ne-eqb}
 use lib.ListN.{getD}
 use Rattle.column.specs.Sets.{selected}
-use Rattle.column.specs.Trees.{names}
+use Rattle.column.specs.inner.TreePasses.{names}
 use Rattle.column.proofs.traversal.named.Statement.{statement}
 use Rattle.column.proofs.traversal.named.Tie as tie
 

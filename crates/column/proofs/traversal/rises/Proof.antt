@@ -9,7 +9,8 @@ use native.Mathlib.Omega.{arith}
 use borrow.Author.Tests.{eq-eqb, ne-eqb, lt-leb, le-leb}
 use lib.Dec.{eqb, ltb, leb}
 use lib.ListN.{getD}
-use Rattle.column.specs.Trees.{every, plainAt, plainly}
+use Rattle.column.specs.Trees.{every}
+use Rattle.column.specs.inner.TreePasses.{plainAt, plainly}
 use Rattle.column.proofs.traversal.rises.Statement.{statement}
 use Rattle.column.proofs.traversal.rises.Tie as tie
 

@@ -1,7 +1,7 @@
 use borrow.Author.Needs.{needs}
 use mathlib.Core.Path.{sym, _∙_}
 use Rattle.column.specs.Steps.{noteConditions, noteEffect}
-use Rattle.column.specs.UncheckedLaws.{bounds-unchecked, own-unchecked}
+use Rattle.column.specs.laws.UncheckedLaws.{bounds-unchecked, own-unchecked}
 use Rattle.column.proofs.unchecked_for_bank.note.Statement.{statement}
 use Rattle.column.proofs.unchecked_for_bank.note.Tie as tie
 

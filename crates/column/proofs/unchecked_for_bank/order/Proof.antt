@@ -2,11 +2,11 @@ use borrow.Author.Needs.{needs}
 use mathlib.Core.Path.{_≡_, sym, ap, _∙_}
 use native.Mathlib.Omega.{arith}
 use borrow.Author.Tests.{eq-eqb, ne-eqb, eqb-false}
-use Rattle.column.specs.RefusalLaws.{passed}
+use Rattle.column.specs.laws.RefusalLaws.{passed}
 use Rattle.column.specs.Columns.{highest}
 use Rattle.column.specs.Steps.{refused, orderConditions}
 use Rattle.column.specs.Unchecked.{uncheckedRefusal}
-use Rattle.column.specs.UncheckedLaws.{unchecked-passes}
+use Rattle.column.specs.laws.UncheckedLaws.{unchecked-passes}
 use Rattle.column.proofs.unchecked_for_bank.order.Statement.{statement}
 use Rattle.column.proofs.unchecked_for_bank.order.Tie as tie
 

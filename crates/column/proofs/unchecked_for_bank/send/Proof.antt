@@ -2,7 +2,7 @@ use borrow.Author.Needs.{needs}
 use mathlib.Core.Path.{sym, _∙_}
 use Rattle.column.specs.Trees.{choose}
 use Rattle.column.specs.Steps.{sendConditions, sendEffect}
-use Rattle.column.specs.UncheckedLaws.{bounds-unchecked, own-unchecked}
+use Rattle.column.specs.laws.UncheckedLaws.{bounds-unchecked, own-unchecked}
 use Rattle.column.proofs.unchecked_for_bank.send.Statement.{statement}
 use Rattle.column.proofs.unchecked_for_bank.send.Tie as tie
 

@@ -2,7 +2,7 @@ use borrow.Author.Needs.{needs}
 use mathlib.Core.Path.{sym, _∙_}
 use Rattle.column.specs.Packets.{sender}
 use Rattle.column.specs.Steps.{takeConditions, takeEffect}
-use Rattle.column.specs.UncheckedLaws.{bounds-unchecked, own-unchecked}
+use Rattle.column.specs.laws.UncheckedLaws.{bounds-unchecked, own-unchecked}
 use Rattle.column.proofs.unchecked_for_bank.take.Statement.{statement}
 use Rattle.column.proofs.unchecked_for_bank.take.Tie as tie
 

@@ -5,7 +5,7 @@ use mathlib.Core.Path.{_≡_, refl, ap, _∙_}
 use native.Mathlib.Numerals.{add-one}
 use native.Mathlib.Omega.{arith}
 use Rattle.fastest.specs.Strategy.{soonest, grown}
-use Rattle.fastest.specs.StrategyLaws.{next-most}
+use Rattle.fastest.specs.laws.StrategyLaws.{next-most}
 use Rattle.fastest.proofs.growth.grow.Statement.{statement}
 use Rattle.fastest.proofs.growth.grow.Tie as tie
 

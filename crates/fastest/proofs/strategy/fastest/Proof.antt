@@ -3,7 +3,7 @@ use mathlib.Core.Path.{sym, _∙_}
 use native.Mathlib.Omega.{arith}
 use borrow.Author.Tests.{ne-eqb, eq-eqb}
 use Rattle.fastest.specs.Strategy.{fastestPlan}
-use Rattle.fastest.specs.StrategyLaws.{Allowed, allowed}
+use Rattle.fastest.specs.laws.StrategyLaws.{Allowed, allowed}
 use Rattle.fastest.proofs.strategy.fastest.Statement.{statement}
 use Rattle.fastest.proofs.strategy.fastest.Tie as tie
 

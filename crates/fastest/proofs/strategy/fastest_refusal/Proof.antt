@@ -1,5 +1,5 @@
 use borrow.Author.Needs.{needs}
-use Rattle.column.specs.RefusalLaws.{in-turn}
+use Rattle.column.specs.laws.RefusalLaws.{in-turn}
 use Rattle.fastest.specs.Strategy.{fastestConditions, fastestRefusal}
 use Rattle.fastest.proofs.strategy.fastest_refusal.Statement.{statement}
 use Rattle.fastest.proofs.strategy.fastest_refusal.Tie as tie

@@ -1,7 +1,7 @@
 use native.Mathlib.Omega.{arith}
 use lib.ListN.{take, drop, length-take}
 use Rattle.column.specs.Packets.{lowValue}
-use Rattle.column.specs.NumberLaws.{word-is}
+use Rattle.column.specs.laws.NumberLaws.{word-is}
 use borrow.Author.Needs.{needs}
 use Rattle.firmware.proofs.block.column_in.Statement.{statement}
 use Rattle.firmware.proofs.block.column_in.Tie as tie

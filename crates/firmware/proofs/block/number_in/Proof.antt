@@ -1,7 +1,7 @@
 use mathlib.Core.Path.{_≡_, _∙_}
 use native.Mathlib.Omega.{arith}
 use Rattle.column.specs.Packets.{highValue}
-use Rattle.column.specs.NumberLaws.{high-value-lt, word-is}
+use Rattle.column.specs.laws.NumberLaws.{high-value-lt, word-is}
 use borrow.Author.Needs.{needs}
 use Rattle.firmware.proofs.block.number_in.Statement.{statement}
 use Rattle.firmware.proofs.block.number_in.Tie as tie

@@ -9,9 +9,9 @@ use lib.Seq.{length-take-le}
 use borrow.Author.Tests.{leb-true, not-true, not-false}
 use Rattle.column.specs.Refusals.{given, refused}
 use Rattle.column.specs.Packets.{Part, part, wide, read}
-use Rattle.column.specs.PacketLaws.{read-sized}
+use Rattle.column.specs.laws.PacketLaws.{read-sized}
 use Rattle.firmware.specs.Calls.{filled, joinedAt}
-use Rattle.firmware.specs.CallLaws.{joined-part}
+use Rattle.firmware.specs.laws.CallLaws.{joined-part}
 use borrow.Author.Needs.{needs}
 use Rattle.firmware.proofs.packets.mudasgup_join.Statement.{statement}
 use Rattle.firmware.proofs.packets.mudasgup_join.Tie as tie

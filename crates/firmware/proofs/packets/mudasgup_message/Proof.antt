@@ -4,7 +4,7 @@ use lib.ListN.{length}
 use borrow.Author.Tests.{eq-eqb, ne-eqb}
 use native.Mathlib.Omega.{arith}
 use Rattle.column.specs.Packets.{Wrote, lowValue, write}
-use Rattle.column.specs.NumberLaws.{word-is}
+use Rattle.column.specs.laws.NumberLaws.{word-is}
 use Rattle.column.specs.declared.packet.Packet.the-variants.{Message}
 use Rattle.firmware.specs.Calls.{filled, packetCall, doorsCall}
 use borrow.Author.Needs.{needs}

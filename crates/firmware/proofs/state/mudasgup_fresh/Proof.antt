@@ -9,7 +9,7 @@ use Rattle.column.specs.Columns.{freshGiven}
 use Rattle.column.specs.declared.tree.Tree.{Tree}
 use Rattle.firmware.specs.Blocks.{treeIn, blockSizes}
 use Rattle.firmware.specs.Calls.{filled, freshCall}
-use Rattle.firmware.specs.CallLaws.{Sized, sized}
+use Rattle.firmware.specs.laws.CallLaws.{Sized, sized}
 use borrow.Author.Needs.{needs}
 use Rattle.firmware.proofs.state.mudasgup_fresh.Statement.{statement}
 use Rattle.firmware.proofs.state.mudasgup_fresh.Tie as tie

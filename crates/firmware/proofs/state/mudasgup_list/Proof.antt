@@ -8,7 +8,7 @@ use Rattle.column.specs.declared.state.Column.{Column}
 use Rattle.closing.specs.Closing.{Listed, listed, loneList}
 use Rattle.firmware.specs.Blocks.{treeIn, columnIn, blockSizes}
 use Rattle.firmware.specs.Calls.{filled, listLeft, listCall}
-use Rattle.firmware.specs.CallLaws.{Sized, sized}
+use Rattle.firmware.specs.laws.CallLaws.{Sized, sized}
 use borrow.Author.Needs.{needs}
 use Rattle.firmware.proofs.state.mudasgup_list.Statement.{statement}
 use Rattle.firmware.proofs.state.mudasgup_list.Tie as tie

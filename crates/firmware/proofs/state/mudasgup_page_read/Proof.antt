@@ -9,7 +9,7 @@ use Rattle.column.specs.declared.tree.Tree.{Tree}
 use Rattle.column.specs.declared.state.Column.{Column}
 use Rattle.firmware.specs.Blocks.{treeIn, columnIn, blockSizes}
 use Rattle.firmware.specs.Calls.{byteCall}
-use Rattle.firmware.specs.CallLaws.{Sized, sized}
+use Rattle.firmware.specs.laws.CallLaws.{Sized, sized}
 use borrow.Author.Needs.{needs}
 use Rattle.firmware.proofs.state.mudasgup_page_read.Statement.{statement}
 use Rattle.firmware.proofs.state.mudasgup_page_read.Tie as tie

@@ -5,7 +5,7 @@ use native.Mathlib.Omega.{arith}
 use lib.ListN.{length}
 use Rattle.column.specs.Refusals.{given, refused}
 use Rattle.column.specs.Packets.{Wrote, write}
-use Rattle.column.specs.PacketLaws.{write-size}
+use Rattle.column.specs.laws.PacketLaws.{write-size}
 use Rattle.firmware.specs.Calls.{called}
 use borrow.Author.Needs.{needs}
 use Rattle.firmware.proofs.steps.leave_packet.Statement.{statement}

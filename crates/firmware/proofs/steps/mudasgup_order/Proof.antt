@@ -4,10 +4,10 @@ use native.Mathlib.Omega.{arith}
 use lib.ListN.{length}
 use borrow.Author.Tests.{eq-eqb, ne-eqb}
 use Rattle.column.specs.Packets.{lowValue}
-use Rattle.column.specs.NumberLaws.{word-is}
+use Rattle.column.specs.laws.NumberLaws.{word-is}
 use Rattle.firmware.specs.declared.steps.LoneStep.the-variants.{Order}
 use Rattle.firmware.specs.Calls.{called, stepCall, orderCall}
-use Rattle.firmware.specs.CallLaws.{stepOf}
+use Rattle.firmware.specs.inner.StepCalls.{stepOf}
 use borrow.Author.Needs.{needs}
 use Rattle.firmware.proofs.steps.mudasgup_order.Statement.{statement}
 use Rattle.firmware.proofs.steps.mudasgup_order.Tie as tie

@@ -4,7 +4,7 @@ use borrow.Author.Tests.{not-true, not-false}
 use Rattle.column.specs.Refusals.{given, refused}
 use Rattle.column.specs.Packets.{part, read}
 use Rattle.firmware.specs.Calls.{called}
-use Rattle.firmware.specs.CallLaws.{take-unfit, take-none, take-one}
+use Rattle.firmware.specs.laws.CallLaws.{take-unfit, take-none, take-one}
 use borrow.Author.Needs.{needs}
 use Rattle.firmware.proofs.steps.mudasgup_take.Statement.{statement}
 use Rattle.firmware.proofs.steps.mudasgup_take.Tie as tie

@@ -2,7 +2,8 @@ use Prim.Native.Nat.{ℕ}
 use mathlib.Core.Path.{sym, ap, _∙_}
 use borrow.Author.Tests.{not-true, not-false}
 use Rattle.firmware.specs.Calls.{called}
-use Rattle.firmware.specs.CallLaws.{stepOf, fitting, Fitting, step-unfit, step-fit}
+use Rattle.firmware.specs.inner.StepCalls.{stepOf}
+use Rattle.firmware.specs.laws.CallLaws.{fitting, Fitting, step-unfit, step-fit}
 use borrow.Author.Needs.{needs}
 use Rattle.firmware.proofs.steps.stepped.Statement.{statement}
 use Rattle.firmware.proofs.steps.stepped.Tie as tie

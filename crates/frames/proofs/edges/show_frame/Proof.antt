@@ -2,7 +2,7 @@ use Prim.Native.Nat.{_≤_}
 use native.Mathlib.Omega.{arith}
 use mathlib.Core.Path.{sym, ap, _∙_}
 use Rattle.column.specs.Frames.{framePackets, Framed, countMeant}
-use Rattle.column.specs.FrameLaws.{frame-count}
+use Rattle.column.specs.laws.FrameLaws.{frame-count}
 use borrow.Author.Needs.{needs}
 use Rattle.frames.proofs.edges.show_frame.Statement.{statement}
 use Rattle.frames.proofs.edges.show_frame.Tie as tie

@@ -3,8 +3,9 @@ use mathlib.Core.Path.{sym, _∙_}
 use native.Mathlib.Omega.{arith}
 use lib.ListN.{length}
 use lib.Seq.{length-take-le}
-use Rattle.journals.specs.JournalReads.{Headed, as-journal, as-refused, few-words}
-use Rattle.journals.specs.Comparing.{first-refused, second-refused, both-given}
+use Rattle.journals.specs.inner.ReadJournals.{Headed}
+use Rattle.journals.specs.laws.ReadJournalLaws.{as-journal, as-refused, few-words}
+use Rattle.journals.specs.laws.ComparingLaws.{first-refused, second-refused, both-given}
 use borrow.Author.Needs.{needs}
 use Rattle.journals.proofs.comparison.compare.Statement.{statement}
 use Rattle.journals.proofs.comparison.compare.Tie as tie

@@ -3,11 +3,12 @@ use mathlib.Core.Bool.{Bool, true, false, _&&_}
 use native.Mathlib.Omega.{arith}
 use borrow.Author.Tests.{not-true, not-false}
 use mathlib.Core.Logic.{⊎-elim}
-use Rattle.column.specs.Cases.{truth, and-left, and-right}
-use Rattle.journals.specs.Chains.{Placed}
+use Rattle.column.specs.laws.Cases.{truth, and-left, and-right}
+use Rattle.journals.specs.inner.Chains.{Placed}
 use Rattle.journals.specs.Journals.{Journal, onceEach, allHeard}
-use Rattle.journals.specs.JournalReads.{journalIn, once-words, heard-words}
-use Rattle.journals.specs.Comparing.{index-none, index-room, pair-owners, first-twice, second-twice, pair-unheard, pair-placed}
+use Rattle.journals.specs.inner.ReadJournals.{journalIn}
+use Rattle.journals.specs.laws.ReadJournalLaws.{once-words, heard-words}
+use Rattle.journals.specs.laws.ComparingLaws.{index-none, index-room, pair-owners, first-twice, second-twice, pair-unheard, pair-placed}
 use borrow.Author.Needs.{needs}
 use Rattle.journals.proofs.comparison.compare_read.Statement.{statement}
 use Rattle.journals.proofs.comparison.compare_read.Tie as tie

@@ -5,8 +5,9 @@ use native.Mathlib.Omega.{arith}
 use lib.ListN.{length}
 use borrow.Author.Tests.{le-leb, lt-leb}
 use Rattle.journals.specs.Journals.{missing}
-use Rattle.journals.specs.JournalReads.{linesIn, as-many, missing-size}
-use Rattle.journals.specs.LinesLength.{text-within}
+use Rattle.journals.specs.inner.ReadJournals.{linesIn}
+use Rattle.journals.specs.laws.ReadJournalLaws.{as-many, missing-size}
+use Rattle.journals.specs.laws.MissingLength.{text-within}
 use borrow.Author.Needs.{needs}
 use Rattle.journals.proofs.comparison.has_room.Statement.{statement}
 use Rattle.journals.proofs.comparison.has_room.Tie as tie

@@ -1,6 +1,6 @@
 use native.Mathlib.Omega.{arith}
 use lib.ListN.{length-set}
-use Rattle.journals.specs.ChainLaws.{indexed-more}
+use Rattle.journals.specs.laws.ChainLaws.{indexed-more}
 use borrow.Author.Needs.{needs}
 use Rattle.journals.proofs.index.add.Statement.{statement}
 use Rattle.journals.proofs.index.add.Tie as tie

@@ -4,7 +4,8 @@ use mathlib.Core.Bool.{true}
 use native.Mathlib.Omega.{arith}
 use lib.ListN.{length}
 use borrow.Author.Tests.{not-true, not-false}
-use Rattle.journals.specs.Hearing.{heardKeys, heard-more, heard-fails}
+use Rattle.journals.specs.inner.LineWords.{heardKeys}
+use Rattle.journals.specs.laws.KeyLaws.{heard-more, heard-fails}
 use borrow.Author.Needs.{needs}
 use Rattle.journals.proofs.index.all_heard.Statement.{statement}
 use Rattle.journals.proofs.index.all_heard.Tie as tie

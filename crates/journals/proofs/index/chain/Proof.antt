@@ -3,8 +3,8 @@ use mathlib.Core.Path.{_≡_, refl, sym, subst, _∙_}
 use mathlib.Core.Bool.{true, true≢false}
 use native.Mathlib.Omega.{arith}
 use lib.ListN.{length}
-use Rattle.journals.specs.Chains.{buckets, Indexed, distinct}
-use Rattle.journals.specs.ChainLaws.{distinct-more, distinct-twice}
+use Rattle.journals.specs.inner.Chains.{buckets, Indexed, distinct}
+use Rattle.journals.specs.laws.ChainLaws.{distinct-more, distinct-twice}
 use borrow.Author.Needs.{needs}
 use Rattle.journals.proofs.index.chain.Statement.{statement}
 use Rattle.journals.proofs.index.chain.Tie as tie

@@ -2,8 +2,8 @@ use Prim.Native.Nat.{ℕ, suc, _+_, _-_, _%_, _≤_}
 use mathlib.Core.Path.{_≡_, sym, ap, _∙_}
 use native.Mathlib.Omega.{arith}
 use lib.ListN.{getD}
-use Rattle.journals.specs.Chains.{buckets, among, lastWith}
-use Rattle.journals.specs.ChainLaws.{last-le, last-in, among-other, among-here, among-last}
+use Rattle.journals.specs.inner.Chains.{buckets, among, lastWith}
+use Rattle.journals.specs.laws.ChainLaws.{last-le, last-in, among-other, among-here, among-last}
 use borrow.Author.Needs.{needs}
 use Rattle.journals.proofs.index.has.Statement.{statement}
 use Rattle.journals.proofs.index.has.Tie as tie

@@ -1,7 +1,7 @@
 use mathlib.Core.Path.{sym, ap, _∙_}
 use mathlib.Core.Bool.{not}
 use borrow.Author.Tests.{not-true, not-false}
-use Rattle.journals.specs.Chains.{among}
+use Rattle.journals.specs.inner.Chains.{among}
 use borrow.Author.Needs.{needs}
 use Rattle.journals.proofs.index.missed_one.Statement.{statement}
 use Rattle.journals.proofs.index.missed_one.Tie as tie

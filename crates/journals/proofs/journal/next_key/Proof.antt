@@ -1,6 +1,7 @@
 use mathlib.Core.Path.{sym, ap, _∙_}
 use Rattle.journals.specs.Journals.{lineMeant}
-use Rattle.journals.specs.JournalKeys.{nextOf, next-unended, next-ended}
+use Rattle.journals.specs.inner.JournalKeys.{nextOf}
+use Rattle.journals.specs.laws.JournalKeyLaws.{next-unended, next-ended}
 use borrow.Author.Needs.{needs}
 use Rattle.journals.proofs.journal.next_key.Statement.{statement}
 use Rattle.journals.proofs.journal.next_key.Tie as tie

@@ -3,8 +3,9 @@ use mathlib.Core.Path.{_≡_, refl, sym, ap, _∙_}
 use native.Mathlib.Omega.{arith}
 use lib.ListN.{length, take, length-set}
 use Rattle.column.specs.Refusals.{refused}
-use Rattle.journals.specs.Journals.{Entry, shortestLine}
-use Rattle.journals.specs.JournalKeys.{entryKey, entrySize, nextMeant, valuesFrom, withFront, Stepped, values-stop, line-step, values-end, with-none, with-refused, with-end, with-step, take-written}
+use Rattle.journals.specs.Journals.{Entry}
+use Rattle.journals.specs.inner.JournalKeys.{shortestLine, entryKey, entrySize, nextMeant}
+use Rattle.journals.specs.laws.JournalKeyLaws.{valuesFrom, withFront, Stepped, values-stop, line-step, values-end, with-none, with-refused, with-end, with-step, take-written}
 use borrow.Author.Needs.{needs}
 use Rattle.journals.proofs.journal.read_entries.Statement.{statement}
 use Rattle.journals.proofs.journal.read_entries.Tie as tie

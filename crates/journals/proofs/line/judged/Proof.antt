@@ -1,7 +1,7 @@
 use borrow.Author.Needs.{needs}
 use mathlib.Core.Path.{sym}
 use native.Mathlib.Omega.{arith}
-use Rattle.journals.specs.FieldLaws.{kind-below, kind-above, other-above, other-owner, number-above, line-good}
+use Rattle.journals.specs.laws.FieldLaws.{kind-below, kind-above, other-above, other-owner, number-above, line-good}
 use Rattle.journals.proofs.line.judged.Statement.{statement}
 use Rattle.journals.proofs.line.judged.Tie as tie
 

@@ -1,9 +1,9 @@
 use borrow.Author.Needs.{needs}
 use mathlib.Core.Path.{sym, _∙_}
 use native.Mathlib.Omega.{arith}
-use Rattle.closing.specs.Readings.{starts-length}
+use Rattle.closing.specs.laws.ReadingLaws.{starts-length}
 use Rattle.journals.specs.Journals.{sentKey, gotKey}
-use Rattle.journals.specs.FieldLaws.{sent-line, got-line, no-line}
+use Rattle.journals.specs.laws.FieldLaws.{sent-line, got-line, no-line}
 use Rattle.journals.proofs.line.read_line.Statement.{statement}
 use Rattle.journals.proofs.line.read_line.Tie as tie
 

@@ -3,7 +3,8 @@ use mathlib.Core.Path.{_≡_, ap, _∙_}
 use mathlib.Core.Bool.{Bool, cond}
 use native.Mathlib.Omega.{arith}
 use lib.ListN.{length, getD, drop}
-use Rattle.journals.specs.Missing.{missedKey, missedLength, missed-next, missed-end}
+use Rattle.journals.specs.inner.MissingTexts.{missedKey, missedLength}
+use Rattle.journals.specs.laws.MissingLaws.{missed-next, missed-end}
 use borrow.Author.Needs.{needs}
 use Rattle.journals.proofs.missing.missing_length.Statement.{statement}
 use Rattle.journals.proofs.missing.missing_length.Tie as tie

@@ -1,7 +1,8 @@
 use Prim.Native.Nat.{_-_, _≤_}
 use native.Mathlib.Omega.{arith}
 use lib.ListN.{length}
-use Rattle.journals.specs.Missing.{Walked, Went, went, Put, put-start, put-room, put-more, put-end}
+use Rattle.journals.specs.inner.MissingTexts.{Walked}
+use Rattle.journals.specs.laws.MissingLaws.{Went, went, Put, put-start, put-room, put-more, put-end}
 use borrow.Author.Needs.{needs}
 use Rattle.journals.proofs.missing.put_missing.Statement.{statement}
 use Rattle.journals.proofs.missing.put_missing.Tie as tie

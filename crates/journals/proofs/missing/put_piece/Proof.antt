@@ -4,8 +4,8 @@ use mathlib.Core.List.{List, _++_}
 use native.Mathlib.Omega.{arith}
 use lib.ListN.{length, take, drop}
 use borrow.Author.Tests.{not-true, not-false}
-use Rattle.closing.specs.Writing.{writes-none, written-part}
-use Rattle.journals.specs.Missing.{copied}
+use Rattle.closing.specs.laws.WritingLaws.{writes-none, written-part}
+use Rattle.journals.specs.laws.MissingLaws.{copied}
 use borrow.Author.Needs.{needs}
 use Rattle.journals.proofs.missing.put_piece.Statement.{statement}
 use Rattle.journals.proofs.missing.put_piece.Tie as tie

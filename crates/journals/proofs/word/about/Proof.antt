@@ -1,6 +1,6 @@
 use borrow.Author.Needs.{needs}
 use borrow.Author.Tests.{eq-eqb, ne-eqb}
-use Rattle.journals.specs.LineWords.{wayIn}
+use Rattle.journals.specs.inner.LineWords.{wayIn}
 use Rattle.journals.proofs.word.about.Statement.{statement}
 use Rattle.journals.proofs.word.about.Tie as tie
 

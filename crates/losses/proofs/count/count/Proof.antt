@@ -10,7 +10,7 @@ use lib.Pow.{pow-lt, pow-mono}
 use Rattle.column.specs.declared.tree.Tree.{Tree}
 use Rattle.bank.specs.Banks.{state}
 use Rattle.losses.specs.Losses.{counted, countedTo}
-use Rattle.losses.specs.LossesLaws.{counted-most, ended-tree}
+use Rattle.losses.specs.laws.LossesLaws.{counted-most, ended-tree}
 use Rattle.losses.specs.declared.count.Losses.{Losses}
 use Rattle.losses.proofs.count.count.Statement.{statement}
 use Rattle.losses.proofs.count.count.Tie as tie

@@ -10,7 +10,7 @@ use Rattle.bank.specs.Steps.{after, order}
 use Rattle.bank.specs.Dispatch.{dispatchOutcome}
 use Rattle.bank.specs.declared.bank.Bank.{Bank}
 use Rattle.losses.specs.Losses.{ordered, begun, countedOf, lossesRefusal, lossesOf}
-use Rattle.losses.specs.LossesLaws.{step-left, dispatch-left, fresh-left, begun-tree, Counting, counting}
+use Rattle.losses.specs.laws.LossesLaws.{step-left, dispatch-left, fresh-left, begun-tree, Counting, counting}
 use Rattle.losses.proofs.count.count_losses.Statement.{statement}
 use Rattle.losses.proofs.count.count_losses.Tie as tie
 

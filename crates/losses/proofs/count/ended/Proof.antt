@@ -4,7 +4,7 @@ use Rattle.bank.specs.Banks.{State}
 use Rattle.bank.specs.Steps.{after, halt}
 use Rattle.bank.specs.Dispatch.{dispatchOutcome}
 use Rattle.losses.specs.Losses.{toRest, ended}
-use Rattle.losses.specs.LossesLaws.{step-left, dispatch-left}
+use Rattle.losses.specs.laws.LossesLaws.{step-left, dispatch-left}
 use Rattle.losses.proofs.count.ended.Statement.{statement}
 use Rattle.losses.proofs.count.ended.Tie as tie
 

@@ -1,6 +1,6 @@
 use borrow.Author.Needs.{needs}
 use Rattle.column.specs.Trees.{treeRefusal}
-use Rattle.column.specs.RefusalLaws.{in-turn}
+use Rattle.column.specs.laws.RefusalLaws.{in-turn}
 use Rattle.losses.specs.Losses.{lossesConditions, lossesRefusal}
 use Rattle.losses.proofs.count.losses_refusal.Statement.{statement}
 use Rattle.losses.proofs.count.losses_refusal.Tie as tie

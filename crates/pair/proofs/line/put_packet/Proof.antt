@@ -3,7 +3,7 @@ use mathlib.Core.Path.{sym, ap, _∙_}
 use lib.ListN.{length}
 use lib.Seq.{length-take-le}
 use Rattle.column.specs.Packets.{Wrote, sizeMeant}
-use Rattle.column.specs.PacketLaws.{write-size}
+use Rattle.column.specs.laws.PacketLaws.{write-size}
 use borrow.Author.Needs.{needs}
 use Rattle.pair.proofs.line.put_packet.Statement.{statement}
 use Rattle.pair.proofs.line.put_packet.Tie as tie

@@ -1,7 +1,7 @@
 use Prim.Native.Nat.{_-_, _≤_}
 use mathlib.Core.Path.{sym, ap, _∙_}
 use Rattle.column.specs.Frames.{framePackets, Framed, countMeant}
-use Rattle.column.specs.FrameLaws.{frame-count}
+use Rattle.column.specs.laws.FrameLaws.{frame-count}
 use borrow.Author.Needs.{needs}
 use Rattle.pair.proofs.line.received.Statement.{statement}
 use Rattle.pair.proofs.line.received.Tie as tie

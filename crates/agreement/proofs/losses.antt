@@ -1,0 +1,2 @@
+-- Sets counted by tests.
+pub mod Counted

@@ -1,0 +1,3 @@
+pub mod Rewriting
+pub mod StripStates
+pub mod StripLaws

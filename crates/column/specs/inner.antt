@@ -1,0 +1,2 @@
+pub mod TreePasses
+pub mod Answers

@@ -1,0 +1,2 @@
+pub mod TreeExamples
+pub mod Premises

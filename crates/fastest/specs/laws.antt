@@ -1,0 +1,9 @@
+pub mod Counts
+pub mod Timing
+pub mod FormulaLaws
+pub mod StrategyLaws
+pub mod Growing
+pub mod Joining
+pub mod FastestLaws
+pub mod UniqueLaws
+pub mod ArrivalLaws

@@ -1,0 +1,140 @@
+-- The packet that a step puts can be written: no call of a step is refused with 12 for it, and the sizes that are answered are 15 and 7.
+-- Assumes nothing.
+use Prim.Native.Nat.{ℕ, zero, suc, _+_, _^_, _<_}
+use mathlib.Core.Path.{_≡_, refl, sym, ap, _∙_}
+use mathlib.Core.Bool.{Bool, true, false, cond, true≢false}
+use mathlib.Core.List.{List, [], _∷_}
+use native.Mathlib.Omega.{arith}
+use lib.Dec.{eqb, ltb}
+use lib.ListN.{length}
+use borrow.Author.Tests.{eqb-true, eqb-false, not-false}
+use Rattle.column.specs.laws.RefusalLaws.{passed, earlier-none}
+use Rattle.column.specs.Refusals.{first, earlier}
+use Rattle.column.specs.Sets.{has, lowest}
+use Rattle.column.specs.laws.Digits.{lowest-member}
+use Rattle.column.specs.Trees.{choose}
+use Rattle.column.specs.laws.ChoiceLaws.{choose-lt}
+use Rattle.column.specs.Columns.{standing}
+use Rattle.column.specs.Packets.{goodEnds, bytesOf, padded}
+use Rattle.column.specs.laws.PacketLaws.{write-good, ends-good}
+use Rattle.column.specs.laws.NumberLaws.{Bytes}
+use Rattle.column.specs.laws.StateLaws.{Masks, acceptable, standing-tree, standing-sound, standing-sixteen, standing-column, standing-send}
+use Rattle.column.specs.Pages.{writeRefusal, written, write}
+use Rattle.column.specs.Steps.{sendConditions, sendRefusal, sendEffect, ackConditions, ackRefusal, ackEffect, acknowledgeLowest, packetRefusal, takeConditions, takeRefusal, messageEffect, receiveEffect, acknowledgementEffect, orderEffect, allEffect, noteEffect, haltEffect}
+use Rattle.column.specs.Steps as core
+use Rattle.column.specs.declared.tree.Tree.{Tree}
+use Rattle.column.specs.declared.state.Column.{Column}
+use Rattle.column.specs.declared.packet.Packet.{Packet}
+use Rattle.column.specs.declared.packet.Packet.the-variants.{Message, Acknowledgement}
+use Rattle.firmware.specs.Blocks.{columnIn, columnBytes}
+use Rattle.firmware.specs.laws.BlockLaws.{block-column-fits}
+use Rattle.firmware.specs.Calls.{leftInPlace, called, stepLeft}
+
+-- what a step puts, if anything, has good ends
+abbrev pub Writable : core.Result → Type 0
+Writable (core.accepted c [] left) = Unit {0}
+Writable (core.accepted c (p ∷ ps) left) = goodEnds p ≡ true
+Writable (core.refused n c) = Unit {0}
+
+-- such a packet's bytes are left, and its size is answered
+pub put-written : (c : Column) (p : Packet) (ps : List Packet) (left : Bool) (column put : List ℕ) → Writable (core.accepted c (p ∷ ps) left)
+    → stepLeft (core.accepted c (p ∷ ps) left) column put ≡ called (length (bytesOf p) + cond left leftInPlace 0) (columnBytes c) (padded (bytesOf p))
+put-written c p ps left column put good = rw (write-good p good)
+
+-- every block means a column whose sets are masks of sixteen
+pub block-masks : (s : List ℕ) → Bytes s → Masks (columnIn s)
+block-masks s h =
+    let f = block-column-fits s h in
+    record { send = f .send; awaited = f .awaited; owed = f .owed; noted = f .noted }
+
+unless-writable : (n : ℕ) (c : Column) (effect : core.Result) → (n ≡ 0 → Writable effect) → Writable (core.unless n c effect)
+unless-writable n c effect h = go (eqb n 0) refl
+  where
+    go : (b : Bool) → eqb n 0 ≡ b → Writable (cond b effect (core.refused n c))
+    go true e = h (eqb-true n 0 e)
+    go false e = tt
+
+pub some-of : (n : ℕ) → eqb n 0 ≡ false → 0 < n
+some-of zero e = absurd (eqb-false 0 0 e refl)
+some-of (suc n) e = omega arith
+
+module _ (t : Tree) (i : ℕ) (c : Column) where
+  lowest-writable : standing t i c ≡ 0 → c .owed < 2 ^ 16 → 0 < c .owed → (left : Bool) → Writable (acknowledgeLowest i c left)
+  lowest-writable good h some left =
+      let s = standing-sound t i c good in
+      let k = lowest (c .owed) in
+      let m = lowest-member 16 (c .owed) h some in
+      ends-good (Acknowledgement i k (c .number)) (standing-column t i c good) (omega (arith, s .owed-below k m, standing-sixteen t i c good))
+      (λ e. true≢false (sym m ∙ ap (has (c .owed)) (sym e) ∙ s .owes-others))
+
+  pub send-writable : Writable (core.send t i c)
+  unfolding sendRefusal sendEffect
+  send-writable = unless-writable (sendRefusal t i c) c (sendEffect t i c) (λ z. go (earlier-none (standing t i c) (first (sendConditions t i c)) z))
+    where
+      each : (k n d : ℕ) (x y z : Column) (a b : Bool) → i < 16 → k < 16 → eqb k i ≡ a
+          → Writable (cond a (core.accepted x [] false) (cond b (core.accepted y [] false) (core.accepted z (Message i k n d ∷ []) false)))
+      each k n d x y z true b h l e = tt
+      each k n d x y z false true h l e = tt
+      each k n d x y z false false h l e = ends-good (Message i k n d) h l (λ q. eqb-false k i e (sym q))
+
+      go : (standing t i c ≡ 0) × (first (sendConditions t i c) ≡ 0) → Writable (sendEffect t i c)
+      go e =
+          let some = some-of (c .send) (passed (sendConditions t i c) tt (e .1) .1 .0) in
+          let below = choose-lt t (standing-tree t i c (e .0)) (c .send) (standing-send t i c (e .0)) some in
+          each (choose t (c .send)) (c .number) (c .doors) _ _ _ (eqb (choose t (c .send)) i) (has (c .noted) (choose t (c .send)))
+          (standing-column t i c (e .0)) (omega (arith, below, standing-sixteen t i c (e .0))) refl
+
+  pub ack-writable : Masks c → Writable (core.ack t i c)
+  unfolding ackRefusal ackEffect
+  ack-writable m = unless-writable (ackRefusal t i c) c (ackEffect i c) (λ z. go (earlier-none (standing t i c) (first (ackConditions t i c)) z))
+    where
+      go : (standing t i c ≡ 0) × (first (ackConditions t i c) ≡ 0) → Writable (ackEffect i c)
+      go e = lowest-writable (e .0) (m .owed) (some-of (c .owed) (passed (ackConditions t i c) tt (e .1) .1 .0)) false
+
+  pub take-writable : Masks c → (p : Packet) → Writable (core.take t i c p)
+  unfolding takeRefusal messageEffect receiveEffect acknowledgementEffect
+  take-writable m (Acknowledgement from to number) =
+      unless-writable (takeRefusal t i c (Acknowledgement from to number)) c (acknowledgementEffect c from number) (λ z. each _ _ (eqb number (c .number)))
+    where
+      each : (x y : Column) (a : Bool) → Writable (cond a (core.accepted x [] false) (core.accepted y [] false))
+      each x y true = tt
+      each x y false = tt
+  take-writable m (Message from to number doors) =
+      unless-writable (takeRefusal t i c (Message from to number doors)) c (messageEffect t i c from number doors) (λ z. go (earlier-none (standing t i c) _ z))
+    where
+      each : (x y : Column) (a b d : Bool) → standing t i c ≡ 0 → eqb (c .owed) 0 ≡ d → goodEnds (Acknowledgement i from number) ≡ true
+          → Writable (cond a (core.accepted x [] false) (cond b (core.accepted c (Acknowledgement i from number ∷ []) false) (cond d (core.accepted y [] false) (acknowledgeLowest i c true))))
+      each x y true b d good e g = tt
+      each x y false true d good e g = g
+      each x y false false true good e g = tt
+      each x y false false false good e g = lowest-writable good (m .owed) (some-of (c .owed) e) true
+
+      go : (standing t i c ≡ 0) × (earlier (packetRefusal t (Message from to number doors)) (first (takeConditions t i c (Message from to number doors))) ≡ 0)
+          → Writable (messageEffect t i c from number doors)
+      go e =
+          let p = Message from to number doors in
+          let rest = earlier-none (packetRefusal t p) (first (takeConditions t i c p)) (e .1) in
+          let a = acceptable t p (rest .0) in
+          let own : to ≡ i = eqb-true to i (not-false (eqb to i) (passed (takeConditions t i c p) tt (rest .1) .0)) in
+          each _ _ (eqb number (c .number)) (ltb number (c .number)) (eqb (c .owed) 0) (e .0) refl
+          (ends-good (Acknowledgement i from number) (standing-column t i c (e .0)) (omega (arith, a .sender-below, standing-sixteen t i c (e .0))) (λ q. a .apart (sym q ∙ sym own)))
+
+  -- the other steps put nothing
+  pub order-writable : (doors : ℕ) → Writable (core.order t i c doors)
+  unfolding orderEffect
+  order-writable doors = unless-writable (core.orderRefusal t i c) c (orderEffect t i c doors) (λ z. tt)
+
+  pub all-writable : Writable (core.all t i c)
+  unfolding allEffect
+  all-writable = unless-writable (core.allRefusal t i c) c (allEffect t c) (λ z. tt)
+
+  pub note-writable : (j : ℕ) → Writable (core.note t i c j)
+  unfolding noteEffect
+  note-writable j = unless-writable (core.noteRefusal t i c j) c (noteEffect t c j) (λ z. tt)
+
+  pub halt-writable : Writable (core.halt t i c)
+  unfolding haltEffect
+  halt-writable = unless-writable (core.haltRefusal t i c) c (haltEffect c) (λ z. tt)
+
+  pub page-writable : (offset value : ℕ) → Writable (write t i c offset value)
+  page-writable offset value = unless-writable (writeRefusal t i c offset) c (core.accepted (written c offset value) [] false) (λ z. tt)

@@ -1,0 +1,5 @@
+pub mod Chains
+pub mod ReadJournals
+pub mod JournalKeys
+pub mod LineWords
+pub mod MissingTexts

@@ -1,0 +1,10 @@
+pub mod FieldLaws
+pub mod JournalLaws
+pub mod LineWordLaws
+pub mod JournalKeyLaws
+pub mod KeyLaws
+pub mod ChainLaws
+pub mod MissingLaws
+pub mod MissingLength
+pub mod ReadJournalLaws
+pub mod ComparingLaws
