@@ -19,7 +19,7 @@ TOOLS = ("bash", "cat", "cp", "date", "dirname", "find", "head", "mkdir", "mktem
 
 class Command(unittest.TestCase):
     name = "lockers"
-    crates = ("column", "fastest", "bank", "losses", "closing", "lockers")
+    crates = ("column", "text", "bank", "list", "table", "script", "lockers")
     given = "script"
     text = TABLE.decode()
     answer = "table=ok\nrest=yes\n"
@@ -231,7 +231,7 @@ class LockersBuilds(Builds, Command):
 
 class Fastest(Command):
     name = "fastest"
-    crates = ("column", "fastest", "bank", "losses", "closing", "installer")
+    crates = ("column", "text", "bank", "fastest", "table", "fastest_text", "installer")
     given = "request"
     text = "columns=5\ndelay=2\ngap=1\n"
     answer = "columns=5\nroot=0\nup=0,0,0,0,1\n"
@@ -264,7 +264,7 @@ class FastestBuilds(Builds, Fastest):
 
 class Losses(Command):
     name = "losses"
-    crates = ("column", "fastest", "bank", "losses", "closing", "sales")
+    crates = ("column", "text", "bank", "losses", "table", "losses_text", "sales")
     given = "table"
     text = "columns=3\nroot=0\nup=0,0,1\nafter=2\n"
     answer = "kept=6\nlost=1\nnone=1\n"
@@ -299,7 +299,7 @@ class LossesBuilds(Builds, Losses):
 
 class Journals(Command):
     name = "journals"
-    crates = ("column", "fastest", "bank", "losses", "closing", "journals", "fitter")
+    crates = ("column", "text", "list", "journals", "fitter")
     given = "journal"
     text = "column=1\ngot=1,0,1\nsent=1,3,1\n"
     answer = "sent=1,3,1\n"

@@ -22,7 +22,7 @@ from scripts import SCRIPTS
 from stack import ROUNDS, runs_in
 
 CITING = ("SPECIFICATION.md", "REPORT.md", "PROOFS.md")
-SHORT = re.compile(r"^(column|fastest|bank|losses|figure|agreement|closing|journals|firmware|edges|handed)/((?:proofs|inner|laws|examples)/(?:[a-z]+/)?)?([A-Za-z_]+)(\.rt)?$")
+SHORT = re.compile(r"^(column|fastest|bank|losses|figure|agreement|text|list|table|script|fastest_text|losses_text|journals|firmware|edges|handed)/((?:proofs|inner|laws|examples)/(?:[a-z]+/)?)?([A-Za-z_]+)(\.rt)?$")
 WHOLE = re.compile(r"^(crates/.+|tests/.+|docs/.+|examples/.+|include/.+|crates\.txt|README\.md)$")
 BLOCK = re.compile(r"```c?\n(.*?)```", re.S)
 REQUEST = ("columns=5", "delay=2", "gap=1")
@@ -89,24 +89,6 @@ def blocks(text):
     return [line.split("#")[0].strip() for block in BLOCK.findall(text) for line in block.splitlines()]
 
 
-def led_to(lines, names, crate):
-    """The crates that the lines of a picture lead down to from one; `names` has the crate of each cell that a name takes."""
-    own = [cell for cell, name in names.items() if name == crate]
-    beside = (own[0][0], max(column for _, column in own) + 2)
-    cells, seen, found = [beside] + [(row + 1, column) for row, column in own], set(), set()
-    while cells:
-        row, column = cell = cells.pop()
-        mark = lines[row][column:column + 1] if row < len(lines) and cell not in seen else ""
-        seen.add(cell)
-        if cell in names:
-            found.add(names[cell])
-        if mark and mark in "|+":
-            cells.append((row + 1, column))
-        if mark and mark in "-+":
-            cells += [(row, column - 1), (row, column + 1)]
-    return found
-
-
 def rests_on(crate, below):
     """A crate's crates, and those of theirs."""
     return below[crate].union(*(rests_on(other, below) for other in below[crate]))
@@ -141,17 +123,18 @@ class Documents(Citations):
     def test_the_layers_are_the_crates_and_their_modules(self):
         layers = section(read("docs", "PROOFS.md"), "Layers")
         self.assertEqual(set(re.findall(r"crates/(\w+)", layers)), set(re.findall(r"^(\w+):", read("crates.txt"), re.M)))
-        libraries = ("column", "fastest", "bank", "losses", "closing", "journals", "firmware")
+        libraries = ("column", "fastest", "bank", "losses", "text", "list", "table", "script", "fastest_text", "losses_text", "journals", "firmware")
         modules = {os.path.relpath(path, ROOT) for crate in libraries for path in glob.glob(os.path.join(ROOT, "crates", crate, "src", "*.rt"))}
         named = {file_of(word) for word in spans(layers)} - {None}
         self.assertEqual(named, {path for path in modules if not path.endswith("lib.rt")})
 
-    def test_the_picture_of_the_layers_is_that_of_the_crates(self):
+    def test_the_list_of_the_layers_is_that_of_the_crates(self):
         lines = BLOCK.search(section(read("docs", "PROOFS.md"), "Layers"))[1].splitlines()
-        found = [(row, name) for row, line in enumerate(lines) for name in re.finditer(r"crates/(\w+)", line)]
-        names = {(row, column): name[1] for row, name in found for column in range(*name.span())}
-        below = {crate: led_to(lines, names, crate) for crate in names.values()}
         listed = {line.split(":")[0]: set(line.split()[1:]) for line in read("crates.txt").splitlines()}
+        below = {}
+        for line in lines:
+            name, rest = re.match(r"crates/(\w+) +(.*?)(?:  |$)", line).groups()
+            below[name] = set(rest.split()) - {"-"}
         self.assertEqual({crate: rests_on(crate, below) for crate in below}, {crate: rest & set(listed) for crate, rest in listed.items()})
 
     def test_every_name_of_the_decisions_stands_in_a_source(self):
@@ -280,7 +263,7 @@ class Readme(Citations):
             self.assertTrue(all(runs_in(PROGRAM, script, int(measured), {}) for _ in range(ROUNDS)), name)
 
     def test_the_times_of_the_first_build_are_those_of_the_newest_gate(self):
-        crates = ("column", "bank", "closing", "lockers")
+        crates = ("column", "text", "bank", "list", "table", "script", "lockers")
         took = [re.search(rf"\b{crate} (?:takes )?(\d+)\b", section(self.text, "The first run"))[1] for crate in crates]
         gate = re.search(r"By crate, proof and build in seconds: (.*?);", read("docs", "CHANGES.md"), re.S)[1]
         self.assertEqual(took, [re.search(rf"\b{crate} (\d+)\b", gate)[1] for crate in crates])

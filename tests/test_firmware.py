@@ -252,7 +252,7 @@ class Header(unittest.TestCase):
         self.assertEqual({int(n) for n in re.findall(r"^ \*   (\d+)  ", self.header, re.M)}, set().union(*REFUSALS.values()))
 
     def test_its_numbers_are_those_of_the_sources(self):
-        files = [("firmware", "block"), ("firmware", "answer"), ("firmware", "steps"), ("closing", "list"), ("column", "page")]
+        files = [("firmware", "block"), ("firmware", "answer"), ("firmware", "steps"), ("list", "list"), ("column", "page")]
         sources = "".join(firmware.read("crates", crate, "src", name + ".rt") for crate, name in files)
         for macro, constant in (("TREE", "TREE_SIZE"), ("COLUMN", "COLUMN_SIZE"), ("PACKET", "PACKET_SIZE"), ("DOORS", "DOORS_SIZE"), ("WATCH", "WATCH"),
                                 ("LEFT", "LEFT"), ("REFUSED", "REFUSED"), ("LIST", "LONGEST"), ("PAGE_MASK", "MASK_OFFSET"), ("PAGE_CLEAR", "CLEAR_OFFSET")):

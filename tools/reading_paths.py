@@ -18,7 +18,7 @@ CLAIMS = (
     ("a step of the core", {}, ("column/step",)),
     ("a step of the bank", {"bank/Exact": ["Exact"]}, ("bank/bank", "bank/step")),
     ("a call from C", {}, ("firmware",)),
-    ("the script's text", {"closing/Scripts": ["scriptText"], "closing/Advances": ["start", "filledBy", "printedBy"]}, ("closing/script",)),
+    ("the script's text", {"script/Scripts": ["scriptText"], "script/Advances": ["start", "filledBy", "printedBy"]}, ("script/script",)),
     ("journals", {"agreement/Journals": ["JournalsAgree", "TextsAgree"]}, ("journals",)),
     ("fastest trees", {"fastest/Fastest": ["*"], "fastest/Formula": ["*"]}, ("fastest",)),
     ("losses", {"agreement/Losing": ["Losing"]}, ("losses",)),

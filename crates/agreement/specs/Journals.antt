@@ -7,12 +7,13 @@ use mathlib.Core.List.{List, [], _∷_, _++_, List·Memᴰ}
 use lib.Dec.{eqb}
 use lib.ListN.{length}
 use Rattle.column.specs.Trees.{treeRefusal}
-use Rattle.column.specs.declared.tree.Tree.{Tree}
 use Rattle.column.specs.Packets.{sender, receiver, numberOf}
 use Rattle.column.specs.Steps as core
+use Rattle.column.specs.Columns.{numbers}
+use Rattle.column.specs.declared.tree.Tree.{Tree}
 use Rattle.column.specs.declared.packet.Packet.{Packet}
 use Rattle.column.specs.declared.packet.Packet.the-variants.{Message, Acknowledgement}
-use Rattle.bank.specs.Words.{numbers}
+use Rattle.list.specs.Closing.{placed}
 use Rattle.bank.specs.Banks.{State, columnAt, runs, packetAt, capacity}
 use Rattle.bank.specs.Steps.{Outcome, accepted, refused}
 use Rattle.bank.specs.Performs.{perform}
@@ -20,7 +21,6 @@ use Rattle.bank.specs.Returns.{isBack}
 use Rattle.bank.specs.declared.bank.Step.{Step}
 use Rattle.bank.specs.declared.bank.Step.the-variants.{Order, Send, Take, Ack, All, Note, Halt, Back, Write}
 use Rattle.journals.specs.Journals.{line, journalText, journalLimit, missingText, compared, Once, journal}
-use Rattle.closing.specs.Closing.{placed}
 use Rattle.journals.specs.declared.line.Way.the-variants.{Sent, Got}
 use Rattle.journals.specs.declared.line.Line.{Line}
 use Rattle.agreement.specs.History.{World, leftBy, told}

@@ -5,9 +5,8 @@ use mathlib.Core.Bool.{true}
 use mathlib.Core.List.{List, _∷_, map}
 use lib.ListN.{length}
 use Rattle.column.specs.Sets.{single}
-use Rattle.column.specs.Columns.{haltNoted, withPending}
+use Rattle.column.specs.Columns.{haltNoted, withPending, numbers}
 use Rattle.column.specs.declared.state.Column.{Column}
-use Rattle.bank.specs.Words.{numbers}
 use Rattle.bank.specs.Banks.{State, columnAt, Whole}
 use Rattle.bank.specs.Steps.{accepted}
 use Rattle.bank.specs.Performs.{perform}

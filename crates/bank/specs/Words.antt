@@ -3,14 +3,11 @@
 use Prim.Native.Nat.{ℕ, _+_, _*_, _/_, _%_}
 use mathlib.Core.Bool.{cond}
 use lib.Dec.{ltb}
-use Rattle.column.specs.Columns.{highest}
+use Rattle.column.specs.Columns.{numbers}
 use Rattle.column.specs.declared.packet.Packet.{Packet}
 use Rattle.column.specs.declared.packet.Packet.the-variants.{Message, Acknowledgement}
 
 -- how many numbers, ends and pairs of ends a head tells apart: the factors of its parts
-abbrev pub numbers : ℕ
-numbers = highest + 1
-
 abbrev pub ends : ℕ
 ends = 256
 

@@ -1,5 +1,5 @@
 -- What a column holds, after document 01, "What a column holds", and what row 4 asks of it.
-use Prim.Native.Nat.{ℕ, _-_, _^_}
+use Prim.Native.Nat.{ℕ, _+_, _-_, _^_}
 use mathlib.Core.Bool.{Bool, true, false, not, _&&_, _||_, cond}
 use mathlib.Core.List.{List, [], _∷_}
 use lib.Dec.{eqb, leb}
@@ -15,6 +15,10 @@ use Rattle.column.specs.declared.state.FreshColumn.the-variants.{Is, Ref
 -- "Records and packets go to 32 bits, and 8 comes at 4,294,967,295."
 abbrev pub highest : ℕ
 highest = 256 ^ numberSize - 1
+
+-- how many numbers there are
+abbrev pub numbers : ℕ
+numbers = highest + 1
 
 -- "Fresh: all columns run, number 0, doors clear, sets empty, goal own subtree; the root's goal is always the whole bank."; document 02, Point 9:
 -- "Each column keeps who sent its record: the root when fresh"

@@ -6,10 +6,10 @@ use bank::bank::Answer;
 use bank::bank::Step;
 use bank::bank::fresh;
 use bank::step::perform;
-use closing::line::Line;
-use closing::line::parse;
 use column::tree::ASCENDING;
 use column::tree::Tree;
+use script::line::Line;
+use script::line::parse;
 
 const TREE: Tree = Tree {
     columns: 3,

@@ -6,10 +6,10 @@ use crate::print::print;
 use crate::print::print_number;
 use bank::bank::Bank;
 use bank::bank::fresh;
-use closing::list::Listing;
-use closing::list::list;
 use column::tree::ASCENDING;
 use column::tree::Tree;
+use list::list::Listing;
+use script::bank_list::list;
 
 // More than the longest list takes.
 const ROOM: usize = 235;

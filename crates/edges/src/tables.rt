@@ -4,7 +4,7 @@ use crate::print::print_answer;
 use crate::print::print_number;
 use crate::print::print_text;
 use bank::bank::Answer;
-use closing::table::read_table;
+use table::table::read_table;
 
 fn table(text: &[u8]) {
     let read = read_table(text);

@@ -13,8 +13,8 @@ use Rattle.column.specs.Pages as page
 use Rattle.column.specs.Steps as core
 use Rattle.column.specs.declared.tree.Tree.{Tree}
 use Rattle.column.specs.declared.state.Column.{Column}
-use Rattle.closing.specs.Text.{written}
-use Rattle.closing.specs.Closing.{Listed, loneList}
+use Rattle.text.specs.Text.{written}
+use Rattle.list.specs.Closing.{Listed, loneList}
 use Rattle.firmware.specs.Blocks.{bit, treeSize, treeIn, columnSize, columnIn, columnBytes, blockSizes}
 
 -- ---- answers: what is below `refusedBy` is a size, a count or a length; from there on it is a refusal with its number added

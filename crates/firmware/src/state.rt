@@ -7,14 +7,14 @@ use crate::block::block_sizes;
 use crate::block::column_in;
 use crate::block::put_column;
 use crate::block::tree_in;
-use closing::list::Listing;
-use closing::list::lone_list;
 use column::page::Byte;
 use column::page::line_up;
 use column::page::read;
 use column::state::FreshColumn;
 use column::state::fresh;
 use column::topology::tree_refusal;
+use list::list::Listing;
+use list::list::lone_list;
 ghost use mathlib.Core.Path.{_≡_};
 ghost use Rattle.firmware.specs.Calls.{treeCall, filled, freshCall, listCall, byteCall, lineCall};
 

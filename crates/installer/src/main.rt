@@ -1,7 +1,7 @@
 // Answers the request for a fastest tree on standard input.
-use closing::request::LIMIT;
-use closing::request::TABLE;
-use closing::request::answer;
+use fastest_text::request::LIMIT;
+use fastest_text::request::TABLE;
+use fastest_text::request::answer;
 use libc::STDIN_FILENO;
 use libc::STDOUT_FILENO;
 

@@ -5,10 +5,10 @@ use mathlib.Core.List.{List, [], _∷_, _++_, List·Memᴰ}
 use lib.Dec.{eqb, ltb}
 use lib.ListN.{length}
 use Rattle.column.specs.Refusals.{first, Given, given, refused}
-use Rattle.bank.specs.Words.{numbers}
-use Rattle.closing.specs.Text.{bytes, columnKey, newline, comma, decimal, Reading, read, unread, numeral, startsWith, afterKey}
-use Rattle.closing.specs.Tables.{Cut, ended, unended, cut, pieces, keyed}
-use Rattle.closing.specs.Closing.{Listed, placed}
+use Rattle.column.specs.Columns.{numbers}
+use Rattle.text.specs.Text.{bytes, columnKey, newline, comma, decimal, Reading, read, unread, numeral, startsWith, afterKey}
+use Rattle.text.specs.Pieces.{Cut, ended, unended, cut, pieces, keyed}
+use Rattle.list.specs.Closing.{Listed, placed}
 use Rattle.journals.specs.declared.line.Way.{Way}
 use Rattle.journals.specs.declared.line.Way.the-variants.{Sent, Got}
 use Rattle.journals.specs.declared.line.Line.{Line}

@@ -11,7 +11,7 @@ ghost use Prim.Native.Nat.{_≤_};
 ghost use mathlib.Core.Path.{_≡_};
 ghost use lib.Dec.{leb};
 ghost use lib.ListN.{length};
-ghost use Rattle.closing.specs.Closing.{placed};
+ghost use Rattle.list.specs.Closing.{placed};
 ghost use Rattle.journals.specs.inner.JournalKeys.{linesLimit};
 ghost use Rattle.journals.specs.Journals.{missingText, pairCompared, compared, comparedMeant};
 ghost use Rattle.journals.specs.inner.ReadJournals.{journalIn, Holds, Ready, missingSize};

@@ -1,12 +1,12 @@
 // A line of a journal.
 use bytes::scan::find;
-use closing::reading::Number;
-use closing::reading::read_numeral;
-use closing::reading::starts_with;
 use column::packet::HIGHEST;
+use text::reading::Number;
+use text::reading::read_numeral;
+use text::reading::starts_with;
 ghost use mathlib.Core.Path.{_≡_};
-ghost use Rattle.closing.specs.Text.{read};
-ghost use Rattle.closing.specs.Tables.{pieces};
+ghost use Rattle.text.specs.Text.{read};
+ghost use Rattle.text.specs.Pieces.{pieces};
 ghost use Rattle.journals.specs.Journals.{lineMeant, lineJudged, linePieces, lineOf};
 
 // The bytes that a journal has at most.

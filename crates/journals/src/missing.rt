@@ -6,7 +6,7 @@ ghost use mathlib.Core.Path.{_≡_};
 ghost use mathlib.Core.Bool.{cond};
 ghost use mathlib.Core.List.{[]};
 ghost use lib.ListN.{length};
-ghost use Rattle.closing.specs.Text.{Writes};
+ghost use Rattle.text.specs.Text.{Writes};
 ghost use Rattle.journals.specs.inner.Chains.{Placed};
 ghost use Rattle.journals.specs.inner.JournalKeys.{linesLimit};
 ghost use Rattle.journals.specs.inner.MissingTexts.{missedLength, textFrom, Walked};

@@ -4,7 +4,7 @@ use crate::line::Way;
 use column::packet::HIGHEST;
 ghost use Prim.Native.Nat.{_<_};
 ghost use mathlib.Core.Path.{_≡_};
-ghost use Rattle.bank.specs.Words.{numbers};
+ghost use Rattle.column.specs.Columns.{numbers};
 ghost use Rattle.journals.specs.inner.LineWords.{ways, byteValues, wayNumber, word, keyOf, aboutKey, turned};
 
 // The factors of a word's parts: the kind and the other column are a byte each.

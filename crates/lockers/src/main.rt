@@ -1,10 +1,10 @@
 // Runs the script on standard input. All of it is read first, so that texts to print may wait and be written many at a time.
-use closing::script::BUFFER;
-use closing::script::LIMIT;
-use closing::script::fill;
-use closing::script::start;
 use libc::STDIN_FILENO;
 use libc::STDOUT_FILENO;
+use script::script::BUFFER;
+use script::script::fill;
+use script::script::start;
+use table::table::LIMIT;
 
 fn main() {
     // One byte more than the limit shows that an input is too long.

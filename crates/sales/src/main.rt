@@ -1,9 +1,9 @@
 // Answers the table with a step count on standard input: how many halts lose the order.
-use closing::losses_text::COUNTS;
-use closing::losses_text::answer;
-use closing::script::LIMIT;
 use libc::STDIN_FILENO;
 use libc::STDOUT_FILENO;
+use losses_text::request::COUNTS;
+use losses_text::request::answer;
+use table::table::LIMIT;
 
 fn main() {
     // One byte more than the limit shows that an input is too long.

@@ -1,21 +1,21 @@
 -- The journals beside the columns: every move keeps that no line is written twice and that what was got was sent. Assumes nothing.
 use Prim.Native.Nat.{ℕ, _<_}
-use native.Mathlib.Omega.{arith}
 use mathlib.Core.Path.{_≡_, refl, sym, subst, _∙_}
 use mathlib.Core.Logic.{_≢_, _⊎_, ⊎-elim, inl, inr}
 use mathlib.Core.Bool.{true, true≢false}
 use mathlib.Core.List.{List, [], List·Memᴰ·not-nil}
+use native.Mathlib.Omega.{arith}
 use lib.Dec.{eqb}
 use Rattle.column.specs.laws.Cases.{truth}
 use Rattle.column.specs.Sets.{single, insert, without}
 use Rattle.column.specs.Trees.{IsTree, children}
 use Rattle.column.specs.laws.SubtreeLaws.{subtree-self}
 use Rattle.column.specs.Packets.{receiver}
+use Rattle.column.specs.Columns.{numbers}
 use Rattle.column.specs.declared.tree.Tree.{Tree}
 use Rattle.column.specs.declared.state.Column.{Column}
 use Rattle.column.specs.declared.packet.Packet.{Packet}
 use Rattle.column.specs.declared.packet.Packet.the-variants.{Message, Acknowledgement}
-use Rattle.bank.specs.Words.{numbers}
 use Rattle.journals.specs.Journals.{line}
 use Rattle.journals.specs.declared.line.Way.the-variants.{Sent, Got}
 use Rattle.journals.specs.declared.line.Line.{Line}

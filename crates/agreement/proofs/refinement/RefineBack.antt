@@ -1,21 +1,20 @@
 -- An accepted return of the bank is a move of the model, and the bank is at rest afterwards; so every accepted step but a halt is a move. Assumes nothing.
 use Prim.Native.Nat.{ℕ, _^_, _≤_, _<_}
-use native.Mathlib.Omega.{arith}
 use mathlib.Core.Path.{_≡_, refl, sym, ap, ap₂, subst, _∙_}
 use mathlib.Core.Logic.{⊎-elim}
 use mathlib.Core.Bool.{Bool, true, false, not, _&&_, true≢false}
 use mathlib.Core.List.{List}
+use native.Mathlib.Omega.{arith}
 use lib.Dec.{eqb, ltb}
 use borrow.Author.Tests.{ne-eqb, eqb-false, lt-ltb, ltb-true, not-true}
 use Rattle.column.specs.laws.Cases.{truth, equal-cases, and-left, and-right}
 use Rattle.column.specs.Sets.{has}
 use Rattle.column.specs.laws.SetLaws.{has-without, without-lt, selected-lt, selected-has, member-lt}
-use Rattle.column.specs.Columns.{plain}
+use Rattle.column.specs.Columns.{plain, numbers}
 use Rattle.column.specs.Returns.{rejoined}
 use Rattle.column.specs.laws.TreeLaws.{tree-sixteen, check-exact}
 use Rattle.column.specs.declared.tree.Tree.{Tree}
 use Rattle.column.specs.declared.state.Column.{Column}
-use Rattle.bank.specs.Words.{numbers}
 use Rattle.bank.specs.Banks.{State, state, columnAt, runs, runningOf, haltedOf}
 use Rattle.bank.specs.laws.StandingLaws.{stands-passes}
 use Rattle.bank.specs.Steps.{accepted}

@@ -1,10 +1,10 @@
 -- From an accepted step of the bank to a move of the model: what is the same for every step. Assumes nothing.
 use Prim.Native.Nat.{ℕ, _≤_, _<_}
-use native.Mathlib.Omega.{arith}
 use mathlib.Core.Path.{_≡_, refl, sym, ap, ap₂, subst, _∙_}
 use mathlib.Core.Logic.{_≢_, _⊎_, inl, inr}
 use mathlib.Core.Bool.{Bool, true, false, _&&_, cond}
 use mathlib.Core.List.{List, [], _∷_, _++_}
+use native.Mathlib.Omega.{arith}
 use lib.Dec.{eqb, ltb}
 use lib.ListN.{length, getD, set, length-set}
 use lib.Seq.{getD-set-same, getD-set-other}
@@ -13,10 +13,10 @@ use Rattle.column.specs.laws.Cases.{equal-cases}
 use Rattle.column.specs.Packets.{receiver}
 use Rattle.column.specs.Steps as core
 use Rattle.column.specs.laws.TreeLaws.{tree-sixteen}
+use Rattle.column.specs.Columns.{numbers}
 use Rattle.column.specs.declared.tree.Tree.{Tree}
 use Rattle.column.specs.declared.state.Column.{Column}
 use Rattle.column.specs.declared.packet.Packet.{Packet}
-use Rattle.bank.specs.Words.{numbers}
 use Rattle.bank.specs.laws.WordLaws.{HeadFits}
 use Rattle.bank.specs.Banks.{State, noColumn, columnAt, runs, capacity, Whole}
 use Rattle.bank.specs.laws.StandingLaws.{Stands}

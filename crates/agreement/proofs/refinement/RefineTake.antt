@@ -1,11 +1,11 @@
 -- Every accepted step of the bank that takes packets off, take and halt, is a move of the model. Assumes nothing.
 use Prim.Native.Nat.{ℕ, zero, suc, _+_, _<_}
-use native.Mathlib.Omega.{arith}
-use native.Mathlib.Numerals.{add-one}
 use mathlib.Core.Path.{_≡_, refl, sym, ap, subst, _∙_}
 use mathlib.Core.Logic.{_≢_}
 use mathlib.Core.Bool.{Bool, true, false, cond, and-false}
 use mathlib.Core.List.{List, [], _∷_, _++_}
+use native.Mathlib.Omega.{arith}
+use native.Mathlib.Numerals.{add-one}
 use lib.Dec.{eqb, ltb, leb}
 use lib.ListN.{length, getD, take, drop}
 use borrow.Author.Tests.{eqb-true, eqb-false, ltb-true, ltb-false, leb-false}
@@ -13,7 +13,7 @@ use Rattle.column.specs.Refusals as refusals
 use Rattle.column.specs.laws.RefusalLaws.{passed, earlier-none}
 use Rattle.column.specs.Sets.{single, insert, without, lowest}
 use Rattle.column.specs.Trees.{children}
-use Rattle.column.specs.Columns.{recordReceived, withSets, withPending, plain}
+use Rattle.column.specs.Columns.{recordReceived, withSets, withPending, plain, numbers}
 use Rattle.column.specs.Packets.{receiver, numberOf}
 use Rattle.column.specs.laws.StateLaws.{Acceptable, acceptable}
 use Rattle.column.specs.Steps as core
@@ -22,7 +22,6 @@ use Rattle.column.specs.declared.tree.Tree.{Tree}
 use Rattle.column.specs.declared.state.Column.{Column}
 use Rattle.column.specs.declared.packet.Packet.{Packet}
 use Rattle.column.specs.declared.packet.Packet.the-variants.{Message, Acknowledgement}
-use Rattle.bank.specs.Words.{numbers}
 use Rattle.bank.specs.laws.WordLaws.{fits-of}
 use Rattle.bank.specs.Banks.{State, columnAt, runs, packetAt, bankRefusal, actingRefusal, Whole}
 use Rattle.bank.specs.Networks.{removed, only, vanished}

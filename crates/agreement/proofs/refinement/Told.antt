@@ -1,10 +1,10 @@
 -- The history that document 01's words tell of an accepted step is the one that its move tells. Assumes nothing.
 use Prim.Native.Nat.{ℕ, _<_}
-use native.Mathlib.Omega.{arith}
 use mathlib.Core.Path.{_≡_, refl, sym, ap, ap₂, _∙_, subst}
 use mathlib.Core.Logic.{_≢_}
 use mathlib.Core.Bool.{Bool, true, false, not, _&&_, _||_, cond}
 use mathlib.Core.List.{[], _∷_, List}
+use native.Mathlib.Omega.{arith}
 use lib.Dec.{eqb, ltb, leb}
 use lib.ListN.{length-set}
 use borrow.Author.Tests.{eq-eqb, eqb-true, eqb-false, ltb-true, ltb-false, lt-ltb, le-ltb, leb-false}
@@ -13,7 +13,7 @@ use Rattle.column.specs.laws.RefusalLaws.{passed, earlier-none}
 use Rattle.column.specs.Sets.{has, insert}
 use Rattle.column.specs.Trees.{choose, treeRefusal}
 use Rattle.column.specs.Packets.{receiver}
-use Rattle.column.specs.Columns.{stateRefusal, withSets, plain}
+use Rattle.column.specs.Columns.{stateRefusal, withSets, plain, numbers}
 use Rattle.column.specs.Steps as core
 use Rattle.column.specs.Steps.{packetRefusal, takeRefusal, messageEffect, receiveEffect}
 use Rattle.column.specs.laws.StateLaws.{acceptable}
@@ -29,7 +29,6 @@ use Rattle.bank.specs.Steps as bank
 use Rattle.bank.specs.Steps.{accepted, withColumn}
 use Rattle.bank.specs.Performs.{perform}
 use Rattle.bank.specs.laws.ListLaws.{set-keeps}
-use Rattle.bank.specs.Words.{numbers}
 use Rattle.bank.specs.laws.NetworkLaws.{packetsOf}
 use Rattle.bank.specs.Pages.{writeRefusal}
 use Rattle.bank.specs.declared.bank.Step.{Step}

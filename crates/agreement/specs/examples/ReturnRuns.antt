@@ -1,10 +1,10 @@
 -- Two banks in which a column is halted and noted, computed: each premise of `RestsAfter` and `Restores` holds of the one, each of `RestsAfterAny` of the other.
 use Prim.Native.Nat.{ℕ, zero, suc, _<_}
-use native.Mathlib.Omega.{arith}
 use mathlib.Core.Path.{_≡_, refl, sym, ap, subst, _∙_}
 use mathlib.Core.Bool.{Bool, true, false, _||_, or-false, true≢false}
 use mathlib.Core.Logic.{_⊎_, inl, inr}
 use mathlib.Core.List.{List, [], _∷_, map}
+use native.Mathlib.Omega.{arith}
 use lib.Dec.{eqb}
 use lib.ListN.{length, getD, replicate, length-replicate}
 use lib.Count.{trailingZeros}
@@ -12,10 +12,10 @@ use borrow.Author.Tests.{eqb-true}
 use Rattle.column.specs.laws.Cases.{or-cases}
 use Rattle.column.specs.Sets.{selected}
 use Rattle.column.specs.Trees.{treeOf, every, climbsIn, treeRefusal}
-use Rattle.column.specs.Columns.{stateRefusal}
+use Rattle.column.specs.Columns.{stateRefusal, numbers}
 use Rattle.column.specs.Steps as core
 use Rattle.column.specs.declared.state.Column.{Column}
-use Rattle.bank.specs.Words.{packetOf, numbers}
+use Rattle.bank.specs.Words.{packetOf}
 use Rattle.bank.specs.Networks.{keeping, padded, puts, vanished}
 use Rattle.bank.specs.Banks.{State, state, noColumn, columnAt, runs, capacity, places, freshPlace, bankRefusal}
 use Rattle.bank.specs.Steps.{Outcome, accepted, refused, fitting, acted, rewriting, halted, haltRefusal}

@@ -10,7 +10,8 @@ use borrow.Author.Tests.{eq-eqb, ne-eqb, le-leb, lt-leb, ltb-true, leb-true, leb
 use Rattle.column.specs.laws.Cases.{truth, equal-cases, and-left, and-right}
 use Rattle.column.specs.Sets.{has, join, insert}
 use Rattle.column.specs.laws.SetLaws.{has-none, has-join, has-insert, join-lt, insert-lt, same-members}
-use Rattle.bank.specs.Words.{numbers, ends, acknowledging, receiverIn, senderIn}
+use Rattle.column.specs.Columns.{numbers}
+use Rattle.bank.specs.Words.{ends, acknowledging, receiverIn, senderIn}
 use Rattle.bank.specs.inner.Surveys.{endsStand, barredOf, pairStands, headStands}
 
 -- ---- a packet

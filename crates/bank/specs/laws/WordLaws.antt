@@ -7,9 +7,10 @@ use native.Mathlib.Omega.{arith}
 use lib.Dec.{ltb}
 use borrow.Author.Tests.{lt-ltb, le-ltb, ltb-true, ltb-false}
 use Rattle.column.specs.Packets.{isMessage, sender, receiver, numberOf, doorsOf}
+use Rattle.column.specs.Columns.{numbers}
 use Rattle.column.specs.declared.packet.Packet.{Packet}
 use Rattle.column.specs.declared.packet.Packet.the-variants.{Message, Acknowledgement}
-use Rattle.bank.specs.Words.{numbers, ends, acknowledging, placed, headOf, numberIn, receiverIn, senderIn, packetOf}
+use Rattle.bank.specs.Words.{ends, acknowledging, placed, headOf, numberIn, receiverIn, senderIn, packetOf}
 
 -- the parts of a packet fit into a head
 pub record HeadFits (p : Packet) : Type 0 where

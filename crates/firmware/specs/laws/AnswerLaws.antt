@@ -20,17 +20,17 @@ use Rattle.column.specs.laws.StateLaws.{standing-column}
 use Rattle.column.specs.Steps as core
 use Rattle.column.specs.declared.state.Column.{Column}
 use Rattle.column.specs.declared.packet.Packet.{Packet}
-use Rattle.closing.specs.Text.{written}
-use Rattle.closing.specs.Closing.{listText, placed, loneRefusal, loneList}
-use Rattle.closing.specs.laws.ClosingLaws.{list-longest}
-use Rattle.firmware.specs.declared.steps.LoneStep.{LoneStep}
-use Rattle.firmware.specs.declared.steps.LoneStep.the-variants.{Order, Take}
+use Rattle.text.specs.Text.{written}
+use Rattle.list.specs.Closing.{listText, placed, loneRefusal, loneList}
+use Rattle.list.specs.laws.ClosingLaws.{list-longest}
 use Rattle.firmware.specs.Blocks.{treeIn, columnIn, blockSizes}
 use Rattle.firmware.specs.laws.BlockLaws.{block-column-fits}
 use Rattle.firmware.specs.Calls.{refusedBy, otherSize, leftInPlace, noRoom, Filled, filled, unfilled, freshLeft, freshCall, packetSize, sizeLeft, packetCall, doorsCall, joinedAt, joinLeft, joinCall, listLeft, listCall, Called, uncalled, stepLeft, stepSizes, stepCall, orderCall, takeLeft, takeCall}
 use Rattle.firmware.specs.inner.StepCalls.{stepOf}
 use Rattle.firmware.specs.laws.PutLaws.{Writable, put-written, block-masks}
 use Rattle.firmware.specs.laws.KeptLaws.{step-writable}
+use Rattle.firmware.specs.declared.steps.LoneStep.{LoneStep}
+use Rattle.firmware.specs.declared.steps.LoneStep.the-variants.{Order, Take}
 
 -- ---- calls that lend one buffer to be written
 

@@ -16,12 +16,12 @@ use Rattle.column.specs.Sets.{minus}
 use Rattle.column.specs.Columns.{standing, withRegisters}
 use Rattle.column.specs.laws.PageExact.{read-above, read-within, write-elsewhere, write-mask, write-clear}
 use Rattle.column.specs.declared.tree.Tree.{Tree}
-use Rattle.closing.specs.Text.{written}
 use Rattle.column.specs.declared.state.Column.{Column}
-use Rattle.firmware.specs.declared.steps.LoneStep.the-variants.{Take}
+use Rattle.text.specs.Text.{written}
 use Rattle.firmware.specs.Blocks.{treeSize, treeIn, columnSize, columnIn, blockSizes, columnBytes}
 use Rattle.firmware.specs.Calls.{otherSize, packetSize, Called, uncalled, stepLeft, stepSizes, stepCall, takeCall, byteCall, called, writeCall}
 use Rattle.firmware.specs.inner.StepCalls.{stepOf}
+use Rattle.firmware.specs.declared.steps.LoneStep.the-variants.{Take}
 
 -- ---- sizes
 

@@ -5,9 +5,9 @@ use mathlib.Core.List.{List, [], _∷_, _++_}
 use lib.ListN.{length, replicate}
 use borrow.Author.Tests.{lt-ltb, le-ltb}
 use Rattle.column.specs.Refusals.{Given, given, refused}
-use Rattle.closing.specs.Text.{bytes, written, allDigits, valueFrom, leadingZero, numeral, startsWith, afterKey}
-use Rattle.closing.specs.Tables.{withFirst, cut, longer, pieces, numeralIn}
-use Rattle.closing.specs.Closing.{placed}
+use Rattle.text.specs.Text.{bytes, written, allDigits, valueFrom, leadingZero, numeral, startsWith, afterKey}
+use Rattle.text.specs.Pieces.{withFirst, cut, longer, pieces, numeralIn}
+use Rattle.list.specs.Closing.{placed}
 use Rattle.journals.specs.Journals.{lineJudged, linePieces, lineIn, lineOf, withEntry, cutEntries, entriesIn, withOwner, owned, headed, journalOf, hasLine, onceEach, allHeard, missing, pairCompared, bothCompared, compared}
 
 -- the answer with a buffer of 12 bytes

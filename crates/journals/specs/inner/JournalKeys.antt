@@ -3,7 +3,7 @@ use Prim.Native.Nat.{ℕ, _+_, _/_}
 use mathlib.Core.List.{List, [], _∷_}
 use lib.ListN.{length, take}
 use Rattle.column.specs.Refusals.{Given, given, refused}
-use Rattle.closing.specs.Tables.{Cut, ended, unended}
+use Rattle.text.specs.Pieces.{Cut, ended, unended}
 use Rattle.journals.specs.Journals.{Entry, lineOf, journalLimit}
 use Rattle.journals.specs.inner.LineWords.{keyOf}
 use Rattle.journals.specs.declared.line.Line.{Line}

@@ -4,7 +4,7 @@ use mathlib.Core.Bool.{Bool, _&&_, not, _||_, true}
 use mathlib.Core.List.{List}
 use lib.Dec.{eqb}
 use lib.ListN.{length, getD}
-use Rattle.bank.specs.Words.{numbers}
+use Rattle.column.specs.Columns.{numbers}
 use Rattle.journals.specs.inner.Chains.{among}
 use Rattle.journals.specs.declared.line.Way.{Way}
 use Rattle.journals.specs.declared.line.Way.the-variants.{Sent, Got}

@@ -10,8 +10,8 @@ use lib.ListN.{length, replicate, length-replicate, getD-replicate}
 use borrow.Author.Tests.{eq-eqb, ne-eqb, le-leb, lt-leb, leb-true, leb-false, eqb-true}
 use Rattle.column.specs.Refusals.{first, Given, given, refused}
 use Rattle.column.specs.laws.Cases.{and-left, and-right, or-cases, truth}
-use Rattle.closing.specs.Text.{written, Writes}
-use Rattle.closing.specs.Closing.{Listed, placed}
+use Rattle.text.specs.Text.{written, Writes}
+use Rattle.list.specs.Closing.{Listed, placed}
 use Rattle.journals.specs.inner.Chains.{buckets, Indexed, lastWith}
 use Rattle.journals.specs.Journals.{Journal, journalOf, onceEach, allHeard, missingText, declined, pairConditions, pairCompared, bothCompared, compared, comparedMeant, sameWay, line, sameLine, hasLine, entriesOf, Once, Entry, about, journal, journalText, journalLimit}
 use Rattle.journals.specs.inner.JournalKeys.{linesLimit}

@@ -9,15 +9,14 @@ use lib.Dec.{eqb, ltb}
 use lib.ListN.{length, take, drop, length-drop}
 use lib.Seq.{take-all}
 use borrow.Author.Tests.{eq-eqb, ne-eqb, le-ltb, le-leb, ltb-true, ltb-false}
-use Rattle.bytes.specs.Bytes.{indexOf, slice}
 use Rattle.column.specs.laws.Cases.{equal-cases}
 use Rattle.column.specs.Refusals.{Given, given, refused}
-use Rattle.bank.specs.Words.{numbers}
-use Rattle.closing.specs.Text.{comma, Reading, read, unread, numeral, startsWith, afterKey}
-use Rattle.closing.specs.Tables.{pieces, longer}
-use Rattle.closing.specs.laws.ReadingLaws.{rest-of, after-rest, after-other, numeral-none}
-use Rattle.closing.specs.laws.Cutting.{pieces-next, piecesFrom, pieces-all, pieces-end, piece-from}
-use Rattle.closing.specs.laws.LineLaws.{comma-numeral}
+use Rattle.column.specs.Columns.{numbers}
+use Rattle.text.specs.Text.{comma, Reading, read, unread, numeral, startsWith, afterKey}
+use Rattle.text.specs.Pieces.{pieces, longer}
+use Rattle.text.specs.laws.ReadingLaws.{rest-of, after-rest, after-other, numeral-none}
+use Rattle.text.specs.laws.Cutting.{pieces-next, piecesFrom, pieces-all, pieces-end, piece-from, comma-numeral}
+use Rattle.bytes.specs.Bytes.{indexOf, slice}
 use Rattle.journals.specs.Journals.{sentKey, gotKey, line, messageKind, acknowledgementKind, goodLine, lineJudged, linePieces, lineIn, lineOf}
 use Rattle.journals.specs.laws.JournalLaws.{is-good}
 use Rattle.journals.specs.declared.line.Way.{Way}

@@ -5,15 +5,15 @@ use mathlib.Core.Logic.{_≢_}
 use mathlib.Core.Bool.{Bool, true, false, cond}
 use mathlib.Core.List.{List, [], _∷_, _++_, append-assoc, append-nil}
 use native.Mathlib.Omega.{arith}
+use native.Mathlib.Numerals.{add-one}
 use lib.Dec.{eqb}
 use lib.ListN.{length, take, drop, set, length-drop, length-append, drop-of-length-le}
 use lib.Seq.{take-suc-set, drop-drop}
-use native.Mathlib.Numerals.{add-one}
 use Rattle.column.specs.Refusals.{Given, given, refused}
-use Rattle.closing.specs.Text.{newline}
-use Rattle.closing.specs.Tables.{Cut, ended, unended, withFirst, cut}
+use Rattle.text.specs.Text.{newline}
+use Rattle.text.specs.Pieces.{Cut, ended, unended, withFirst, cut}
+use Rattle.text.specs.laws.Cutting.{line-ended, line-unended, line-length}
 use Rattle.bytes.specs.Bytes.{indexOf, slice}
-use Rattle.closing.specs.laws.Cutting.{line-ended, line-unended, line-length}
 use Rattle.journals.specs.Journals.{lineOf, Entry, entry, withEntry, cutEntries, entriesIn}
 use Rattle.journals.specs.inner.JournalKeys.{shortestLine, nextOf, nextCut, valuesOf, valuesIn, entryKey, entrySize, Next}
 use Rattle.journals.specs.inner.LineWords.{keyOf}

@@ -11,12 +11,12 @@ use lib.ListN.{length, getD, length-append}
 use borrow.Author.Tests.{ne-eqb, lt-ltb, le-ltb, le-leb, ltb-true, ltb-false, leb-true}
 use Rattle.column.specs.laws.Cases.{truth, and-left, and-right}
 use Rattle.column.specs.Refusals.{given}
-use Rattle.bank.specs.Words.{numbers}
-use Rattle.closing.specs.Text.{columnKey, newline, comma, decimalIn, decimal, read, isDigit, allDigits, valueFrom, leadingZero, numeral, startsWith, afterKey}
-use Rattle.closing.specs.Tables.{ended, withFirst, cut, longer, pieces, numeralIn, keyed}
-use Rattle.closing.specs.inner.Texts.{digits}
-use Rattle.closing.specs.laws.ReadingLaws.{numeral-digits, leading-one, leading-other}
-use Rattle.closing.specs.laws.DecimalLaws.{decimal-length, decimal-some}
+use Rattle.column.specs.Columns.{numbers}
+use Rattle.text.specs.Text.{columnKey, newline, comma, decimalIn, decimal, read, isDigit, allDigits, valueFrom, leadingZero, numeral, startsWith, afterKey}
+use Rattle.text.specs.Pieces.{ended, withFirst, cut, longer, pieces, numeralIn, keyed}
+use Rattle.text.specs.inner.Texts.{digits}
+use Rattle.text.specs.laws.ReadingLaws.{numeral-digits, leading-one, leading-other}
+use Rattle.text.specs.laws.DecimalLaws.{decimal-length, decimal-some}
 use Rattle.journals.specs.Journals.{sentKey, gotKey, line, messageKind, acknowledgementKind, goodLine, lineJudged, linePieces, lineIn, lineOf, withEntry, cutEntries, entriesIn, withOwner, owned, headed, journalOf, journalLimit, wayKey, lineText, linesText, journalText, entriesOf}
 use Rattle.journals.specs.declared.line.Way.{Way}
 use Rattle.journals.specs.declared.line.Way.the-variants.{Sent, Got}

@@ -11,9 +11,9 @@ use lib.ListN.{length, getD}
 use borrow.Author.Tests.{eq-eqb, eqb-true, ltb-true, eqb-false}
 use Rattle.column.specs.laws.Cases.{or-cases, and-left, and-right, same-truth}
 use Rattle.column.specs.Refusals.{Given, given, refused}
-use Rattle.bank.specs.Words.{numbers}
-use Rattle.closing.specs.Text.{Reading, read, unread, numeral, startsWith, afterKey}
-use Rattle.closing.specs.Tables.{Cut, ended, unended, cut, pieces}
+use Rattle.column.specs.Columns.{numbers}
+use Rattle.text.specs.Text.{Reading, read, unread, numeral, startsWith, afterKey}
+use Rattle.text.specs.Pieces.{Cut, ended, unended, cut, pieces}
 use Rattle.journals.specs.inner.Chains.{among, distinct}
 use Rattle.journals.specs.Journals.{sentKey, gotKey, line, messageKind, acknowledgementKind, goodLine, lineJudged, linePieces, lineIn, lineOf, Entry, withEntry, cutEntries, entriesIn, hasLine, onceEach, allHeard}
 use Rattle.journals.specs.inner.LineWords.{byteValues, keyOf, heardKey, heardKeys}

@@ -6,7 +6,7 @@ use native.Mathlib.Omega.{arith}
 use lib.Dec.{eqb}
 use borrow.Author.Tests.{eq-eqb, eqb-true}
 use Rattle.column.specs.laws.Cases.{same-truth}
-use Rattle.bank.specs.Words.{numbers}
+use Rattle.column.specs.Columns.{numbers}
 use Rattle.journals.specs.Journals.{line, sameWay, sameLine, about}
 use Rattle.journals.specs.laws.ComparingLaws.{line-same, same-line}
 use Rattle.journals.specs.inner.LineWords.{byteValues, wayNumber, ways, word, keyOf, wayIn, kindIn, otherIn, numberIn, aboutKey, turned}

@@ -10,9 +10,9 @@ use lib.ListN.{length, getD, take, drop, length-drop, length-append, drop-of-len
 use lib.Seq.{drop-drop, drop-cons, take-all}
 use borrow.Author.Tests.{eqb-true}
 use Rattle.column.specs.Refusals.{Given, given, refused}
-use Rattle.closing.specs.Text.{newline, written, Writes}
-use Rattle.closing.specs.laws.WritingLaws.{writes-none, writes-more}
-use Rattle.closing.specs.Tables.{Cut, ended, unended, withFirst, cut}
+use Rattle.text.specs.Text.{newline, written, Writes}
+use Rattle.text.specs.laws.WritingLaws.{writes-none, writes-more}
+use Rattle.text.specs.Pieces.{Cut, ended, unended, withFirst, cut}
 use Rattle.journals.specs.inner.Chains.{among}
 use Rattle.journals.specs.Journals.{line, lineOf, Entry, entry, withEntry, cutEntries, entriesIn, about, hasLine, missing}
 use Rattle.journals.specs.inner.LineWords.{byteValues, keyOf}

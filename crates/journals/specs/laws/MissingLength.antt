@@ -8,9 +8,9 @@ use lib.Dec.{ltb, eqb}
 use lib.ListN.{length, length-append}
 use borrow.Author.Tests.{eq-eqb, le-leb}
 use Rattle.column.specs.Refusals.{first, Given, given, refused}
-use Rattle.closing.specs.Text.{columnKey, Reading, read, unread, written, newline}
-use Rattle.closing.specs.Tables.{Cut, ended, unended, cut, keyed, withFirst}
-use Rattle.closing.specs.Closing.{placed}
+use Rattle.text.specs.Text.{columnKey, Reading, read, unread, written, newline}
+use Rattle.text.specs.Pieces.{Cut, ended, unended, cut, keyed, withFirst}
+use Rattle.list.specs.Closing.{placed}
 use Rattle.journals.specs.Journals.{Entry, entriesIn, Journal, withOwner, owned, headed, journalLimit, journalOf, missing, missingText, pairConditions, pairCompared, bothCompared, compared, withEntry, lineOf, cutEntries, about, line, hasLine}
 use Rattle.journals.specs.inner.MissingTexts.{entriesGiven, entriesFrom}
 use Rattle.journals.specs.inner.ReadJournals.{linesIn}

@@ -8,12 +8,12 @@ use native.Mathlib.Omega.{arith}
 use lib.ListN.{length, take, drop, length-drop}
 use lib.Seq.{length-take-le}
 use borrow.Author.Tests.{lt-ltb, le-ltb}
-use Rattle.bytes.specs.Bytes.{indexOf, slice}
 use Rattle.column.specs.Refusals.{Given, given, refused}
-use Rattle.closing.specs.Text.{columnKey, newline, read, unread}
-use Rattle.closing.specs.Tables.{keyed}
-use Rattle.closing.specs.laws.ReadingLaws.{rest-of}
-use Rattle.closing.specs.laws.Cutting.{line-ended, line-unended}
+use Rattle.text.specs.Text.{columnKey, newline, read, unread}
+use Rattle.text.specs.Pieces.{keyed}
+use Rattle.text.specs.laws.ReadingLaws.{rest-of}
+use Rattle.text.specs.laws.Cutting.{line-ended, line-unended}
+use Rattle.bytes.specs.Bytes.{indexOf, slice}
 use Rattle.journals.specs.Journals.{Entry, withOwner, owned, headed, journalLimit, journalOf, onceEach, allHeard, missing}
 use Rattle.journals.specs.inner.JournalKeys.{linesLimit, entryKey, entrySize, valuesOf, valuesIn}
 use Rattle.journals.specs.inner.LineWords.{byteValues, heardKeys}

@@ -1,14 +1,14 @@
-use borrow.Author.Needs.{needs}
 use Prim.Native.Nat.{ℕ, _+_, _-_, _≤_}
-use native.Mathlib.Numerals.{add-one}
 use mathlib.Core.Path.{_≡_, sym, ap, _∙_}
+use native.Mathlib.Numerals.{add-one}
 use lib.ListN.{length, take, replicate}
 use lib.Seq.{length-take-le}
+use borrow.Author.Needs.{needs}
 use Rattle.bank.specs.Banks.{capacity}
-use Rattle.closing.specs.Advances.{progressOf, bufferSize, fill, filledBy, start as beginning}
-use Rattle.closing.specs.laws.Printing.{calls-next}
-use Rattle.closing.specs.laws.ScriptLaws.{text-within}
-use Rattle.closing.specs.declared.script.Run.{Run}
+use Rattle.script.specs.Advances.{progressOf, bufferSize, fill, filledBy, start as beginning}
+use Rattle.script.specs.laws.Printing.{calls-next}
+use Rattle.script.specs.laws.ScriptLaws.{text-within}
+use Rattle.script.specs.declared.script.Run.{Run}
 use Rattle.lockers.proofs.main.Statement.{statement}
 use Rattle.lockers.proofs.main.Tie as tie
 

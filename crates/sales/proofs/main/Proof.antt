@@ -1,8 +1,8 @@
-use borrow.Author.Needs.{needs}
 use mathlib.Core.Path.{sym}
 use native.Mathlib.Omega.{arith}
 use lib.Seq.{length-take-le}
-use Rattle.closing.specs.laws.WritingLaws.{writes-within}
+use borrow.Author.Needs.{needs}
+use Rattle.text.specs.laws.WritingLaws.{writes-within}
 use Rattle.sales.proofs.main.Statement.{statement}
 use Rattle.sales.proofs.main.Tie as tie
 

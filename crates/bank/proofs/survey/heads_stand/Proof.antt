@@ -1,5 +1,4 @@
 -- The packets before place k have ends that stand, and whether they stand is whether their receivers, gathered, run.
-use borrow.Author.Needs.{needs}
 use Prim.Native.Nat.{ℕ, _<_, _≤_, _-_, _*_, _/_, _%_, _^_}
 use mathlib.Core.Bool.{Bool, _&&_}
 use mathlib.Core.Path.{_≡_, sym, ap, _∙_}
@@ -9,14 +8,16 @@ use native.Mathlib.Omega.{arith}
 use lib.Dec.{eqb}
 use lib.ListN.{getD}
 use lib.Pow.{pow-lt, pow-pos}
+use borrow.Author.Needs.{needs}
 use borrow.Author.Tests.{not-true, not-false}
 use Rattle.column.specs.Sets.{has, join}
 use Rattle.column.specs.laws.SetLaws.{insert-lt}
 use Rattle.column.specs.Trees.{every}
 use Rattle.column.specs.laws.TreeLaws.{every-fails}
+use Rattle.column.specs.Columns.{numbers}
 use Rattle.bank.specs.inner.Surveys.{pairStands, headStands}
 use Rattle.bank.specs.laws.HeadLaws.{pair-below, head-pair, covers-none, covers-insert}
-use Rattle.bank.specs.Words.{numbers, receiverIn}
+use Rattle.bank.specs.Words.{receiverIn}
 use Rattle.bank.proofs.survey.heads_stand.Statement.{statement}
 use Rattle.bank.proofs.survey.heads_stand.Tie as tie
 

@@ -3,13 +3,13 @@ use mathlib.Core.Path.{_≡_, sym, ap, ap₂, _∙_}
 use mathlib.Core.Bool.{false}
 use lib.ListN.{length}
 use borrow.Author.Tests.{not-true, not-false}
+use borrow.Author.Needs.{needs}
 use Rattle.column.specs.declared.tree.Tree.{Tree}
 use Rattle.column.specs.declared.state.Column.{Column}
-use Rattle.closing.specs.Closing.{Listed, listed, loneList}
+use Rattle.list.specs.Closing.{Listed, listed, loneList}
 use Rattle.firmware.specs.Blocks.{treeIn, columnIn, blockSizes}
 use Rattle.firmware.specs.Calls.{filled, listLeft, listCall}
 use Rattle.firmware.specs.laws.CallLaws.{Sized, sized}
-use borrow.Author.Needs.{needs}
 use Rattle.firmware.proofs.state.mudasgup_list.Statement.{statement}
 use Rattle.firmware.proofs.state.mudasgup_list.Tie as tie
 

@@ -6,14 +6,14 @@ use native.Mathlib.Omega.{arith}
 use lib.Dec.{leb}
 use lib.ListN.{length, length-append}
 use borrow.Author.Tests.{not-true, not-false, leb-true}
-use Rattle.closing.specs.Text.{Writes}
-use Rattle.closing.specs.laws.WritingLaws.{writes-more}
+use borrow.Author.Needs.{needs}
+use Rattle.text.specs.Text.{Writes}
+use Rattle.text.specs.laws.WritingLaws.{writes-more}
 use Rattle.journals.specs.inner.MissingTexts.{textFrom}
 use Rattle.journals.specs.Journals.{missing}
 use Rattle.journals.specs.inner.ReadJournals.{linesIn}
 use Rattle.journals.specs.laws.ReadJournalLaws.{missing-text, as-many, walk-start}
 use Rattle.journals.specs.laws.ComparingLaws.{placed-short, placed-all}
-use borrow.Author.Needs.{needs}
 use Rattle.journals.proofs.comparison.write_missing.Statement.{statement}
 use Rattle.journals.proofs.comparison.write_missing.Tie as tie
 

@@ -2,11 +2,11 @@ use Prim.Native.Nat.{_+_, _≤_}
 use mathlib.Core.Path.{sym, ap, subst, _∙_}
 use native.Mathlib.Omega.{arith}
 use lib.ListN.{length}
-use Rattle.closing.specs.Text.{numberMeant}
+use borrow.Author.Needs.{needs}
+use Rattle.text.specs.Text.{numberMeant}
 use Rattle.journals.specs.inner.JournalKeys.{countMeant, countOf}
 use Rattle.journals.specs.laws.ReadJournalLaws.{journal-long, journal-unended, journal-unread, journal-above, journal-owned, read-refused, read-headed}
 use Rattle.journals.specs.declared.journal.Count.{Count}
-use borrow.Author.Needs.{needs}
 use Rattle.journals.proofs.journal.read_journal.Statement.{statement}
 use Rattle.journals.proofs.journal.read_journal.Tie as tie
 

@@ -2,8 +2,8 @@ use Prim.Native.Nat.{_+_, _-_}
 use mathlib.Core.Path.{_≡_, sym}
 use lib.ListN.{length, take, drop}
 use borrow.Author.Needs.{needs}
-use Rattle.closing.specs.Text.{numeral, numberMeant}
-use Rattle.closing.specs.Tables.{pieces}
+use Rattle.text.specs.Text.{numeral, numberMeant}
+use Rattle.text.specs.Pieces.{pieces}
 use Rattle.journals.specs.Journals.{lineJudged, linePieces}
 use Rattle.journals.specs.laws.FieldLaws.{fields-one, fields-two, fields-three}
 use Rattle.journals.proofs.line.fields.Statement.{statement}

@@ -1,7 +1,7 @@
-use borrow.Author.Needs.{needs}
 use mathlib.Core.Path.{sym, _∙_}
 use native.Mathlib.Omega.{arith}
-use Rattle.closing.specs.laws.ReadingLaws.{starts-length}
+use borrow.Author.Needs.{needs}
+use Rattle.text.specs.laws.ReadingLaws.{starts-length}
 use Rattle.journals.specs.Journals.{sentKey, gotKey}
 use Rattle.journals.specs.laws.FieldLaws.{sent-line, got-line, no-line}
 use Rattle.journals.proofs.line.read_line.Statement.{statement}

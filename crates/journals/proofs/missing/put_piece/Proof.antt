@@ -4,9 +4,9 @@ use mathlib.Core.List.{List, _++_}
 use native.Mathlib.Omega.{arith}
 use lib.ListN.{length, take, drop}
 use borrow.Author.Tests.{not-true, not-false}
-use Rattle.closing.specs.laws.WritingLaws.{writes-none, written-part}
-use Rattle.journals.specs.laws.MissingLaws.{copied}
 use borrow.Author.Needs.{needs}
+use Rattle.text.specs.laws.WritingLaws.{writes-none, written-part}
+use Rattle.journals.specs.laws.MissingLaws.{copied}
 use Rattle.journals.proofs.missing.put_piece.Statement.{statement}
 use Rattle.journals.proofs.missing.put_piece.Tie as tie
 

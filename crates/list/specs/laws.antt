@@ -1,0 +1,2 @@
+pub mod DoorLaws
+pub mod ClosingLaws

@@ -1,0 +1,4 @@
+pub mod LossTexts
+pub mod inner
+pub mod laws
+pub mod examples

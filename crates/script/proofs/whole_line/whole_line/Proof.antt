@@ -1,0 +1,84 @@
+use mathlib.Core.Path.{sym, ap, _∙_}
+use mathlib.Core.Bool.{true≢false}
+use borrow.Author.Needs.{needs}
+use Rattle.bank.specs.Banks.{state}
+use Rattle.script.specs.Scripts.{answered}
+use Rattle.script.specs.laws.ScriptLaws.{step-answers, dispatch-answers}
+use Rattle.script.specs.inner.ScriptLines.{byPlace}
+use Rattle.script.proofs.whole_line.whole_line.Statement.{statement}
+use Rattle.script.proofs.whole_line.whole_line.Tie as tie
+
+enum-known-line : tie.Need-enum-known-line
+enum-known-line c = search needs
+
+whole-step-requires : tie.Need-whole-step-requires
+whole-step-requires c κs = search needs
+
+put-step-requires : tie.Need-put-step-requires
+put-step-requires c κs = search needs
+
+enum-known-line-2 : tie.Need-enum-known-line-2
+enum-known-line-2 c = search needs
+
+dispatch-requires : tie.Need-dispatch-requires
+dispatch-requires c κs = search needs
+
+put-dispatched-requires : tie.Need-put-dispatched-requires
+put-dispatched-requires c κs = search needs
+
+enum-told : tie.Need-enum-told
+enum-told c = search needs
+
+enum-told-2 : tie.Need-enum-told-2
+enum-told-2 c = search needs
+
+same-length : tie.Need-same-length
+same-length c = search needs
+
+returns : tie.Need-returns
+unfolding answered
+returns c =
+    let p = c .before .before in
+    let d = p .before .before .before in
+    let x = d .before .before .before .before in
+    let s = x .before .before .before in
+    rw (x .line .given .1)
+    (step-answers (d .whole-step .result) _ (d .whole-step .ensures (sym (ap byPlace (x .line .given .1)) ∙ s .pre .0)) (p .put-step .ensures))
+
+same-length-2 : tie.Need-same-length-2
+same-length-2 c = search needs
+
+returns-2 : tie.Need-returns-2
+unfolding answered
+returns-2 c =
+    let p = c .before .before in
+    let d = p .before .before .before in
+    let x = d .before .before .before .before in
+    let a = x .before .before .before .args in
+    rw (x .line2 .given .1)
+    (dispatch-answers (d .dispatch .result) _ (state (a .b) (a .heads .now) (a .doors .now)) (d .dispatch .ensures) (p .put-dispatched .ensures))
+
+returns-3 : tie.Need-returns-3
+returns-3 c = absurd (true≢false (sym (ap byPlace (c .enum-told .given .1)) ∙ c .before .before .before .pre .0))
+
+returns-4 : tie.Need-returns-4
+returns-4 c = absurd (true≢false (sym (ap byPlace (c .enum-told2 .given .1)) ∙ c .before .before .before .pre .0))
+
+pub whole-line-spec : {M : Type 1} → statement M
+whole-line-spec =
+    tie.close
+    (tie.spec
+    enum-known-line
+    whole-step-requires
+    put-step-requires
+    enum-known-line-2
+    dispatch-requires
+    put-dispatched-requires
+    enum-told
+    enum-told-2
+    same-length
+    returns
+    same-length-2
+    returns-2
+    returns-3
+    returns-4)

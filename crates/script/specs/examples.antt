@@ -1,0 +1,3 @@
+pub mod LineExamples
+pub mod ScriptExamples
+pub mod Edges

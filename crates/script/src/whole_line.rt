@@ -1,0 +1,102 @@
+// The lines of a script that may change more of a bank than one place and the newest packet: a halt, a return, a dispatch. They take the whole bank.
+use crate::answer::put_dispatched;
+use crate::answer::put_step;
+use crate::line::Line;
+use bank::bank::Answer;
+use bank::bank::Bank;
+use bank::bank::Result;
+use bank::bank::Step;
+use bank::dispatch::dispatch;
+use bank::step::back;
+use bank::step::halt;
+use bank::step::write;
+use bank::unchecked_for_script::is_move;
+ghost use Prim.Native.Nat.{_+_, _≤_};
+ghost use mathlib.Core.Path.{_≡_};
+ghost use mathlib.Core.Bool.{false};
+ghost use lib.ListN.{length};
+ghost use Rattle.bank.specs.Banks.{state};
+ghost use Rattle.bank.specs.Parts.{isMove};
+ghost use Rattle.bank.specs.Performs.{perform};
+ghost use Rattle.bank.specs.Steps.{outcome};
+ghost use Rattle.list.specs.Closing.{longestList};
+ghost use Rattle.script.specs.Lines.{lineMeant};
+ghost use Rattle.script.specs.Scripts.{answered};
+ghost use Rattle.script.specs.inner.ScriptLines.{Answers, byPlace};
+
+// The bank after a line, and where its text ends.
+pub(crate) struct LineDone {
+    pub bank: Bank,
+    pub end: usize,
+}
+
+// Whether the line rewrites the place of one column at most.
+pub(crate) fn by_place(line: Line) -> bool
+    ensures { λ r. ⌜ r ≡ byPlace line ⌝ }
+{
+    match line {
+        Line::Perform(x) => is_move(x),
+        Line::List(_) => true,
+        Line::Dispatch(_) => false,
+        Line::Unread => true,
+    }
+}
+
+// What goes by place is none of these steps, and refused.
+fn no_step(b: Bank) -> Result
+    ensures { λ r. ⌜ r .bank ≡ b ⌝ }
+{
+    Result {
+        bank: b,
+        answer: Answer::Refused(10),
+    }
+}
+
+// The bank after a step that does not go by place.
+fn whole_step(b: Bank, x: Step, heads: &mut [u64; 512], doors: &mut [u64; 512]) -> Result
+    ensures { λ r. ⌜ (isMove x ≡ false → outcome r (now (heads .exit)) (now (doors .exit)) ≡ perform (state b (now (heads .entry)) (now (doors .entry))) x) ⌝ }
+{
+    match x {
+        Step::Halt(m) => halt(b, m, heads, doors),
+        Step::Back(j) => back(b, j, heads, doors),
+        Step::Write(i, offset, value) => write(b, i, offset, value, heads, doors),
+        Step::Order(_) => no_step(b),
+        Step::Send(_) => no_step(b),
+        Step::Take(_) => no_step(b),
+        Step::Ack(_) => no_step(b),
+        Step::All(_) => no_step(b),
+        Step::Note(_, _) => no_step(b),
+    }
+}
+
+// The line, which does not go by place.
+pub(crate) fn whole_line(
+    b: Bank,
+    line: Line,
+    heads: &mut [u64; 512],
+    doors: &mut [u64; 512],
+    out: &mut [u8],
+    at: usize,
+) -> LineDone
+    requires { ⌜ (byPlace line ≡ false) × (at + longestList ≤ length (now out)) ⌝ }
+    ensures { λ r. ⌜ Answers (answered (state b (now (heads .entry)) (now (doors .entry))) (lineMeant line)) (r .bank) (now (heads .exit)) (now (doors .exit)) (r .end) (now (out .exit)) (now (out .entry)) at ⌝ }
+{
+    match line {
+        Line::Perform(x) => {
+            let done = whole_step(b, x, heads, doors);
+            let answer = done.answer;
+            let bank = done.bank;
+            let end = put_step(answer, out, at);
+            LineDone { bank, end }
+        }
+        Line::Dispatch(limit) => {
+            let done = dispatch(b, limit, heads, doors);
+            let answer = done.answer;
+            let bank = done.bank;
+            let end = put_dispatched(answer, done.steps, out, at);
+            LineDone { bank, end }
+        }
+        Line::List(_) => LineDone { bank: b, end: at },
+        Line::Unread => LineDone { bank: b, end: at },
+    }
+}

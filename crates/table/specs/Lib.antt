@@ -1,0 +1,4 @@
+pub mod Tables
+pub mod inner
+pub mod laws
+pub mod examples

@@ -1,0 +1,3 @@
+pub mod NumberListLaws
+pub mod TableLaws
+pub mod TableTexts

@@ -1,0 +1,3 @@
+// The table of a bank as text.
+mod number_list;
+pub mod table;

@@ -1,0 +1,46 @@
+use mathlib.Core.List.{[], _∷_}
+use borrow.Author.Needs.{needs}
+use Rattle.text.specs.Text.{comma, decimal}
+use Rattle.text.specs.laws.WritingLaws.{puts-more}
+use Rattle.text.proofs.writing.put_next.Statement.{statement}
+use Rattle.text.proofs.writing.put_next.Tie as tie
+
+put-number-requires : tie.Need-put-number-requires
+put-number-requires c κs = search needs
+
+same-length : tie.Need-same-length
+same-length c = search needs
+
+returns : tie.Need-returns
+returns c =
+    let k = c .before .before in
+    rw (k .before .before .if1 .taken) (k .put-number .ensures)
+
+put-byte-requires : tie.Need-put-byte-requires
+put-byte-requires c κs = search needs
+
+put-number-requires-2 : tie.Need-put-number-requires-2
+put-number-requires-2 c κs = search needs
+
+same-length-2 : tie.Need-same-length-2
+same-length-2 c = search needs
+
+returns-2 : tie.Need-returns-2
+returns-2 c =
+    let k = c .before .before in
+    let p = k .before .before .before .before in
+    let t = p .before .before in
+    rw (t .if1 .left)
+    (puts-more (comma ∷ []) (decimal (t .before .before .args .n)) (p .put-byte .ensures) (k .put-number2 .ensures))
+
+pub put-next-spec : {M : Type 1} → statement M
+put-next-spec =
+    tie.close
+    (tie.spec
+    put-number-requires
+    same-length
+    returns
+    put-byte-requires
+    put-number-requires-2
+    same-length-2
+    returns-2)
