@@ -1,8 +1,8 @@
 # What ./lockers, ./fastest, ./journals and ./losses share, read by each: it builds the program of a crate where it must, hands it a file or standard input, or
 # two files, and tells by its status whether all was read and written, since the program has no exit status of its own. Each sets before it reads
-# this: `folder`, that of the repository; `name`, its own; `crates`, those that the program rests on, the program's the last; `given`, what it is
-# given, in a word; `most`, as many bytes as the program reads of it; `help`, which prints how it is called; and `pair`, where it is given two.
-crate=${crates[-1]}
+# this: `folder`, that of the repository; `name`, its own, which its program's crate has before `_main`; `given`, what it is given, in a
+# word; `most`, as many bytes as the program reads of it; `help`, which prints how it is called; and `pair`, where it is given two.
+crate=${name}_main
 program=$folder/target/bin/$crate
 log=$folder/target/log/$crate-build.out
 
@@ -11,8 +11,16 @@ fail() {
     exit 1
 }
 
+# The folders of the program's crate and of those that it rests on; the kit's own have none.
+crate_folders() {
+    local each
+    for each in "$crate" $(sed -n "s/^$crate://p" crates.txt); do
+        [ ! -d "crates/$each" ] || echo "crates/$each"
+    done
+}
+
 is_built() {
-    [ -x "$program" ] && [ -z "$(cd "$folder" && find crates.txt "${crates[@]/#/crates/}" -newer "$program")" ]
+    [ -x "$program" ] && [ -z "$(cd "$folder" && find crates.txt $(crate_folders) -newer "$program")" ]
 }
 
 build() {

@@ -4,14 +4,12 @@ import functools
 import os
 import re
 import subprocess
-import sys
 
+from archive import INCLUDE, archive, exported
 from laps import COLD, COUNTED, COUNTED_FRAMES, STEPS
-from measure import FOLDER, ROOT, Side, Work, compiled, run
+from measure import FOLDER, Side, Work, compiled, run
+from repository import ROOT
 from row import Row
-
-sys.path.append(os.path.join(ROOT, "tests"))
-from firmware import INCLUDE, archive, exported
 
 # Letter and name of each call: those of a lone column that are steps as there, then the others.
 CALLS = [(letter, name) for letter, name in STEPS if letter in "osmalnh"] + [

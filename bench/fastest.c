@@ -1,4 +1,4 @@
-/* The table of a fastest tree in plain C: what crates/installer is measured beside. */
+/* The table of a fastest tree in plain C: what crates/fastest_main is measured beside. */
 #include "text.h"
 
 enum { MOST_TIME = 255 };

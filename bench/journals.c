@@ -1,4 +1,4 @@
-/* Two journals compared in plain C: what crates/fitter is measured beside. Lines are found by chains of equal remainders, as there. */
+/* Two journals compared in plain C: what crates/journals_main is measured beside. Lines are found by chains of equal remainders, as there. */
 #include <stdint.h>
 #include <stdio.h>
 #include <string.h>

@@ -1,4 +1,4 @@
-/* What the programs of laps share, as crates/laps on the other side. */
+/* What the programs of laps share, as crates/laps_timing on the other side. */
 #ifndef LAPS_H
 #define LAPS_H
 #include "column.h"

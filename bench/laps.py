@@ -1,5 +1,6 @@
 """Rows of laps: one step of a lone column and of a bank, a frame read, and a bank dispatched to rest."""
-from measure import Side, Work, built, plain
+from measure import Side, Work, plain
+from repository import built
 from row import Row
 
 STEPS = [("o", "order"), ("s", "send, a message put"), ("m", "take, a message received"), ("e", "take, an acknowledgement"),

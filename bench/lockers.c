@@ -1,4 +1,4 @@
-/* The script program of document 01 in plain C, in place: what crates/lockers is measured beside. */
+/* The script program of document 01 in plain C, in place: what crates/lockers_main is measured beside. */
 #include "text.h"
 
 enum { LONGEST_LIST = 229 };

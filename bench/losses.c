@@ -1,4 +1,4 @@
-/* How many halts lose the order, in plain C, in place: what crates/sales is measured beside. */
+/* How many halts lose the order, in plain C, in place: what crates/losses_main is measured beside. */
 #include "text.h"
 
 enum { MOST_COLUMNS = 8, TO_REST = 536 };

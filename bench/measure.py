@@ -8,7 +8,8 @@ import subprocess
 import sys
 import tempfile
 
-ROOT = os.path.dirname(os.path.dirname(os.path.abspath(__file__)))
+from repository import ROOT
+
 BANK = ("column.c", "bank.c", "dispatch.c")
 # The sources in C of each program.
 PLAIN = {"column_laps": ("column.c", "frame.c", "column_laps.c"), "bank_laps": (*BANK, "bank_laps.c"), "dispatch_laps": (*BANK, "dispatch_laps.c"),
@@ -27,10 +28,6 @@ Side = collections.namedtuple("Side", "program given words", defaults=("", ()))
 Work = collections.namedtuple("Work", "whole start units times", defaults=((), 1, 1))
 # What a unit costs on both sides, and the spread.
 Costs = collections.namedtuple("Costs", "ours theirs spread")
-
-
-def built(name):
-    return os.path.join(ROOT, "target", "bin", name)
 
 
 def compiled(name, *words):

@@ -4,10 +4,11 @@ import os
 import tempfile
 
 from journals import JOURNALS
-from losses import TREES, table
-from measure import FOLDER, Side, Work, built, plain
+from measure import FOLDER, Side, Work, plain
+from repository import built
 from row import Row
 from scripts import SCRIPTS
+from tree_losses import TREES, table
 
 # The most of their ratios; of scripts a list takes less than in C.
 SCRIPT_MOST, LIST_MOST, JOURNALS_MOST, LOSSES_MOST = 1.3, 1, 1.8, 1.3
@@ -20,9 +21,9 @@ REQUEST = "columns=16\ndelay=2\ngap=1\n"
 PROCESSES = 20
 
 
-def sides(proved, name, given, *words):
-    """A proved program and the plain one of a name."""
-    return [Side(program, given, words) for program in (built(proved), plain(name))]
+def sides(name, given, *words):
+    """The proved program of a command, and the plain one."""
+    return [Side(program, given, words) for program in (built(f"{name}_main"), plain(name))]
 
 
 def pulled(texts):
@@ -50,7 +51,7 @@ def without_start(part, most, first, others, pair):
 
 
 def script_sides(script):
-    return sides("lockers", "lockers", script)
+    return sides("lockers", script)
 
 
 def scripts():
@@ -59,7 +60,7 @@ def scripts():
 
 
 def compared(texts):
-    return sides("fitter", "journals", "", *pulled(texts))
+    return sides("journals", "", *pulled(texts))
 
 
 def journals():
@@ -75,7 +76,7 @@ def banks():
 
 
 def loss_sides(given):
-    return sides("sales", "losses", given)
+    return sides("losses", given)
 
 
 def losses():
@@ -84,7 +85,7 @@ def losses():
 
 def fastest():
     """Its work is too little to be told from the start of the process."""
-    return without_start("fastest", lambda name: None, ("fastest tree of 16 columns", REQUEST), [], lambda given: sides("installer", "fastest", given))
+    return without_start("fastest", lambda name: None, ("fastest tree of 16 columns", REQUEST), [], lambda given: sides("fastest", given))
 
 
 def rows():

@@ -1,5 +1,6 @@
 """The scripts that the program lockers is timed on: the longest that it reads, each filled with lines of one sort."""
-LIMIT = 65536
+from model import LIMIT
+
 TABLE = "columns=3\nroot=0\nup=0,0,1\n"
 ALL_DOORS = "order=ffffffffffffffff\n"
 # One order goes to every column and is acknowledged back to the root; between, a step refused with 6, 7, 10 and 4.

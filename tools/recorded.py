@@ -1,14 +1,10 @@
-"""The run of a script, step by step, for whoever draws it: what the program answers, and beside it what happens in the bank as `tests/model.py` follows
-it. Where an answer does not fit, there is no run to draw."""
-import contextlib
+"""The run of a script, step by step, for whoever draws it: what the program answers, and beside it what happens in the bank as the model follows it.
+Where an answer does not fit, there is no run to draw."""
 import os
 import subprocess
-import sys
-
-ROOT = os.path.dirname(os.path.dirname(os.path.abspath(__file__)))
-sys.path.insert(0, os.path.join(ROOT, "tests"))
 
 import model
+from repository import ROOT
 
 PROGRAM = os.path.join(ROOT, "lockers")
 
@@ -130,16 +126,6 @@ class Bank(model.Bank):
         return taken
 
 
-@contextlib.contextmanager
-def recording():
-    """While it lasts, the model makes banks that keep what happens in them."""
-    kept, model.Bank = model.Bank, Bank
-    try:
-        yield
-    finally:
-        model.Bank = kept
-
-
 def answers_of(program, script):
     """What the program prints for a script."""
     done = subprocess.run([program, script], capture_output=True, text=True)
@@ -165,19 +151,18 @@ def recorded(data, answers):
     """The bank after a script, with its moments and flights."""
     told = Answers(answers)
     text = data.decode("latin-1")
-    with recording():
-        try:
-            bank, steps = model.table(text, lambda words: None)
-        except model.Refused as refusal:
-            raise Unfit(f"the table is refused with {refusal.number}") from None
-        bank.moments[0].answer = told.next("table=ok\n", "table")
-        *lines, last = steps.split("\n")
-        for line in lines:
-            bank.begin(line)
-            step = bank.moments[-1]
-            step.answer = told.next(model.line(bank, line), line)
-            if step is bank.moments[-1]:
-                step.close(bank)
+    try:
+        bank, steps = model.table(text, lambda words: None, Bank)
+    except model.Refused as refusal:
+        raise Unfit(f"the table is refused with {refusal.number}") from None
+    bank.moments[0].answer = told.next("table=ok\n", "table")
+    *lines, last = steps.split("\n")
+    for line in lines:
+        bank.begin(line)
+        step = bank.moments[-1]
+        step.answer = told.next(model.line(bank, line), line)
+        if step is bank.moments[-1]:
+            step.close(bank)
     if last:
         bank.begin(last)
         bank.moments[-1].answer = told.next("refused=13\n", last)

@@ -1,5 +1,5 @@
 """What the runners of this folder share: a copy of the repository to spoil, and the reading of what the prover says of it."""
-import glob, os, re, shutil, subprocess, tempfile
+import os, re, shutil, subprocess, tempfile
 
 HERE = os.path.dirname(os.path.abspath(__file__))
 ROOT = os.path.dirname(os.path.dirname(HERE))

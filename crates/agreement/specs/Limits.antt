@@ -22,7 +22,7 @@ NeverFills = AfterEveryList (λ w. w .state .bank .count ≤ packetLimit (column
 abbrev pub At480 : Type 0
 At480 = AfterEveryList (λ w. w .state .bank .count ≤ 480)
 
--- a lower limit, and nearly met: 434 of the 435 for 16 have been under way (`crowded` of `tests/script_makers.py`)
+-- a lower limit, and nearly met: 434 of the 435 for 16 have been under way (`crowded` of `tests/generators/script_makers.py`)
 abbrev pub packetBound : ℕ → ℕ
 packetBound n = (n - 1) * (2 * n - 3)
 

@@ -6,8 +6,8 @@ use bank::step::note;
 use bank::step::send;
 use bank::step::take;
 use column::state::Column;
-use laps::fold;
-use laps::heap;
+use laps_timing::fold;
+use laps_timing::heap;
 ghost use Prim.Native.Nat.{_<_};
 
 // Column 15, and columns 3 to 15.

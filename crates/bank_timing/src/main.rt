@@ -3,7 +3,7 @@
 // step can be left out.
 mod bank_laps;
 
-use laps::number;
+use laps_timing::number;
 use libc::STDIN_FILENO;
 use libc::STDOUT_FILENO;
 

@@ -11,8 +11,8 @@ use column::step::order;
 use column::step::send;
 use column::step::take;
 use column::tree::Tree;
-use laps::fold;
-use laps::heap;
+use laps_timing::fold;
+use laps_timing::heap;
 ghost use Prim.Native.Nat.{_<_};
 
 // The trees of even and odd laps differ, so that no test of a tree is made once for all laps.

@@ -3,7 +3,7 @@ use column::frame::Count;
 use column::frame::FRAME_PACKETS;
 use column::frame::read_frame;
 use column::packet::Packet;
-use laps::fold;
+use laps_timing::fold;
 
 const MESSAGE_SIZE: usize = 15;
 

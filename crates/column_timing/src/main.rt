@@ -3,7 +3,7 @@
 mod column_laps;
 mod frame_laps;
 
-use laps::number;
+use laps_timing::number;
 use libc::STDIN_FILENO;
 use libc::STDOUT_FILENO;
 

@@ -11,8 +11,8 @@ use bank::step::order;
 use bank::step::send;
 use bank::step::take;
 use column::tree::Tree;
-use laps::fold;
-use laps::heap;
+use laps_timing::fold;
+use laps_timing::heap;
 ghost use Prim.Native.Nat.{_<_, _≤_};
 
 // More than any bank of sixteen columns needs.

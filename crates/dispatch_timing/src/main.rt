@@ -3,7 +3,7 @@
 // be left out.
 mod dispatch_laps;
 
-use laps::number;
+use laps_timing::number;
 use libc::STDIN_FILENO;
 use libc::STDOUT_FILENO;
 ghost use Prim.Native.Nat.{_≤_, _<_};

@@ -1,0 +1,54 @@
+use Prim.Native.Nat.{_-_, _≤_}
+use Rattle.column.specs.Frames.{framePackets}
+use borrow.Author.Needs.{needs}
+use Rattle.frames_test.proofs.print.filled.Statement.{statement}
+use Rattle.frames_test.proofs.print.filled.Tie as tie
+
+abbrev Inv-loop : tie.InvT-loop
+Inv-loop packets n₀ k₀ n k = (n ≤ k) × (k ≤ framePackets)
+
+abbrev μ-loop : tie.MeasureT-loop
+μ-loop packets n₀ k₀ n k = framePackets - k
+
+loop-holds : tie.Need-loop-holds Inv-loop μ-loop
+loop-holds c = search needs
+
+mul-slot : tie.Need-mul-slot Inv-loop μ-loop
+mul-slot c = search needs
+
+array-copy-out-slot : tie.Need-array-copy-out-slot Inv-loop μ-loop
+array-copy-out-slot c = search needs
+
+held-requires : tie.Need-held-requires Inv-loop μ-loop
+held-requires c κs = search needs
+
+add-n : tie.Need-add-n Inv-loop μ-loop
+add-n c = search needs
+
+add-k : tie.Need-add-k Inv-loop μ-loop
+add-k c = search needs
+
+loop-less : tie.Need-loop-less Inv-loop μ-loop
+loop-less c = search needs
+
+loop-again : tie.Need-loop-again Inv-loop μ-loop
+loop-again c = search needs
+
+returns : tie.Need-returns Inv-loop μ-loop
+returns c = search needs
+
+pub filled-spec : {M : Type 1} → statement M
+filled-spec =
+    tie.close
+    (tie.spec
+    Inv-loop
+    μ-loop
+    loop-holds
+    mul-slot
+    array-copy-out-slot
+    held-requires
+    add-n
+    add-k
+    loop-less
+    loop-again
+    returns)

@@ -1,0 +1,61 @@
+use borrow.Author.Needs.{needs}
+use Prim.Native.Nat.{_-_}
+use Rattle.handed_test.proofs.print.print_set.Statement.{statement}
+use Rattle.handed_test.proofs.print.print_set.Tie as tie
+
+abbrev Inv-loop : tie.InvT-loop
+Inv-loop key set comma₀ i₀ t6 comma i = Unit {0}
+
+abbrev μ-loop : tie.MeasureT-loop
+μ-loop key set comma₀ i₀ t6 comma i = 32 - i
+
+print-requires : tie.Need-print-requires Inv-loop μ-loop
+print-requires c κs = search needs
+
+slice-aggregate-print : tie.Need-slice-aggregate-print Inv-loop μ-loop
+slice-aggregate-print c = search needs
+
+print-requires-2 : tie.Need-print-requires-2 Inv-loop μ-loop
+print-requires-2 c κs = search needs
+
+loop-holds : tie.Need-loop-holds Inv-loop μ-loop
+loop-holds c = search needs
+
+print-member-requires : tie.Need-print-member-requires Inv-loop μ-loop
+print-member-requires c κs = search needs
+
+add-i : tie.Need-add-i Inv-loop μ-loop
+add-i c = search needs
+
+loop-less : tie.Need-loop-less Inv-loop μ-loop
+loop-less c = search needs
+
+loop-again : tie.Need-loop-again Inv-loop μ-loop
+loop-again c = search needs
+
+slice-aggregate-print-2 : tie.Need-slice-aggregate-print-2 Inv-loop μ-loop
+slice-aggregate-print-2 c = search needs
+
+print-requires-3 : tie.Need-print-requires-3 Inv-loop μ-loop
+print-requires-3 c κs = search needs
+
+returns : tie.Need-returns Inv-loop μ-loop
+returns c = search needs
+
+pub print-set-spec : {M : Type 1} → statement M
+print-set-spec =
+    tie.close
+    (tie.spec
+    Inv-loop
+    μ-loop
+    print-requires
+    slice-aggregate-print
+    print-requires-2
+    loop-holds
+    print-member-requires
+    add-i
+    loop-less
+    loop-again
+    slice-aggregate-print-2
+    print-requires-3
+    returns)

@@ -1,0 +1,59 @@
+use borrow.Author.Needs.{needs}
+use Prim.Native.Nat.{_-_}
+use mathlib.Core.Path.{_≡_}
+use lib.ListN.{length}
+use Rattle.pair_example.proofs.print.print_doors.Statement.{statement}
+use Rattle.pair_example.proofs.print.print_doors.Tie as tie
+
+abbrev Inv-loop : tie.InvT-loop
+Inv-loop doors bytes₀ rest₀ i₀ t5 bytes rest i = length bytes ≡ 8
+
+abbrev μ-loop : tie.MeasureT-loop
+μ-loop doors bytes₀ rest₀ i₀ t5 bytes rest i = 8 - i
+
+loop-holds : tie.Need-loop-holds Inv-loop μ-loop
+loop-holds c = search needs
+
+cast-bytes : tie.Need-cast-bytes Inv-loop μ-loop
+cast-bytes c = search needs
+
+array-write-bytes : tie.Need-array-write-bytes Inv-loop μ-loop
+array-write-bytes c = search needs
+
+add-i : tie.Need-add-i Inv-loop μ-loop
+add-i c = search needs
+
+loop-less : tie.Need-loop-less Inv-loop μ-loop
+loop-less c = search needs
+
+loop-again : tie.Need-loop-again Inv-loop μ-loop
+loop-again c = search needs
+
+slice-aggregate-print-bytes : tie.Need-slice-aggregate-print-bytes Inv-loop μ-loop
+slice-aggregate-print-bytes c = search needs
+
+slice-aggregate-print-bytes-2 : tie.Need-slice-aggregate-print-bytes-2 Inv-loop μ-loop
+slice-aggregate-print-bytes-2 c = search needs
+
+print-bytes-requires : tie.Need-print-bytes-requires Inv-loop μ-loop
+print-bytes-requires c κs = search needs
+
+returns : tie.Need-returns Inv-loop μ-loop
+returns c = search needs
+
+pub print-doors-spec : {M : Type 1} → statement M
+print-doors-spec =
+    tie.close
+    (tie.spec
+    Inv-loop
+    μ-loop
+    loop-holds
+    cast-bytes
+    array-write-bytes
+    add-i
+    loop-less
+    loop-again
+    slice-aggregate-print-bytes
+    slice-aggregate-print-bytes-2
+    print-bytes-requires
+    returns)

@@ -1,0 +1,65 @@
+#!/usr/bin/env python3
+"""The journals that the columns of a bank keep in the run of a script, after Point 11 of document 02, written beside the steps of the model:
+
+    tools/script_journals.py SCRIPT FOLDER      # the journal of each column I goes to FOLDER/I
+"""
+import os
+import sys
+
+import model
+
+KINDS = {"message": 1, "acknowledgement": 2}
+
+
+class Bank(model.Bank):
+    """A bank whose columns keep journals."""
+
+    def __init__(self, *given):
+        super().__init__(*given)
+        self.journals = [[] for _ in self.columns]
+
+    def put(self, packet):
+        under_way = len(self.network)
+        super().put(packet)
+        kind, sender, to, number, _ = packet
+        if len(self.network) > under_way:
+            self.journals[sender].append(f"sent={KINDS[kind]},{to},{number}")
+
+    def take(self, place):
+        packet = self.network[place] if place < len(self.network) else None
+        written = len(self.journals[packet[2]]) if packet else 0
+        super().take(place)
+        kind, sender, to, number, _ = packet
+        if not any(kept is packet for kept in self.network):
+            self.journals[to].insert(written, f"got={KINDS[kind]},{sender},{number}")
+
+    def journal(self, i):
+        return "".join(f"{line}\n" for line in [f"column={i}"] + self.journals[i]).encode()
+
+
+def fresh(table):
+    """The fresh bank of a table."""
+    return model.table(table, lambda words: None, Bank)[0]
+
+
+def run(script):
+    """The bank after a script, or None where its table is refused."""
+    bank = None
+    for _, bank in model.run(script, lambda words: None, Bank):
+        pass
+    return bank
+
+
+def main():
+    with open(sys.argv[1], "rb") as file:
+        bank = run(file.read())
+    if bank is None:
+        sys.exit("the table is refused: there are no journals")
+    os.makedirs(sys.argv[2], exist_ok=True)
+    for i in range(len(bank.columns)):
+        with open(os.path.join(sys.argv[2], str(i)), "wb") as file:
+            file.write(bank.journal(i))
+
+
+if __name__ == "__main__":
+    main()
