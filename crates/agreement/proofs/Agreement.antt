@@ -8,13 +8,13 @@ use borrow.Author.Tests.{lt-ltb}
 use Rattle.column.specs.Sets.{has}
 use Rattle.column.specs.Trees.{choose}
 use Rattle.column.specs.laws.TreeLaws.{check-exact}
-use Rattle.column.specs.Columns.{standing}
+use Rattle.column.specs.Columns.{validityRefusal}
 use Rattle.column.specs.Steps as core
 use Rattle.column.specs.declared.tree.Tree.{Tree}
 use Rattle.column.specs.declared.state.Column.{Column}
 use Rattle.bank.specs.Banks.{State, columnAt, capacity}
 use Rattle.bank.specs.Rest.{Running}
-use Rattle.bank.specs.laws.StandingLaws.{acting-passes}
+use Rattle.bank.specs.laws.ValidityLaws.{acting-passes}
 use Rattle.bank.specs.Steps.{accepted, refused, unless, fitting, settled, acted}
 use Rattle.agreement.specs.History.{World, rootOf}
 use Rattle.agreement.specs.Agreement.{NeitherSends, Agreement, Agrees}
@@ -24,7 +24,7 @@ use Rattle.agreement.proofs.invariant.Rest.{rest-agrees, served}
 use Rattle.agreement.proofs.relation.Conditions.{empty, not-member}
 use Rattle.agreement.proofs.relation.View.{modelOf}
 use Rattle.agreement.proofs.refinement.Quiet.{quiet-rest, send-passes}
-use Rattle.agreement.proofs.refinement.Reached.{Reached, after-every, reached-stands, reached-passes}
+use Rattle.agreement.proofs.refinement.Reached.{Reached, after-every, reached-valid, reached-passes}
 
 -- ---- "A running root sends while send there isn't refused with 6"
 
@@ -66,9 +66,9 @@ module _ (w : World) (r : Reached w) where
   none-to-send h six q m =
       let b = rootOf s in
       let c = columnAt (s .bank) b in
-      let st = reached-stands w r in
-      let column-stands : standing t b c ≡ 0 = rw (st .tree) (st .columns b (h .0)) in
-      let goes = send-passes t b c column-stands (h .1) (λ z. empty z q m) in
+      let st = reached-valid w r in
+      let column-valid : validityRefusal t b c ≡ 0 = rw (st .tree) (st .columns b (h .0)) in
+      let goes = send-passes t b c column-valid (h .1) (λ z. empty z q m) in
       send-not-six s b t c (sym (ap (λ (n : ℕ). settled s s b (core.unless n c (core.sendEffect t b c))) goes)
       ∙ sym (ap (λ (n : ℕ). unless n s (settled s s b (core.send t b c))) (acting-passes s st b (h .0))) ∙ six)
 

@@ -12,10 +12,10 @@ use Rattle.column.specs.laws.StateLaws.{acceptable}
 use Rattle.column.specs.declared.tree.Tree.{Tree}
 use Rattle.column.specs.declared.state.Column.{Column}
 use Rattle.bank.specs.Banks.{State, columnAt, runs, packetAt, bankRefusal}
-use Rattle.bank.specs.Steps.{Outcome, accepted, refused, after}
+use Rattle.bank.specs.Steps.{Result, accepted, refused, after}
 use Rattle.bank.specs.Performs.{perform}
 use Rattle.bank.specs.Rest.{Running, AtRest}
-use Rattle.bank.specs.laws.StandingLaws.{Stands}
+use Rattle.bank.specs.laws.ValidityLaws.{Valid}
 use Rattle.bank.specs.laws.RestLaws.{halted-rests}
 use Rattle.bank.specs.laws.Places.{tree-kept}
 use Rattle.bank.specs.declared.bank.Step.{Step}
@@ -27,7 +27,7 @@ use Rattle.agreement.proofs.relation.Model.{Runs}
 use Rattle.agreement.proofs.relation.Move.{Move, orders, order}
 use Rattle.agreement.proofs.relation.View.{modelOf}
 use Rattle.agreement.proofs.refinement.RefineBack.{refines}
-use Rattle.agreement.proofs.refinement.Reached.{Reached, after-every, reached-stands, reached-passes}
+use Rattle.agreement.proofs.refinement.Reached.{Reached, after-every, reached-valid, reached-passes}
 
 pub passes : Passes
 passes = after-every (λ w. bankRefusal (w .state) ≡ 0) reached-passes
@@ -61,8 +61,8 @@ module _ (w : World) (r : Reached w) (nobody : (i : ℕ) → Running (w .state) 
   no-packet : w .state .bank .count ≡ 0
   no-packet = go (w .state .bank .count) refl
     where
-      st : Stands (w .state)
-      st = reached-stands w r
+      st : Valid (w .state)
+      st = reached-valid w r
 
       go : (n : ℕ) → w .state .bank .count ≡ n → w .state .bank .count ≡ 0
       go zero e = e
@@ -84,9 +84,9 @@ pub told-tree : (w : World) (x : Step) → told w x (perform (w .state) x) .stat
 unfolding told
 told-tree w x = go (perform (w .state) x) refl
   where
-    go : (o : Outcome State) → perform (w .state) x ≡ o → told w x o .state .bank .tree ≡ w .state .bank .tree
-    go (accepted s) e = sym (ap (λ (o : Outcome State). after o .bank .tree) e) ∙ tree-kept (w .state) x
-    go (refused n s) e = sym (ap (λ (o : Outcome State). after o .bank .tree) e) ∙ tree-kept (w .state) x
+    go : (o : Result State) → perform (w .state) x ≡ o → told w x o .state .bank .tree ≡ w .state .bank .tree
+    go (accepted s) e = sym (ap (λ (o : Result State). after o .bank .tree) e) ∙ tree-kept (w .state) x
+    go (refused n s) e = sym (ap (λ (o : Result State). after o .bank .tree) e) ∙ tree-kept (w .state) x
 
 pub run-tree : (w : World) (xs : List Step) → run w xs .state .bank .tree ≡ w .state .bank .tree
 unfolding run told

@@ -12,7 +12,7 @@ use Rattle.column.specs.Trees.{IsTree}
 use Rattle.column.specs.laws.TreeLaws.{check-exact, tree-sixteen}
 use Rattle.column.specs.declared.tree.Tree.{Tree}
 use Rattle.bank.specs.Banks.{State, runs, places}
-use Rattle.bank.specs.Steps.{Outcome, accepted, refused}
+use Rattle.bank.specs.Steps.{Result, accepted, refused}
 use Rattle.bank.specs.Performs.{perform}
 use Rattle.bank.specs.Rest.{isRefused, AtRest}
 use Rattle.bank.specs.laws.RestLaws.{rest-exact}
@@ -27,7 +27,7 @@ use Rattle.agreement.proofs.bounds.Ceiling.{ceiling}
 use Rattle.agreement.proofs.bounds.Settling.{settling, fall}
 use Rattle.agreement.proofs.relation.View.{modelOf, OneMove, event}
 use Rattle.agreement.proofs.refinement.RefineBack.{refines}
-use Rattle.agreement.proofs.refinement.Reached.{Reached, after-every, next, reached, reached-stands}
+use Rattle.agreement.proofs.refinement.Reached.{Reached, after-every, next, reached, reached-valid}
 use Rattle.agreement.proofs.Limits.{reached-room}
 use Rattle.agreement.proofs.refinement.RestQuiet.{rest-refuses}
 
@@ -62,7 +62,7 @@ is-tree : (w : World) → Reached w → IsTree (w .state .bank .tree)
 is-tree w r = check-exact (w .state .bank .tree) .0 (r .tree)
 
 left-most : (w : World) → Reached w → left w ≤ stepBound (columnsOf w)
-left-most w r = ceiling (w .state .bank .tree) (is-tree w r) (r .invariant) (r .standing) (r .bounded)
+left-most w r = ceiling (w .state .bank .tree) (is-tree w r) (r .invariant) (r .validity) (r .bounded)
 
 left-within : (w : World) → Reached w → left w ≤ stepsWithin (columnsOf w)
 left-within w r = omega (arith, left-most w r, is-tree w r .some, mul-sub (columnsOf w) (columnsOf w) 1)
@@ -73,7 +73,7 @@ left-falls w r x h s e =
     let one = one-move x h in
     let f = refines (w .state) (r .formed) (w .orders) x one s e in
     subst (λ (t : Tree). potential t (modelOf s (ordersAfter (w .orders) x)) < left w) (sym (f .same-tree))
-    (fall (w .state .bank .tree) (is-tree w r) (r .invariant) (r .standing) (r .bounded .spreads) (f .move)
+    (fall (w .state .bank .tree) (is-tree w r) (r .invariant) (r .validity) (r .bounded .spreads) (f .move)
     (event-settling (w .state) x one ∙ h))
 
 -- ---- lists of accepted steps
@@ -83,12 +83,12 @@ unfolding allSettling allAccepted
 few-left w [] r a e = omega arith
 few-left w (x ∷ xs) r a e = go (perform (w .state) x) refl e (λ z. few-left (told w x (perform (w .state) x)) xs (next w x r) (and-right (isSettling x) _ a) z)
   where
-    go : (o : Outcome State) → perform (w .state) x ≡ o → (not (isRefused o) && allAccepted (told w x o) xs) ≡ true
+    go : (o : Result State) → perform (w .state) x ≡ o → (not (isRefused o) && allAccepted (told w x o) xs) ≡ true
         → (allAccepted (told w x (perform (w .state) x)) xs ≡ true → length xs ≤ left (told w x (perform (w .state) x))) → suc (length xs) ≤ left w
     go (accepted s) p q ih = omega (
       arith,
       left-falls w r x (and-left (isSettling x) _ a) s p,
-      subst (λ (o : Outcome State). length xs ≤ left (told w x o)) p (ih (ap (λ (o : Outcome State). allAccepted (told w x o) xs) p ∙ q)),
+      subst (λ (o : Result State). length xs ≤ left (told w x o)) p (ih (ap (λ (o : Result State). allAccepted (told w x o) xs) p ∙ q)),
     )
     go (refused n s) p q ih = absurd (true≢false (sym q))
 
@@ -136,7 +136,7 @@ unfolding dispatched allSettling
 settling-dispatched zero s = refl
 settling-dispatched (suc k) s = go (perform s (turn s)) (λ x. settling-dispatched k x)
   where
-    go : (o : Outcome State) → ((x : State) → allSettling (dispatched k x) ≡ true) → allSettling (onward o [] (λ next. turn s ∷ dispatched k next)) ≡ true
+    go : (o : Result State) → ((x : State) → allSettling (dispatched k x) ≡ true) → allSettling (onward o [] (λ next. turn s ∷ dispatched k next)) ≡ true
     go (accepted x) ih = ap₂ _&&_ (settling-turn s) (ih x)
     go (refused n x) ih = refl
 
@@ -148,9 +148,9 @@ accepted-dispatched (suc k) w = go (perform (w .state) (turn (w .state))) refl (
     x : Step
     x = turn (w .state)
 
-    go : (o : Outcome State) → perform (w .state) x ≡ o → ((v : World) → allAccepted v (dispatched k (v .state)) ≡ true)
+    go : (o : Result State) → perform (w .state) x ≡ o → ((v : World) → allAccepted v (dispatched k (v .state)) ≡ true)
         → allAccepted w (onward o [] (λ next. x ∷ dispatched k next)) ≡ true
-    go (accepted s) p ih = subst (λ (o : Outcome State). (not (isRefused o) && allAccepted (told w x o) (dispatched k s)) ≡ true) (sym p) (ih (told w x (accepted s)))
+    go (accepted s) p ih = subst (λ (o : Result State). (not (isRefused o) && allAccepted (told w x o) (dispatched k s)) ≡ true) (sym p) (ih (told w x (accepted s)))
     go (refused n s) p ih = refl
 
 lead : (k : ℕ) (w : World) → run w (dispatched k (w .state)) .state ≡ dispatch k (w .state)
@@ -161,9 +161,9 @@ lead (suc k) w = go (perform (w .state) (turn (w .state))) refl (λ v. lead k v)
     x : Step
     x = turn (w .state)
 
-    go : (o : Outcome State) → perform (w .state) x ≡ o → ((v : World) → run v (dispatched k (v .state)) .state ≡ dispatch k (v .state))
+    go : (o : Result State) → perform (w .state) x ≡ o → ((v : World) → run v (dispatched k (v .state)) .state ≡ dispatch k (v .state))
         → run w (onward o [] (λ next. x ∷ dispatched k next)) .state ≡ onward o (w .state) (λ next. dispatch k next)
-    go (accepted s) p ih = subst (λ (o : Outcome State). run (told w x o) (dispatched k s) .state ≡ dispatch k s) (sym p) (ih (told w x (accepted s)))
+    go (accepted s) p ih = subst (λ (o : Result State). run (told w x o) (dispatched k s) .state ≡ dispatch k s) (sym p) (ih (told w x (accepted s)))
     go (refused n s) p ih = refl
 
 -- ---- a dispatcher that stops before its limit
@@ -176,7 +176,7 @@ unfolding dispatched dispatch
 stopped zero s h = absurd (omega arith)
 stopped (suc k) s h = go (perform s (turn s)) refl h (λ x. stopped k x)
   where
-    go : (o : Outcome State) → perform s (turn s) ≡ o → length (onward o [] (λ next. turn s ∷ dispatched k next)) < suc k
+    go : (o : Result State) → perform s (turn s) ≡ o → length (onward o [] (λ next. turn s ∷ dispatched k next)) < suc k
         → ((x : State) → length (dispatched k x) < k → Stopped (dispatch k x)) → Stopped (onward o s (λ next. dispatch k next))
     go (accepted x) p l ih = ih x (omega (arith, l))
     go (refused n x) p l ih = ap isRefused p
@@ -186,12 +186,12 @@ one-more : (k : ℕ) (s : State) → length (dispatched (suc k) s) < suc k → d
 unfolding dispatched dispatch
 one-more zero s h = go (perform s (turn s)) h
   where
-    go : (o : Outcome State) → length (onward o [] (λ next. turn s ∷ [])) < 1 → onward o s (λ next. next) ≡ s
+    go : (o : Result State) → length (onward o [] (λ next. turn s ∷ [])) < 1 → onward o s (λ next. next) ≡ s
     go (accepted x) l = absurd (omega (arith, l))
     go (refused n x) l = refl
 one-more (suc k) s h = go (perform s (turn s)) h (λ x. one-more k x)
   where
-    go : (o : Outcome State) → length (onward o [] (λ next. turn s ∷ dispatched (suc k) next)) < suc (suc k)
+    go : (o : Result State) → length (onward o [] (λ next. turn s ∷ dispatched (suc k) next)) < suc (suc k)
         → ((x : State) → length (dispatched (suc k) x) < suc k → dispatch (suc k) x ≡ dispatch k x)
         → onward o s (λ next. dispatch (suc k) next) ≡ onward o s (λ next. dispatch k next)
     go (accepted x) l ih = ih x (omega (arith, l))
@@ -202,7 +202,7 @@ stopped-rests : (w : World) → Reached w → Stopped (w .state) → AtRest (w .
 stopped-rests w r e = ⊎-elim
     (λ z. rest-exact (w .state) .0 (stops-rest (w .state) z e))
     (λ z. absurd (true≢false (sym (stops-taken (w .state) e)
-    ∙ take-accepted (w .state) (reached-stands w r) 0 (omega (arith, z)) (reached-room w r))))
+    ∙ take-accepted (w .state) (reached-valid w r) 0 (omega (arith, z)) (reached-room w r))))
     (equal-cases (w .state .bank .count) 0)
 
 -- ---- the theorem

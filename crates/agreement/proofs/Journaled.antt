@@ -9,7 +9,7 @@ use Rattle.column.specs.laws.TreeLaws.{check-exact}
 use Rattle.column.specs.declared.tree.Tree.{Tree}
 use Rattle.column.specs.declared.packet.Packet.{Packet}
 use Rattle.bank.specs.Banks.{State}
-use Rattle.bank.specs.Steps.{Outcome, accepted, refused, haltRefusal, halt}
+use Rattle.bank.specs.Steps.{Result, accepted, refused, haltRefusal, halt}
 use Rattle.bank.specs.Performs.{perform}
 use Rattle.bank.specs.Returns.{isBack}
 use Rattle.bank.specs.Strips.{haltOne, andThen, singles}
@@ -32,7 +32,7 @@ use Rattle.agreement.proofs.relation.Model as model
 use Rattle.agreement.proofs.refinement.Told.{same-model, written-is}
 use Rattle.agreement.proofs.refinement.Reached.{Reached, start, fresh-model, moved, carried, next}
 use Rattle.agreement.proofs.Companions.{run-tree}
-use Rattle.agreement.proofs.bounds.SpreadLaws.{Onward}
+use Rattle.agreement.proofs.bounds.SpreadKept.{Onward}
 use Rattle.agreement.proofs.journals.Dues.{Recorded, gotBy, putBy, gots-by, puts-by}
 use Rattle.agreement.proofs.journals.JournalsKept.{recorded-kept, recorded-fresh, consistent}
 use Rattle.agreement.proofs.journals.StepPackets.{sent-told, got-told}
@@ -66,7 +66,7 @@ module _ (w : World) (j : Journals) (r : Reached w) (g : RecordedIn w j) where
       subst (λ (u : Tree). Recorded u (modelOf s' orders) (allSent (allGot j (gotBy (modelOf s (w .orders)) e)) (putBy (modelOf s (w .orders)) e)))
       (sym (f .same-tree))
       (subst (Recorded t (modelOf s' orders))
-      (ap₂ (λ (a b : List Packet). allSent (allGot j a) b) (gots-by (r .invariant) (r .standing) (f .move)) (puts-by (r .invariant) (r .standing) (f .move)))
+      (ap₂ (λ (a b : List Packet). allSent (allGot j a) b) (gots-by (r .invariant) (r .validity) (f .move)) (puts-by (r .invariant) (r .validity) (f .move)))
       (recorded-kept t (check-exact t .0 (r .tree)) (r .invariant) (r .formed .numbers-fit) g (f .move) o))
 
   one-move : (x : Step) (o : OneMove x) (s' : State) → perform s x ≡ accepted s' → isBack x ≡ false
@@ -84,7 +84,7 @@ halted-singly [] w s' j r g e = let same : w .state ≡ s' = cc in subst (λ (s 
 halted-singly (i ∷ l) w s' j r g e = go (λ v q k h. halted-singly l v s' j q k h) (haltOne (w .state) i) refl e
   where
     go : ((v : World) → Reached v → RecordedIn v j → singles (v .state) l ≡ accepted s' → RecordedIn (moved v s') j)
-        → (o : Outcome State) → haltOne (w .state) i ≡ o → andThen o (λ (t : State). singles t l) ≡ accepted s' → RecordedIn (moved w s') j
+        → (o : Result State) → haltOne (w .state) i ≡ o → andThen o (λ (t : State). singles t l) ≡ accepted s' → RecordedIn (moved w s') j
     go rest (accepted s1) z h =
         let f = refines-halt (w .state) (r .formed) (w .orders) i s1 z in
         rest (moved w s1) (carried w (moved w s1) (halts i) r f (λ i. refl) (λ q. refl)) (kept-by w j r g (halts i) s1 f tt) h
@@ -118,7 +118,7 @@ module _ (w : World) (j : Journals) (r : Reached w) (g : RecordedIn w j) where
   unfolding told recorded
   recorded-next x b = go (perform (w .state) x) refl b
     where
-      go : (o : Outcome State) → perform (w .state) x ≡ o → Stays x o → RecordedIn (told w x o) (recorded (w .state) x o j)
+      go : (o : Result State) → perform (w .state) x ≡ o → Stays x o → RecordedIn (told w x o) (recorded (w .state) x o j)
       go (accepted s') e b = step-recorded x s' e b
       go (refused n s') e b = subst (λ (u : State). RecordedIn (told w x (refused n u)) j) (sym (unchanged (w .state) x n s' e)) g
 

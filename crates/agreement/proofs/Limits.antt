@@ -12,7 +12,7 @@ use borrow.Author.Tests.{eqb-false, ne-eqb}
 use Rattle.column.specs.laws.TreeLaws.{check-exact, tree-sixteen}
 use Rattle.column.specs.Refusals.{first, earlier}
 use Rattle.column.specs.Trees.{treeConditions, treeRefusal}
-use Rattle.column.specs.Columns.{stateConditions, stateRefusal, standing}
+use Rattle.column.specs.Columns.{stateConditions, stateRefusal, validityRefusal}
 use Rattle.column.specs.Packets.{receiver}
 use Rattle.column.specs.Pages.{writeConditions}
 use Rattle.column.specs.Steps as core
@@ -59,13 +59,13 @@ tree-lacks : (t : Tree) → treeRefusal t ≢ 9
 unfolding treeRefusal
 tree-lacks t = first-lacks (treeConditions t) tt
 
-standing-lacks : (t : Tree) (i : ℕ) (c : Column) → standing t i c ≢ 9
+validity-refusal-lacks : (t : Tree) (i : ℕ) (c : Column) → validityRefusal t i c ≢ 9
 unfolding stateRefusal
-standing-lacks t i c = earlier-lacks (treeRefusal t) (stateRefusal t i c) (tree-lacks t) (first-lacks (stateConditions t i c) tt)
+validity-refusal-lacks t i c = earlier-lacks (treeRefusal t) (stateRefusal t i c) (tree-lacks t) (first-lacks (stateConditions t i c) tt)
 
 -- the core tests the column before a step's own conditions
-later-lacks : (t : Tree) (i : ℕ) (c : Column) (l : List (ℕ × Bool)) → T (lacks l) → earlier (standing t i c) (first l) ≢ 9
-later-lacks t i c l h = earlier-lacks (standing t i c) (first l) (standing-lacks t i c) (first-lacks l h)
+later-lacks : (t : Tree) (i : ℕ) (c : Column) (l : List (ℕ × Bool)) → T (lacks l) → earlier (validityRefusal t i c) (first l) ≢ 9
+later-lacks t i c l h = earlier-lacks (validityRefusal t i c) (first l) (validity-refusal-lacks t i c) (first-lacks l h)
 
 -- ---- the bank
 
@@ -84,7 +84,7 @@ module _ (s : State) where
   unfolding core.takeRefusal core.packetRefusal
   take-lacks p =
       let i = receiver p in
-      earlier-lacks (standing t i (at i)) _ (standing-lacks t i (at i))
+      earlier-lacks (validityRefusal t i (at i)) _ (validity-refusal-lacks t i (at i))
       (earlier-lacks (core.packetRefusal t p) _ (first-lacks (core.packetConditions t p) tt) (first-lacks (core.takeConditions t i (at i) p) tt))
 
   own-lacks : (x : Step) → ownRefusal s x ≢ 9
@@ -146,7 +146,7 @@ module _ (w : World) (r : Reached w) where
   reached-within = omega (
     arith,
     packets-length (w .state) (r .formed .whole) (r .room),
-    packets-bounded (w .state .bank .tree) (r .standing) (r .bounded) (check-exact (w .state .bank .tree) .0 (r .tree) .root-below),
+    packets-bounded (w .state .bank .tree) (r .validity) (r .bounded) (check-exact (w .state .bank .tree) .0 (r .tree) .root-below),
   )
 
   reached-bounded : w .state .bank .count ≤ packetLimit (columnsOf w)

@@ -18,8 +18,8 @@ use Rattle.column.specs.Columns.{stopped}
 use Rattle.column.specs.declared.tree.Tree.{Tree}
 use Rattle.column.specs.declared.state.Column.{Column}
 use Rattle.bank.specs.Banks.{State, columnAt, runs, capacity}
-use Rattle.bank.specs.laws.StandingLaws.{fresh-at, every-same}
-use Rattle.bank.specs.Steps.{Outcome, accepted, refused, after, membersRun, haltRefusal, halt}
+use Rattle.bank.specs.laws.ValidityLaws.{fresh-at, every-same}
+use Rattle.bank.specs.Steps.{Result, accepted, refused, after, membersRun, haltRefusal, halt}
 use Rattle.bank.specs.Performs.{perform}
 use Rattle.bank.specs.Rest.{Running, AtRest}
 use Rattle.bank.specs.Dispatch.{dispatched, dispatchOutcome}
@@ -53,7 +53,7 @@ enough n h =
 abbrev Clear : List ℕ → Type 0
 Clear l = (length l ≤ 1) × ((k : ℕ) → given l k ≡ 0)
 
-clear-first : (w : World) → w .orders ≡ [] → (o : Outcome State) → Clear (told w (Order 0) o .orders)
+clear-first : (w : World) → w .orders ≡ [] → (o : Result State) → Clear (told w (Order 0) o .orders)
 unfolding told given
 clear-first w e (accepted s) = subst (λ (l : List ℕ). Clear (0 ∷ l)) (sym e) (omega arith, λ k. go (eqb k 1))
   where

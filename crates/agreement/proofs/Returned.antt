@@ -18,7 +18,7 @@ use Rattle.column.specs.Returns.{struck}
 use Rattle.column.specs.declared.state.Column.{Column}
 use Rattle.bank.specs.Banks.{State, state, columnAt, runs, bankRefusal}
 use Rattle.bank.specs.Networks.{vanished}
-use Rattle.bank.specs.Steps.{Outcome, accepted, halted}
+use Rattle.bank.specs.Steps.{Result, accepted, halted}
 use Rattle.bank.specs.Performs.{perform}
 use Rattle.bank.specs.Rest.{Running, AtRest}
 use Rattle.bank.specs.Returns.{backRefusal, returned}
@@ -40,7 +40,7 @@ use Rattle.agreement.proofs.refinement.RefineOwn.{model-runs}
 use Rattle.agreement.proofs.refinement.RefineBack.{rests-after}
 use Rattle.agreement.proofs.refinement.RestQuiet.{rest-quiet}
 use Rattle.agreement.proofs.refinement.Away.{stepped, halts-alone, Held, each-notes}
-use Rattle.agreement.proofs.refinement.Reached.{Reached, after-every, reached-stands, reached-passes}
+use Rattle.agreement.proofs.refinement.Reached.{Reached, after-every, reached-valid, reached-passes}
 
 -- ---- what an accepted return leaves, and what it asked
 
@@ -133,7 +133,7 @@ module _ (w : World) (r : Reached w) (j : ℕ) (s1 : State) (e1 : perform (w .st
   held-before i h =
       let t = b .tree in
       let tree = check-exact t .0 (r .tree) in
-      let st = reached-stands w r in
+      let st = reached-valid w r in
       let rest = quiet-rest (w .state) (w .orders) (reached-passes w r) (known .at-rest) in
       let there = model-runs (w .state) st i (h .0) (w .orders) (h .1) in
       record {
@@ -158,8 +158,8 @@ module _ (w : World) (r : Reached w) (j : ℕ) (s1 : State) (e1 : perform (w .st
       record {
         none-refused = rw (comes, goes-away) (z .0);
         as-before = λ i m.
-            ap (λ (o : Outcome State). columnAt (run (told w (Back j) o) (Halt (single j) ∷ map (λ (q : ℕ). Note q j) noters) .state .bank) i) comes
-            ∙ ap (λ (o : Outcome State). columnAt (run (told w1 (Halt (single j)) o) (map (λ (q : ℕ). Note q j) noters) .state .bank) i) goes-away
+            ap (λ (o : Result State). columnAt (run (told w (Back j) o) (Halt (single j) ∷ map (λ (q : ℕ). Note q j) noters) .state .bank) i) comes
+            ∙ ap (λ (o : Result State). columnAt (run (told w1 (Halt (single j)) o) (map (λ (q : ℕ). Note q j) noters) .state .bank) i) goes-away
             ∙ z .1 i ∙ ap (λ (x : Bool). cond x (noticed (columnAt b i)) (columnAt (s2 .bank) i)) m;
       }
 

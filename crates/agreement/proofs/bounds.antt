@@ -1,5 +1,6 @@
 -- How many packets are under way, and how many steps lead to rest.
 pub mod SpreadLaws
+pub mod SpreadKept
 pub mod TokenLaws
 pub mod Sums
 pub mod Cover

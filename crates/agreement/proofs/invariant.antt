@@ -11,4 +11,4 @@ pub mod Still
 pub mod Back
 pub mod InvariantKept
 pub mod Rest
-pub mod Standing
+pub mod Validity

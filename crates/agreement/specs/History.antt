@@ -13,7 +13,7 @@ use Rattle.column.specs.Steps as core
 use Rattle.column.specs.declared.packet.Packet.{Packet}
 use Rattle.column.specs.declared.packet.Packet.the-variants.{Message, Acknowledgement}
 use Rattle.bank.specs.Banks.{State, columnAt, packetAt}
-use Rattle.bank.specs.Steps.{Outcome, accepted, refused}
+use Rattle.bank.specs.Steps.{Result, accepted, refused}
 use Rattle.bank.specs.Performs.{perform}
 use Rattle.bank.specs.Returns.{lowestRunning}
 use Rattle.bank.specs.Dispatch.{dispatched}
@@ -110,7 +110,7 @@ awaitsAfter w (Write i offset value) = w .awaits
 
 -- ---- a list of steps: "Each step gets the bank and packets as the last left them", and only accepted steps make history
 
-unfoldable pub told : World → Step → Outcome State → World
+unfoldable pub told : World → Step → Result State → World
 told w x (accepted s) =
     record { state = s; orders = ordersAfter (w .orders) x; received = receivedAfter w x; awaits = awaitsAfter w x }
 told w x (refused n s) = record { state = s; orders = w .orders; received = w .received; awaits = w .awaits }

@@ -15,7 +15,7 @@ use Rattle.column.specs.declared.packet.Packet.{Packet}
 use Rattle.column.specs.declared.packet.Packet.the-variants.{Message, Acknowledgement}
 use Rattle.list.specs.Closing.{placed}
 use Rattle.bank.specs.Banks.{State, columnAt, runs, packetAt, capacity}
-use Rattle.bank.specs.Steps.{Outcome, accepted, refused}
+use Rattle.bank.specs.Steps.{Result, accepted, refused}
 use Rattle.bank.specs.Performs.{perform}
 use Rattle.bank.specs.Returns.{isBack}
 use Rattle.bank.specs.declared.bank.Step.{Step}
@@ -96,7 +96,7 @@ abbrev pub journalsAfter : State → Step → Journals → Journals
 journalsAfter s x j = allSent (allGot j (gotIn s x)) (sentIn s x)
 
 -- only accepted steps make history
-unfoldable pub recorded : State → Step → Outcome State → Journals → Journals
+unfoldable pub recorded : State → Step → Result State → Journals → Journals
 recorded s x (accepted s') j = journalsAfter s x j
 recorded s x (refused n s') j = j
 
@@ -108,7 +108,7 @@ journals w (x ∷ xs) j = journals (told w x (perform (w .state) x)) xs (recorde
 -- ---- "a bank that had no column come back"
 
 -- a return that is refused is none
-abbrev pub Stays : Step → Outcome State → Type 0
+abbrev pub Stays : Step → Result State → Type 0
 Stays x (accepted s') = isBack x ≡ false
 Stays x (refused n s') = Unit {0}
 

@@ -5,7 +5,7 @@ use mathlib.Core.Path.{_≡_}
 use mathlib.Core.List.{List, [], _∷_, map}
 use Rattle.column.specs.Columns.{plain}
 use Rattle.bank.specs.Banks.{State, state}
-use Rattle.bank.specs.Steps.{Outcome, accepted, refused, after}
+use Rattle.bank.specs.Steps.{Result, accepted, refused, after}
 use Rattle.bank.specs.Performs.{perform}
 use Rattle.bank.specs.declared.bank.Bank.{Bank}
 use Rattle.bank.specs.declared.bank.Step.{Step}
@@ -17,7 +17,7 @@ plainBank b = record { tree = b .tree; columns = map plain (b .columns); count =
 abbrev pub plainState : State → State
 plainState s = state (plainBank (s .bank)) (s .heads) (s .doors)
 
-abbrev pub plainOutcome : Outcome State → Outcome State
+abbrev pub plainOutcome : Result State → Result State
 plainOutcome (accepted s) = accepted (plainState s)
 plainOutcome (refused n s) = refused n (plainState s)
 
@@ -26,7 +26,7 @@ abbrev pub Alike : State → State → Type 0
 Alike s s' = plainState s ≡ plainState s'
 
 -- what a step answers: 0 where it is accepted
-abbrev pub answerOf : Outcome State → ℕ
+abbrev pub answerOf : Result State → ℕ
 answerOf (accepted s) = 0
 answerOf (refused n s) = n
 

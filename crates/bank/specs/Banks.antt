@@ -77,25 +77,25 @@ noBank t = record { tree = t; columns = replicate 16 noColumn; count = 0 }
 -- ---- what every step tests first
 
 -- "4 meets a .. set member not below columns, a column owing itself, a root with a goal other than the whole bank"
-abbrev pub columnStands : Bank → ℕ → Bool
-columnStands b i = eqb (stateRefusal (b .tree) i (columnAt b i)) 0
+abbrev pub columnValid : Bank → ℕ → Bool
+columnValid b i = eqb (stateRefusal (b .tree) i (columnAt b i)) 0
 
 -- "any packet with an end not below columns, equal ends, a halted receiver in a bank, .. or a message to the root"
-abbrev pub packetStands : Bank → Packet → Bool
-packetStands b p = eqb (packetRefusal (b .tree) p) 0 && runs b (receiver p)
+abbrev pub packetValid : Bank → Packet → Bool
+packetValid b p = eqb (packetRefusal (b .tree) p) 0 && runs b (receiver p)
 
-abbrev pub columnsStand : Bank → Bool
-columnsStand b = every (columnStands b) (b .tree .columns)
+abbrev pub columnsValid : Bank → Bool
+columnsValid b = every (columnValid b) (b .tree .columns)
 
-abbrev pub packetsStand : State → Bool
-packetsStand s = every (λ k. packetStands (s .bank) (packetAt s k)) (s .bank .count)
+abbrev pub packetsValid : State → Bool
+packetsValid s = every (λ k. packetValid (s .bank) (packetAt s k)) (s .bank .count)
 
 -- "more than 512 packets"
 abbrev pub bankConditions : State → List (ℕ × Bool)
 bankConditions s =
-    (4, not (columnsStand (s .bank)))
+    (4, not (columnsValid (s .bank)))
     ∷ (4, ltb capacity (s .bank .count))
-    ∷ (4, not (packetsStand s))
+    ∷ (4, not (packetsValid s))
     ∷ []
 
 -- "Before all else a tree that breaks row 2 or 3 gives that number. Next, 4"

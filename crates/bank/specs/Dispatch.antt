@@ -7,7 +7,7 @@ use mathlib.Core.List.{List, [], _∷_, _++_}
 use mathlib.Core.Path.{_≡_}
 use lib.ListN.{length}
 use Rattle.bank.specs.Banks.{State, runs, places, bankRefusal, state}
-use Rattle.bank.specs.Steps.{Outcome, accepted, refused, unless, answered}
+use Rattle.bank.specs.Steps.{Result, accepted, refused, unless, answered}
 use Rattle.bank.specs.Performs.{perform}
 use Rattle.bank.specs.Rest.{isRefused}
 use Rattle.bank.specs.declared.bank.Step.{Step}
@@ -33,7 +33,7 @@ unfoldable pub turn : State → Step
 turn s = firstAccepted s (offered s (s .bank .tree .columns)) (Take 0)
 
 -- what follows an accepted step, or a stop
-abbrev pub onward : {A : Type 0} → Outcome State → A → (State → A) → A
+abbrev pub onward : {A : Type 0} → Result State → A → (State → A) → A
 onward (accepted s) stop next = next s
 onward (refused n s) stop next = stop
 
@@ -48,9 +48,9 @@ dispatch zero s = s
 dispatch (suc limit) s = onward (perform s (turn s)) s (λ next. dispatch limit next)
 
 -- a bank that 2, 3 or 4 refuses is refused as by every step; nothing else refuses a dispatch
-abbrev pub dispatchOutcome : ℕ → State → Outcome State
+abbrev pub dispatchOutcome : ℕ → State → Result State
 dispatchOutcome limit s = unless (bankRefusal s) s (accepted (dispatch limit s))
 
-pub record Dispatches (r : Dispatched) (heads doors : List ℕ) (limit : ℕ) (s : State) (o : Outcome State) : Type 0 where
+pub record Dispatches (r : Dispatched) (heads doors : List ℕ) (limit : ℕ) (s : State) (o : Result State) : Type 0 where
   pub count-is : r .steps ≡ length (dispatched limit s)
   pub outcome-is : answered (r .answer) (state (r .bank) heads doors) ≡ o

@@ -8,7 +8,7 @@ use Rattle.column.specs.Refusals.{first, earlier, Given, given, refused, givenU
 use Rattle.column.specs.Pages as core
 use Rattle.column.specs.declared.page.Byte.{Byte}
 use Rattle.bank.specs.Banks.{State, state, columnAt, actingRefusal}
-use Rattle.bank.specs.Steps.{Outcome, accepted, unless, withColumn}
+use Rattle.bank.specs.Steps.{Result, accepted, unless, withColumn}
 use Rattle.bank.specs.declared.bank.Bank.{Bank}
 use Rattle.bank.specs.declared.page.Line.{Line}
 use Rattle.bank.specs.declared.page.Line.the-variants.{Is, Refused}
@@ -31,7 +31,7 @@ unfoldable pub writeRefusal : State → ℕ → ℕ → ℕ
 writeRefusal s i offset = earlier (actingRefusal s i) (first (core.writeConditions offset))
 
 -- "a write alters nothing but bytes 5 and 6"
-abbrev pub write : State → ℕ → ℕ → ℕ → Outcome State
+abbrev pub write : State → ℕ → ℕ → ℕ → Result State
 write s i offset value =
     unless (writeRefusal s i offset) s (accepted (withColumn s i (core.written (columnAt (s .bank) i) offset value)))
 

@@ -6,13 +6,13 @@ use mathlib.Core.Bool.{Bool, true, false, not, _&&_, _||_}
 use lib.Dec.{eqb}
 use Rattle.column.specs.Trees.{every}
 use Rattle.bank.specs.Banks.{State, runs}
-use Rattle.bank.specs.Steps.{Outcome, accepted, refused, send, ack, all, note}
+use Rattle.bank.specs.Steps.{Result, accepted, refused, send, ack, all, note}
 
-abbrev pub isRefused : Outcome State → Bool
+abbrev pub isRefused : Result State → Bool
 isRefused (accepted s) = false
 isRefused (refused n s) = true
 
-abbrev pub Refused : Outcome State → Type 0
+abbrev pub Refused : Result State → Type 0
 Refused o = isRefused o ≡ true
 
 -- a column of the bank that runs

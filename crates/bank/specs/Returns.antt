@@ -8,7 +8,7 @@ use Rattle.column.specs.Sets.{without, lowest}
 use Rattle.column.specs.Returns.{rejoined, struck}
 use Rattle.column.specs.declared.state.Column.{Column}
 use Rattle.bank.specs.Banks.{State, state, columnAt, runs, runningOf, haltedOf, bankRefusal}
-use Rattle.bank.specs.Steps.{Outcome, accepted, unless, withPlace, withRewritten}
+use Rattle.bank.specs.Steps.{Result, accepted, unless, withPlace, withRewritten}
 use Rattle.bank.specs.Rest.{atRest}
 use Rattle.bank.specs.declared.bank.Bank.{Bank}
 use Rattle.bank.specs.declared.bank.Step.{Step}
@@ -46,7 +46,7 @@ withStruck b j = withRewritten (λ c. struck c j) b (λ k. ltb k (b .tree .colum
 unfoldable pub returned : Bank → ℕ → Bank
 returned b j = withPlace (withStruck b j) j (comeBack b j)
 
-abbrev pub back : State → ℕ → Outcome State
+abbrev pub back : State → ℕ → Result State
 back s j = unless (backRefusal s j) s (accepted (state (returned (s .bank) j) (s .heads) (s .doors)))
 
 abbrev pub isBack : Step → Bool

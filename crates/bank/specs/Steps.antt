@@ -18,35 +18,35 @@ use Rattle.bank.specs.Networks.{puts, removed, vanished}
 use Rattle.bank.specs.declared.bank.Bank.{Bank}
 use Rattle.bank.specs.declared.bank.Answer.{Answer}
 use Rattle.bank.specs.declared.bank.Answer.the-variants.{Done, Refused}
-use Rattle.bank.specs.declared.bank.Result.{Result}
+use Rattle.bank.specs.declared.bank.Outcome.{Outcome}
 
 -- ---- what a call gives
 
 -- accepted, and what is held after it; or refused by document 01's number, and what was held
-pub data Outcome (A : Type 0) : Type 0 where
-  accepted : A → Outcome A
-  refused : ℕ → A → Outcome A
+pub data Result (A : Type 0) : Type 0 where
+  accepted : A → Result A
+  refused : ℕ → A → Result A
 
 -- the number and the values of each case of `Answer`
-abbrev pub answered : {A : Type 0} → Answer → A → Outcome A
+abbrev pub answered : {A : Type 0} → Answer → A → Result A
 answered Done a = accepted a
 answered (Refused n) a = refused n a
 
 -- what a call answered, with the words that it left
-abbrev pub outcome : Result → List ℕ → List ℕ → Outcome State
-outcome r heads doors = answered (r .answer) (state (r .bank) heads doors)
+abbrev pub outcomeMeant : Outcome → List ℕ → List ℕ → Result State
+outcomeMeant r heads doors = answered (r .answer) (state (r .bank) heads doors)
 
 -- what is held after a call
-abbrev pub after : {A : Type 0} → Outcome A → A
+abbrev pub after : {A : Type 0} → Result A → A
 after (accepted a) = a
 after (refused n a) = a
 
 -- "A refusal returns its number; bank, network and lent bytes keep their values."
-abbrev pub unless : ℕ → State → Outcome State → Outcome State
+abbrev pub unless : ℕ → State → Result State → Result State
 unless n s effect = cond (eqb n 0) effect (refused n s)
 
 -- the fresh bank of a tree, refused by 2 or 3 where it is none
-unfoldable pub fresh : Tree → Outcome Bank
+unfoldable pub fresh : Tree → Result Bank
 fresh t = cond (eqb (treeRefusal t) 0) (accepted (freshBank t)) (refused (treeRefusal t) (noBank t))
 
 -- ---- what the core's result makes of the bank
@@ -59,33 +59,33 @@ abbrev pub withColumn : State → ℕ → Column → State
 withColumn s i c = state (withPlace (s .bank) i c) (s .heads) (s .doors)
 
 -- "9: a packet would raise the network above 512"
-unfoldable pub fitting : State → State → Outcome State
+unfoldable pub fitting : State → State → Result State
 fitting s next = cond (ltb capacity (next .bank .count)) (refused 9 s) (accepted next)
 
 -- Column i is what the core says, and its packet is put. `gone` is the bank without the packets that the step takes off: it counts unless
 -- the packet is left in its place.
-abbrev pub settled : State → State → ℕ → core.Result → Outcome State
+abbrev pub settled : State → State → ℕ → core.Result → Result State
 settled s gone i (core.accepted c packets left) = fitting s (puts (withColumn (cond left s gone) i c) packets)
 settled s gone i (core.refused n c) = refused n s
 
 -- ---- the steps
 
 -- the steps that take no packet off
-unfoldable pub acted : State → ℕ → core.Result → Outcome State
+unfoldable pub acted : State → ℕ → core.Result → Result State
 acted s i r = unless (actingRefusal s i) s (settled s s i r)
 
-abbrev pub order : State → ℕ → Outcome State
+abbrev pub order : State → ℕ → Result State
 order s doors =
     let t = s .bank .tree in
     acted s (t .root) (core.order t (t .root) (columnAt (s .bank) (t .root)) doors)
 
-abbrev pub send : State → ℕ → Outcome State
+abbrev pub send : State → ℕ → Result State
 send s i = acted s i (core.send (s .bank .tree) i (columnAt (s .bank) i))
 
-abbrev pub ack : State → ℕ → Outcome State
+abbrev pub ack : State → ℕ → Result State
 ack s i = acted s i (core.ack (s .bank .tree) i (columnAt (s .bank) i))
 
-abbrev pub all : State → ℕ → Outcome State
+abbrev pub all : State → ℕ → Result State
 all s i = acted s i (core.all (s .bank .tree) i (columnAt (s .bank) i))
 
 -- "Alone, the core believes note's caller that j is halted ..; the bank tests the one": a condition of 6, after those of the core
@@ -95,7 +95,7 @@ noteRefusal b i j = earlier (core.noteRefusal (b .tree) i (columnAt b i) j) (fir
 abbrev pub noted : Bank → ℕ → ℕ → core.Result
 noted b i j = core.unless (noteRefusal b i j) (columnAt b i) (core.noteEffect (b .tree) (columnAt b i) j)
 
-abbrev pub note : State → ℕ → ℕ → Outcome State
+abbrev pub note : State → ℕ → ℕ → Result State
 note s i j = acted s i (noted (s .bank) i j)
 
 -- "10: take at a place not below the packet count"
@@ -103,11 +103,11 @@ abbrev pub takeRefusal : State → ℕ → ℕ
 takeRefusal s place = earlier (bankRefusal s) (first ((10, leb (s .bank .count) place) ∷ []))
 
 -- "the packet goes to its receiver"
-unfoldable pub delivered : State → ℕ → Packet → Outcome State
+unfoldable pub delivered : State → ℕ → Packet → Result State
 delivered s place p =
     settled s (removed s place) (receiver p) (core.take (s .bank .tree) (receiver p) (columnAt (s .bank) (receiver p)) p)
 
-abbrev pub take : State → ℕ → Outcome State
+abbrev pub take : State → ℕ → Result State
 take s place = unless (takeRefusal s place) s (delivered s place (packetAt s place))
 
 -- the places from k on, with every member's column rewritten
@@ -141,5 +141,5 @@ unfoldable pub haltRefusal : State → ℕ → ℕ
 haltRefusal s m = earlier (bankRefusal s) (first (haltConditions s m))
 
 -- "`halt=` takes a list of one or more columns .., and all of them halt in the same step": the set of them
-abbrev pub halt : State → ℕ → Outcome State
+abbrev pub halt : State → ℕ → Result State
 halt s m = unless (haltRefusal s m) s (accepted (halted s (has m)))

@@ -9,19 +9,19 @@ use Rattle.column.specs.Sets.{has}
 use Rattle.column.specs.Steps as core
 use Rattle.bank.specs.Banks.{State, columnAt, actingRefusal, Whole}
 use Rattle.bank.specs.Networks.{only, vanished}
-use Rattle.bank.specs.Steps.{Outcome, accepted, refused, unless, settled, haltRefusal, halt}
+use Rattle.bank.specs.Steps.{Result, accepted, refused, unless, settled, haltRefusal, halt}
 
 -- "i stops ..; packets to it vanish": one column, by the core
-abbrev pub haltOne : State → ℕ → Outcome State
+abbrev pub haltOne : State → ℕ → Result State
 haltOne s i =
     unless (actingRefusal s i) s (settled s (vanished s (only i)) i (core.halt (s .bank .tree) i (columnAt (s .bank) i)))
 
-abbrev pub andThen : Outcome State → (State → Outcome State) → Outcome State
+abbrev pub andThen : Result State → (State → Result State) → Result State
 andThen (accepted s) f = f s
 andThen (refused n s) f = refused n s
 
 -- one after the other, until one is refused
-unfoldable pub singles : State → List ℕ → Outcome State
+unfoldable pub singles : State → List ℕ → Result State
 singles s [] = accepted s
 singles s (i ∷ l) = andThen (haltOne s i) (λ t. singles t l)
 

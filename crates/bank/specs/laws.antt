@@ -2,7 +2,7 @@ pub mod WordLaws
 pub mod ListSteps
 pub mod ListLaws
 pub mod NetworkLaws
-pub mod StandingLaws
+pub mod ValidityLaws
 pub mod HeadLaws
 pub mod SetsWordLaws
 pub mod SurveyLaws
@@ -13,7 +13,7 @@ pub mod Kinds
 pub mod Places
 pub mod Steady
 pub mod ColumnOn
-pub mod StandingOn
+pub mod ValidityOn
 pub mod RestSteps
 pub mod RestLaws
 pub mod ReturnLaws

@@ -23,7 +23,7 @@ pub enum Answer {
 }
 
 // The bank after a call, or as it was where the call is refused.
-pub struct Result {
+pub struct Outcome {
     pub bank: Bank,
     pub answer: Answer,
 }
@@ -42,20 +42,20 @@ pub enum Step {
 }
 
 // The call is accepted with this bank.
-pub(crate) fn done(b: Bank) -> Result
+pub(crate) fn done(b: Bank) -> Outcome
     ensures { λ r. ⌜ answered (r .answer) (r .bank) ≡ accepted b ⌝ }
 {
-    Result {
+    Outcome {
         bank: b,
         answer: Answer::Done,
     }
 }
 
 // The call is refused by n, with the bank as it was.
-pub(crate) fn refused(b: Bank, n: u8) -> Result
+pub(crate) fn refused(b: Bank, n: u8) -> Outcome
     ensures { λ r. ⌜ answered (r .answer) (r .bank) ≡ refused n b ⌝ }
 {
-    Result {
+    Outcome {
         bank: b,
         answer: Answer::Refused(n),
     }
@@ -76,7 +76,7 @@ pub const NO_COLUMN: Column = Column {
 };
 
 // The bank of a tree as it begins; of a tree that is refused with 2 or 3, a bank in which nobody runs.
-pub fn fresh(t: Tree) -> Result
+pub fn fresh(t: Tree) -> Outcome
     ensures { λ r. ⌜ answered (r .answer) (r .bank) ≡ fresh t ⌝ }
 {
     let mut b = Bank {

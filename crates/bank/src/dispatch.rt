@@ -7,13 +7,13 @@ use crate::settling::Change;
 use crate::settling::is_refusal;
 use crate::settling::settle;
 use crate::settling::settle_taken;
-use crate::standing::newest_stands;
 use crate::survey::halted;
 use crate::survey::survey;
 use crate::turn::is_take;
 use crate::turn::ready_after;
 use crate::turn::ready_columns;
 use crate::turn::step_of;
+use crate::validity::newest_valid;
 use crate::words::packet;
 use crate::words::receiver_in;
 use column::effect::ack_effect;
@@ -22,13 +22,12 @@ use column::effect::note_effect;
 use column::effect::send_effect;
 use column::effect::take_effect;
 use column::members::lowest;
-use column::outcome::Outcome;
 use column::state::Column;
 use column::tree::Tree;
 ghost use mathlib.Core.Path.{_≡_};
 ghost use Prim.Native.Nat.{_≤_, _<_};
 ghost use mathlib.Core.Bool.{true};
-ghost use Rattle.column.specs.Steps.{meant, refused};
+ghost use Rattle.column.specs.Steps.{outcomeMeant as core·outcomeMeant, refused};
 ghost use Rattle.bank.specs.Banks.{state, runningOf, bankRefusal};
 ghost use Rattle.bank.specs.Dispatch.{dispatch, dispatchOutcome, Dispatches};
 ghost use Rattle.bank.specs.Steps.{accepted};
@@ -68,18 +67,18 @@ fn ended(b: Bank, steps: usize) -> Dispatched
 }
 
 // What no turn takes is refused.
-fn no_turn(c: Column) -> Outcome
-    ensures { λ r. ⌜ meant r ≡ refused 10 c ⌝ }
+fn no_turn(c: Column) -> column::outcome::Outcome
+    ensures { λ r. ⌜ core·outcomeMeant r ≡ refused 10 c ⌝ }
 {
-    Outcome {
+    column::outcome::Outcome {
         column: c,
         answer: column::outcome::Answer::Refused(10),
     }
 }
 
 // What the turn's step x, which takes no packet, makes of column i, which is c: it is accepted, and is not tested again.
-fn effect_of(t: Tree, x: Step, i: usize, c: Column) -> Outcome
-    ensures { λ r. ⌜ meant r ≡ turnEffect t x i c ⌝ }
+fn effect_of(t: Tree, x: Step, i: usize, c: Column) -> column::outcome::Outcome
+    ensures { λ r. ⌜ core·outcomeMeant r ≡ turnEffect t x i c ⌝ }
 {
     match x {
         Step::Send(_) => send_effect(t, i, c),
@@ -131,14 +130,14 @@ fn take_turns(
 {
     let mut d = b;
     let t = b.tree;
-    let dark = halted(t.columns, running);
-    let mut ready = ready_columns(b, dark);
+    let halted_columns = halted(t.columns, running);
+    let mut ready = ready_columns(b, halted_columns);
     let mut steps: usize = 0;
     while (steps < limit) & ((ready != 0) | (d.count != 0)) {
         let full = !(d.count < CAPACITY);
         // Where nobody is ready, column 0: its step is the take.
         let k = lowest(ready) % 16;
-        let x = step_of(t, full, dark, k, d.columns[k]);
+        let x = step_of(t, full, halted_columns, k, d.columns[k]);
         let i = acting(x, heads[0]);
         let r = take_turn(t, running, x, i, d.columns[i], d.count, heads, doors);
         let a = r.answer;
@@ -149,12 +148,12 @@ fn take_turns(
         d.columns[i] = c;
         d.count = r.count;
         steps += 1;
-        if !newest_stands(t.columns, t.root, t.watch, running, d.count, heads) {
+        if !newest_valid(t.columns, t.root, t.watch, running, d.count, heads) {
             return ended(d, steps);
         }
-        ready = ready_after(ready, t, full, dark, i, c);
+        ready = ready_after(ready, t, full, halted_columns, i, c);
         if full != !(d.count < CAPACITY) {
-            ready = ready_columns(d, dark);
+            ready = ready_columns(d, halted_columns);
         }
     }
     ended(d, steps)

@@ -1,11 +1,11 @@
 // The register pages of the columns: a byte read, a byte written, and whether the line is up. A halted column has its page too.
 use crate::bank::Bank;
-use crate::bank::Result;
+use crate::bank::Outcome;
 use crate::bank::done;
 use crate::bank::refused;
 use crate::settling::column_at;
-use crate::standing::acting_refusal;
 use crate::survey::survey;
+use crate::validity::acting_refusal;
 use column::page::Byte;
 use column::page::writable;
 use column::page::written;
@@ -30,7 +30,7 @@ pub fn read(b: Bank, i: usize, offset: usize, heads: &[u64; 512]) -> Byte
 }
 
 // A byte written to the page of column i; or 2 to 4, 22 for any offset but 5 and 7.
-pub(crate) fn write_byte(b: Bank, i: usize, offset: usize, value: u8, heads: &[u64; 512]) -> Result
+pub(crate) fn write_byte(b: Bank, i: usize, offset: usize, value: u8, heads: &[u64; 512]) -> Outcome
     ensures { λ r. ⌜ Writes r b (now (heads .entry)) i offset value ⌝ }
 {
     let v = survey(b, heads);

@@ -7,7 +7,6 @@ use crate::bank::NO_COLUMN;
 use crate::network::append;
 use crate::network::remove;
 use column::members::has;
-use column::outcome::Outcome;
 use column::packet::Packet;
 use column::packet::receiver;
 use column::state::Column;
@@ -81,7 +80,7 @@ fn deliver(
 // The core's outcome o for the acting column, once a packet that the step takes is off.
 pub fn settle(
     running: u16,
-    o: Outcome,
+    o: column::outcome::Outcome,
     count: usize,
     heads: &mut [u64; 512],
     doors: &mut [u64; 512],
@@ -120,7 +119,7 @@ fn takes_off(a: column::outcome::Answer) -> bool
 pub fn settle_taken(
     running: u16,
     place: usize,
-    o: Outcome,
+    o: column::outcome::Outcome,
     count: usize,
     heads: &mut [u64; 512],
     doors: &mut [u64; 512],

@@ -1,7 +1,7 @@
 // The steps of a bank: refused and unchanged, or the core's step on one place with its packet.
 use crate::bank::Answer;
 use crate::bank::Bank;
-use crate::bank::Result;
+use crate::bank::Outcome;
 use crate::bank::Step;
 use crate::network::vanish;
 use crate::opening::opening;
@@ -22,7 +22,6 @@ use crate::survey::unseen;
 use crate::turn::is_take;
 use crate::words::packet;
 use column::members::has;
-use column::outcome::Outcome;
 use column::precedence::earlier;
 use column::refusal::note_refusal;
 use column::state::Column;
@@ -31,7 +30,7 @@ use column::unchecked_for_bank;
 ghost use mathlib.Core.Path.{_≡_};
 ghost use mathlib.Core.Bool.{true};
 ghost use Prim.Native.Nat.{_≤_, _<_};
-ghost use Rattle.column.specs.Steps.{meant, refused};
+ghost use Rattle.column.specs.Steps.{outcomeMeant as core·outcomeMeant, refused};
 ghost use Rattle.bank.specs.Banks.{state};
 ghost use Rattle.bank.specs.inner.Changes.{StepsCore, Takes};
 ghost use Rattle.bank.specs.Parts.{isMove, isTake};
@@ -39,35 +38,35 @@ ghost use Rattle.bank.specs.inner.Moves.{placeIn, Moving, Moves};
 ghost use Rattle.bank.specs.Pages.{write};
 ghost use Rattle.bank.specs.Performs.{perform};
 ghost use Rattle.bank.specs.Returns.{back};
-ghost use Rattle.bank.specs.Steps.{outcome, order, send, take, ack, all, note, halt};
+ghost use Rattle.bank.specs.Steps.{outcomeMeant, order, send, take, ack, all, note, halt};
 ghost use Rattle.bank.specs.declared.bank.Step.the-variants.{Note};
 
 // The core believes that the column to note is halted; the bank tests it.
-fn noted(t: Tree, running: u16, i: usize, c: Column, j: usize) -> Outcome
+fn noted(t: Tree, running: u16, i: usize, c: Column, j: usize) -> column::outcome::Outcome
     ensures { λ r. ⌜ StepsCore r t running (Note i j) i c ⌝ }
 {
     if !has(running, j) {
         return unchecked_for_bank::note(t, i, c, j);
     }
     let n = earlier(note_refusal(t, i, c, j), 6);
-    Outcome {
+    column::outcome::Outcome {
         column: c,
         answer: column::outcome::Answer::Refused(n),
     }
 }
 
 // What is no step of the core's is refused.
-fn no_step(c: Column) -> Outcome
-    ensures { λ r. ⌜ meant r ≡ refused 10 c ⌝ }
+fn no_step(c: Column) -> column::outcome::Outcome
+    ensures { λ r. ⌜ core·outcomeMeant r ≡ refused 10 c ⌝ }
 {
-    Outcome {
+    column::outcome::Outcome {
         column: c,
         answer: column::outcome::Answer::Refused(10),
     }
 }
 
 // What the core makes of column i, which is c, in a bank that stands and whose columns in `running` run.
-fn core_step(t: Tree, running: u16, x: Step, i: usize, c: Column) -> Outcome
+fn core_step(t: Tree, running: u16, x: Step, i: usize, c: Column) -> column::outcome::Outcome
     ensures { λ r. ⌜ StepsCore r t running x i c ⌝ }
 {
     match x {
@@ -125,9 +124,9 @@ pub(crate) fn change(
 }
 
 // The step x of column i. The bank is copied twice, in and out: from its first line on only the copy is read, and there is one result.
-fn act(b: Bank, x: Step, i: usize, heads: &mut [u64; 512], doors: &mut [u64; 512]) -> Result
+fn act(b: Bank, x: Step, i: usize, heads: &mut [u64; 512], doors: &mut [u64; 512]) -> Outcome
     requires { ⌜ Moving (state b (now heads) (now doors)) x i ⌝ }
-    ensures { λ r. ⌜ outcome r (now (heads .exit)) (now (doors .exit)) ≡ perform (state b (now (heads .entry)) (now (doors .entry))) x ⌝ }
+    ensures { λ r. ⌜ outcomeMeant r (now (heads .exit)) (now (doors .exit)) ≡ perform (state b (now (heads .entry)) (now (doors .entry))) x ⌝ }
 {
     let mut d = b;
     let t = d.tree;
@@ -152,12 +151,12 @@ fn act(b: Bank, x: Step, i: usize, heads: &mut [u64; 512], doors: &mut [u64; 512
             d.count = r.count;
         }
     }
-    Result { bank: d, answer }
+    Outcome { bank: d, answer }
 }
 
 // The columns of a set.
-fn halt_columns(b: Bank, m: u32, heads: &mut [u64; 512], doors: &mut [u64; 512]) -> Result
-    ensures { λ r. ⌜ outcome r (now (heads .exit)) (now (doors .exit)) ≡ halt (state b (now (heads .entry)) (now (doors .entry))) m ⌝ }
+fn halt_columns(b: Bank, m: u32, heads: &mut [u64; 512], doors: &mut [u64; 512]) -> Outcome
+    ensures { λ r. ⌜ outcomeMeant r (now (heads .exit)) (now (doors .exit)) ≡ halt (state b (now (heads .entry)) (now (doors .entry))) m ⌝ }
 {
     let mut d = b;
     let t = d.tree;
@@ -178,12 +177,12 @@ fn halt_columns(b: Bank, m: u32, heads: &mut [u64; 512], doors: &mut [u64; 512])
         d = stop(d, m);
         answer = Answer::Done;
     }
-    Result { bank: d, answer }
+    Outcome { bank: d, answer }
 }
 
 // The bank after any of the nine steps.
-pub fn perform(b: Bank, x: Step, heads: &mut [u64; 512], doors: &mut [u64; 512]) -> Result
-    ensures { λ r. ⌜ outcome r (now (heads .exit)) (now (doors .exit)) ≡ perform (state b (now (heads .entry)) (now (doors .entry))) x ⌝ }
+pub fn perform(b: Bank, x: Step, heads: &mut [u64; 512], doors: &mut [u64; 512]) -> Outcome
+    ensures { λ r. ⌜ outcomeMeant r (now (heads .exit)) (now (doors .exit)) ≡ perform (state b (now (heads .entry)) (now (doors .entry))) x ⌝ }
 {
     let t = b.tree;
     match x {
@@ -200,59 +199,59 @@ pub fn perform(b: Bank, x: Step, heads: &mut [u64; 512], doors: &mut [u64; 512])
 }
 
 // The bank with these doors given to its root under the next number.
-pub fn order(b: Bank, given: u64, heads: &mut [u64; 512], doors: &mut [u64; 512]) -> Result
-    ensures { λ r. ⌜ outcome r (now (heads .exit)) (now (doors .exit)) ≡ order (state b (now (heads .entry)) (now (doors .entry))) given ⌝ }
+pub fn order(b: Bank, given: u64, heads: &mut [u64; 512], doors: &mut [u64; 512]) -> Outcome
+    ensures { λ r. ⌜ outcomeMeant r (now (heads .exit)) (now (doors .exit)) ≡ order (state b (now (heads .entry)) (now (doors .entry))) given ⌝ }
 {
     let t = b.tree;
     act(b, Step::Order(given), t.root, heads, doors)
 }
 
 // The bank after column i served the one that stands earliest of those it is to send to; a message to a running one is put.
-pub fn send(b: Bank, i: usize, heads: &mut [u64; 512], doors: &mut [u64; 512]) -> Result
-    ensures { λ r. ⌜ outcome r (now (heads .exit)) (now (doors .exit)) ≡ send (state b (now (heads .entry)) (now (doors .entry))) i ⌝ }
+pub fn send(b: Bank, i: usize, heads: &mut [u64; 512], doors: &mut [u64; 512]) -> Outcome
+    ensures { λ r. ⌜ outcomeMeant r (now (heads .exit)) (now (doors .exit)) ≡ send (state b (now (heads .entry)) (now (doors .entry))) i ⌝ }
 {
     act(b, Step::Send(i), i, heads, doors)
 }
 
 // The bank after the packet at a place went to its receiver.
-pub fn take(b: Bank, place: usize, heads: &mut [u64; 512], doors: &mut [u64; 512]) -> Result
-    ensures { λ r. ⌜ outcome r (now (heads .exit)) (now (doors .exit)) ≡ take (state b (now (heads .entry)) (now (doors .entry))) place ⌝ }
+pub fn take(b: Bank, place: usize, heads: &mut [u64; 512], doors: &mut [u64; 512]) -> Outcome
+    ensures { λ r. ⌜ outcomeMeant r (now (heads .exit)) (now (doors .exit)) ≡ take (state b (now (heads .entry)) (now (doors .entry))) place ⌝ }
 {
     let i = receiver_at(place, heads);
     act(b, Step::Take(place), i, heads, doors)
 }
 
 // The bank after column i acknowledged its record to the lowest owed.
-pub fn ack(b: Bank, i: usize, heads: &mut [u64; 512], doors: &mut [u64; 512]) -> Result
-    ensures { λ r. ⌜ outcome r (now (heads .exit)) (now (doors .exit)) ≡ ack (state b (now (heads .entry)) (now (doors .entry))) i ⌝ }
+pub fn ack(b: Bank, i: usize, heads: &mut [u64; 512], doors: &mut [u64; 512]) -> Outcome
+    ensures { λ r. ⌜ outcomeMeant r (now (heads .exit)) (now (doors .exit)) ≡ ack (state b (now (heads .entry)) (now (doors .entry))) i ⌝ }
 {
     act(b, Step::Ack(i), i, heads, doors)
 }
 
 // The bank after column i took over.
-pub fn all(b: Bank, i: usize, heads: &mut [u64; 512], doors: &mut [u64; 512]) -> Result
-    ensures { λ r. ⌜ outcome r (now (heads .exit)) (now (doors .exit)) ≡ all (state b (now (heads .entry)) (now (doors .entry))) i ⌝ }
+pub fn all(b: Bank, i: usize, heads: &mut [u64; 512], doors: &mut [u64; 512]) -> Outcome
+    ensures { λ r. ⌜ outcomeMeant r (now (heads .exit)) (now (doors .exit)) ≡ all (state b (now (heads .entry)) (now (doors .entry))) i ⌝ }
 {
     act(b, Step::All(i), i, heads, doors)
 }
 
 // The bank after column i noted that j is halted.
-pub fn note(b: Bank, i: usize, j: usize, heads: &mut [u64; 512], doors: &mut [u64; 512]) -> Result
-    ensures { λ r. ⌜ outcome r (now (heads .exit)) (now (doors .exit)) ≡ note (state b (now (heads .entry)) (now (doors .entry))) i j ⌝ }
+pub fn note(b: Bank, i: usize, j: usize, heads: &mut [u64; 512], doors: &mut [u64; 512]) -> Outcome
+    ensures { λ r. ⌜ outcomeMeant r (now (heads .exit)) (now (doors .exit)) ≡ note (state b (now (heads .entry)) (now (doors .entry))) i j ⌝ }
 {
     act(b, Step::Note(i, j), i, heads, doors)
 }
 
 // The bank with every column of a set halted, and without the packets to them.
-pub fn halt(b: Bank, m: u32, heads: &mut [u64; 512], doors: &mut [u64; 512]) -> Result
-    ensures { λ r. ⌜ outcome r (now (heads .exit)) (now (doors .exit)) ≡ halt (state b (now (heads .entry)) (now (doors .entry))) m ⌝ }
+pub fn halt(b: Bank, m: u32, heads: &mut [u64; 512], doors: &mut [u64; 512]) -> Outcome
+    ensures { λ r. ⌜ outcomeMeant r (now (heads .exit)) (now (doors .exit)) ≡ halt (state b (now (heads .entry)) (now (doors .entry))) m ⌝ }
 {
     halt_columns(b, m, heads, doors)
 }
 
 // The bank with halted column j running again.
-pub fn back(b: Bank, j: usize, heads: &[u64; 512], doors: &[u64; 512]) -> Result
-    ensures { λ r. ⌜ outcome r (now (heads .entry)) (now (doors .entry)) ≡ back (state b (now (heads .entry)) (now (doors .entry))) j ⌝ }
+pub fn back(b: Bank, j: usize, heads: &[u64; 512], doors: &[u64; 512]) -> Outcome
+    ensures { λ r. ⌜ outcomeMeant r (now (heads .entry)) (now (doors .entry)) ≡ back (state b (now (heads .entry)) (now (doors .entry))) j ⌝ }
 {
     bring_back(b, j, heads)
 }
@@ -265,8 +264,8 @@ pub fn write(
     value: u8,
     heads: &[u64; 512],
     doors: &[u64; 512],
-) -> Result
-    ensures { λ r. ⌜ outcome r (now (heads .entry)) (now (doors .entry)) ≡ write (state b (now (heads .entry)) (now (doors .entry))) i offset value ⌝ }
+) -> Outcome
+    ensures { λ r. ⌜ outcomeMeant r (now (heads .entry)) (now (doors .entry)) ≡ write (state b (now (heads .entry)) (now (doors .entry))) i offset value ⌝ }
 {
     write_byte(b, i, offset, value, heads)
 }

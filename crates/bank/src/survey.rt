@@ -17,7 +17,7 @@ ghost use Prim.Native.Nat.{ℕ, _^_, _≤_, _<_};
 ghost use lib.ListN.{getD};
 ghost use Rattle.column.specs.Sets.{minus, whole};
 ghost use Rattle.column.specs.Trees.{every};
-ghost use Rattle.bank.specs.inner.Surveys.{endsStand, barredOf, pairStands, headStands, placesOf, unseen, setsOf, membersIn, Sees, RefusesSeen, Surveys};
+ghost use Rattle.bank.specs.inner.Surveys.{endsValid, barredOf, pairValid, headValid, placesOf, unseen, setsOf, membersIn, Sees, RefusesSeen, Surveys};
 
 // What is no column's number.
 const NO_END: u8 = 255;
@@ -91,9 +91,9 @@ fn members_in(sets: u64) -> u16
 }
 
 // Row 4 of a packet, by its head, but for whether its receiver runs.
-pub fn ends_stand(columns: usize, root: usize, watch: bool, head: u64) -> bool
+pub fn ends_valid(columns: usize, root: usize, watch: bool, head: u64) -> bool
     requires { ⌜ columns ≤ 16 ⌝ }
-    ensures { λ r. ⌜ r ≡ endsStand columns root watch head ⌝ }
+    ensures { λ r. ⌜ r ≡ endsValid columns root watch head ⌝ }
 {
     let from = sender_in(head);
     let to = receiver_in(head);
@@ -127,8 +127,8 @@ fn barred(root: usize, watch: bool) -> u8
 }
 
 // Row 4 of a packet but for whether its receiver runs, by what stands above the number in its head. Bytes are compared, which is quicker.
-fn pair_stands(columns: u8, barred: u8, pair: u64) -> bool
-    ensures { λ r. ⌜ r ≡ pairStands columns barred pair ⌝ }
+fn pair_valid(columns: u8, barred: u8, pair: u64) -> bool
+    ensures { λ r. ⌜ r ≡ pairValid columns barred pair ⌝ }
 {
     let from = (pair / ENDS % ENDS) as u8;
     let to = (pair % ENDS) as u8;
@@ -148,7 +148,7 @@ fn pair_stands(columns: u8, barred: u8, pair: u64) -> bool
 }
 
 // The receivers are gathered, and compared with those who run once.
-fn heads_stand(
+fn heads_valid(
     columns: usize,
     root: usize,
     watch: bool,
@@ -157,7 +157,7 @@ fn heads_stand(
     heads: &[u64; 512],
 ) -> bool
     requires { ⌜ (columns ≤ 16) × ((root < 16) × (count ≤ 512)) ⌝ }
-    ensures { λ r. ⌜ r ≡ every (λ (k : ℕ). headStands columns root watch running (getD (now (heads .entry)) k 0)) count ⌝ }
+    ensures { λ r. ⌜ r ≡ every (λ (k : ℕ). headValid columns root watch running (getD (now (heads .entry)) k 0)) count ⌝ }
 {
     let bound = columns as u8;
     let closed = barred(root, watch);
@@ -165,7 +165,7 @@ fn heads_stand(
     let mut k: usize = 0;
     while k < count {
         let pair = heads[k] / NUMBERS;
-        if !pair_stands(bound, closed, pair) {
+        if !pair_valid(bound, closed, pair) {
             return false;
         }
         receivers = receivers | (1u64 << (pair % ENDS));
@@ -205,7 +205,7 @@ pub(crate) fn seen_refusal(t: Tree, v: Seen, whole: bool, count: usize, heads: &
     if CAPACITY < count {
         return 4;
     }
-    if !heads_stand(t.columns, t.root, t.watch, v.running, count, heads) {
+    if !heads_valid(t.columns, t.root, t.watch, v.running, count, heads) {
         return 4;
     }
     0

@@ -8,9 +8,9 @@ use crate::bank::Step;
 use crate::opening::opening;
 use crate::opening::receiver_at;
 use crate::settling::is_refusal;
-use crate::standing::newest_stands;
 use crate::step::change;
 use crate::survey::survey;
+use crate::validity::newest_valid;
 use column::state::Column;
 use column::tree::Tree;
 ghost use mathlib.Core.Path.{_≡_};
@@ -108,7 +108,7 @@ fn refusal_after(t: Tree, running: u16, count: usize, heads: &[u64; 512]) -> u8
     if CAPACITY < count {
         return 4;
     }
-    if newest_stands(t.columns, t.root, t.watch, running, count, heads) {
+    if newest_valid(t.columns, t.root, t.watch, running, count, heads) {
         return 0;
     }
     4

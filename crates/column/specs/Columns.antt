@@ -53,8 +53,8 @@ unfoldable pub stateRefusal : Tree → ℕ → Column → ℕ
 stateRefusal t i c = first (stateConditions t i c)
 
 -- "Before all else a tree that breaks row 2 or 3 gives that number. Next, 4"
-abbrev pub standing : Tree → ℕ → Column → ℕ
-standing t i c = earlier (treeRefusal t) (stateRefusal t i c)
+abbrev pub validityRefusal : Tree → ℕ → Column → ℕ
+validityRefusal t i c = earlier (treeRefusal t) (stateRefusal t i c)
 
 -- "neither sends nor awaits"
 abbrev pub idle : Column → Bool

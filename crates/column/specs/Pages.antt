@@ -8,7 +8,7 @@ use lib.Dec.{eqb, leb}
 use lib.ListN.{getD}
 use Rattle.column.specs.Refusals.{first, earlier, Given, given, refused, givenUnless}
 use Rattle.column.specs.Sets.{single, join, minus}
-use Rattle.column.specs.Columns.{standing, withRegisters}
+use Rattle.column.specs.Columns.{validityRefusal, withRegisters}
 use Rattle.column.specs.Steps.{Result, accepted, unless}
 use Rattle.column.specs.declared.tree.Tree.{Tree}
 use Rattle.column.specs.declared.state.Column.{Column}
@@ -54,7 +54,7 @@ readConditions offset =
     ∷ []
 
 unfoldable pub readRefusal : Tree → ℕ → Column → ℕ → ℕ
-readRefusal t i c offset = earlier (standing t i c) (first (readConditions offset))
+readRefusal t i c offset = earlier (validityRefusal t i c) (first (readConditions offset))
 
 abbrev pub readByte : Tree → ℕ → Column → ℕ → Given ℕ
 readByte t i c offset = givenUnless (readRefusal t i c offset) (byteOf i c offset)
@@ -72,7 +72,7 @@ writeConditions offset =
     ∷ []
 
 unfoldable pub writeRefusal : Tree → ℕ → Column → ℕ → ℕ
-writeRefusal t i c offset = earlier (standing t i c) (first (writeConditions offset))
+writeRefusal t i c offset = earlier (validityRefusal t i c) (first (writeConditions offset))
 
 -- "Byte 5 keeps all eight bits written"; "a write there clears the pending bits that are 1 in it"
 unfoldable pub written : Column → ℕ → ℕ → Column

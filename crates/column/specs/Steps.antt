@@ -8,7 +8,7 @@ use Rattle.column.specs.Refusals.{first, earlier}
 use Rattle.column.specs.Sets.{has, single, join, insert, without, lowest}
 use Rattle.column.specs.Trees.{choose, children}
 use Rattle.column.specs.Packets.{isMessage, sender, receiver}
-use Rattle.column.specs.Columns.{highest, standing, idle, watched, mayAcknowledge, recordReceived, haltNoted, tookOver, pendingWith, stopped, withSets}
+use Rattle.column.specs.Columns.{highest, validityRefusal, idle, watched, mayAcknowledge, recordReceived, haltNoted, tookOver, pendingWith, stopped, withSets}
 use Rattle.column.specs.declared.tree.Tree.{Tree}
 use Rattle.column.specs.declared.state.Column.{Column}
 use Rattle.column.specs.declared.packet.Packet.{Packet}
@@ -32,8 +32,8 @@ answered c (Put p) = accepted c (p ∷ []) false
 answered c (Left p) = accepted c (p ∷ []) true
 answered c (Refused n) = refused n c
 
-abbrev pub meant : Outcome → Result
-meant o = answered (o .column) (o .answer)
+abbrev pub outcomeMeant : Outcome → Result
+outcomeMeant o = answered (o .column) (o .answer)
 
 -- "A refusal returns its number" and the column keeps its value
 abbrev pub unless : ℕ → Column → Result → Result
@@ -53,7 +53,7 @@ orderConditions t i c =
     ∷ []
 
 unfoldable pub orderRefusal : Tree → ℕ → Column → ℕ
-orderRefusal t i c = earlier (standing t i c) (first (orderConditions t i c))
+orderRefusal t i c = earlier (validityRefusal t i c) (first (orderConditions t i c))
 
 -- "Its number rises by one, it takes the doors, and its children become the set to send to."
 unfoldable pub orderEffect : Tree → ℕ → Column → ℕ → Result
@@ -87,7 +87,7 @@ sendConditions t i c =
     ∷ []
 
 unfoldable pub sendRefusal : Tree → ℕ → Column → ℕ
-sendRefusal t i c = earlier (standing t i c) (first (sendConditions t i c))
+sendRefusal t i c = earlier (validityRefusal t i c) (first (sendConditions t i c))
 
 -- "takes the .. column c out of i's set", that which stands earliest in the tree's sequence. "If c is i, no more. If i has noted c, c's children join the set. Otherwise c is
 -- awaited and a message with i's record is put."
@@ -127,7 +127,7 @@ takeConditions t i c p =
     ∷ []
 
 unfoldable pub takeRefusal : Tree → ℕ → Column → Packet → ℕ
-takeRefusal t i c p = earlier (standing t i c) (earlier (packetRefusal t p) (first (takeConditions t i c p)))
+takeRefusal t i c p = earlier (validityRefusal t i c) (earlier (packetRefusal t p) (first (takeConditions t i c p)))
 
 -- "An acknowledgement with the receiver's number ends the wait for its sender; another number changes nothing."
 unfoldable pub acknowledgementEffect : Column → ℕ → ℕ → Result
@@ -194,7 +194,7 @@ ackConditions t i c =
     ∷ []
 
 unfoldable pub ackRefusal : Tree → ℕ → Column → ℕ
-ackRefusal t i c = earlier (standing t i c) (first (ackConditions t i c))
+ackRefusal t i c = earlier (validityRefusal t i c) (first (ackConditions t i c))
 
 -- "The lowest owed gets an acknowledgement of i's number and is struck out."
 unfoldable pub ackEffect : ℕ → Column → Result
@@ -216,7 +216,7 @@ allConditions t i c =
     ∷ []
 
 unfoldable pub allRefusal : Tree → ℕ → Column → ℕ
-allRefusal t i c = earlier (standing t i c) (first (allConditions t i c))
+allRefusal t i c = earlier (validityRefusal t i c) (first (allConditions t i c))
 
 -- "Goal becomes the whole bank; the root alone is to be sent to."
 unfoldable pub allEffect : Tree → Column → Result
@@ -252,7 +252,7 @@ noteConditions t i c j =
     ∷ []
 
 unfoldable pub noteRefusal : Tree → ℕ → Column → ℕ → ℕ
-noteRefusal t i c j = earlier (standing t i c) (first (noteConditions t i c j))
+noteRefusal t i c j = earlier (validityRefusal t i c) (first (noteConditions t i c j))
 
 -- "It is noted; if awaited, it is no longer, and its children join the set to send to."
 unfoldable pub noteEffect : Tree → Column → ℕ → Result
@@ -285,7 +285,7 @@ haltConditions t i c =
     ∷ []
 
 unfoldable pub haltRefusal : Tree → ℕ → Column → ℕ
-haltRefusal t i c = earlier (standing t i c) (first (haltConditions t i c))
+haltRefusal t i c = earlier (validityRefusal t i c) (first (haltConditions t i c))
 
 unfoldable pub haltEffect : Column → Result
 haltEffect c = accepted (stopped c) [] false

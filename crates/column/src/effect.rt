@@ -26,7 +26,7 @@ ghost use mathlib.Core.List.{[], _∷_};
 ghost use Prim.Native.Nat.{_<_, _≤_};
 ghost use Rattle.column.specs.declared.packet.Packet.the-variants.{Acknowledgement};
 ghost use Rattle.column.specs.Columns.{highest};
-ghost use Rattle.column.specs.Steps.{meant, accepted, orderEffect, acknowledgementEffect, acknowledgeLowest, messageEffect, haltEffect};
+ghost use Rattle.column.specs.Steps.{outcomeMeant, accepted, orderEffect, acknowledgementEffect, acknowledgeLowest, messageEffect, haltEffect};
 ghost use Rattle.column.specs.Unchecked.{bounded, boundedSend, boundedTake, boundedAck, boundedAll, boundedNote};
 
 // Whether the tree has no more than sixteen columns, and both are one of sixteen.
@@ -37,7 +37,7 @@ pub(crate) fn bounded(t: Tree, i: usize, k: usize) -> bool
 }
 
 fn putting(c: Column, p: Packet) -> Outcome
-    ensures { λ r. ⌜ meant r ≡ accepted c (p ∷ []) false ⌝ }
+    ensures { λ r. ⌜ outcomeMeant r ≡ accepted c (p ∷ []) false ⌝ }
 {
     Outcome {
         column: c,
@@ -57,7 +57,7 @@ fn acknowledgement(i: usize, k: usize, number: Number) -> Packet
 // The root holds the order under the next number, and is to send it to its children.
 pub(crate) fn order_effect(t: Tree, i: usize, mut c: Column, doors: u64) -> Outcome
     requires { ⌜ (t .columns ≤ 16) × ((i < 16) × (c .number < highest)) ⌝ }
-    ensures { λ r. ⌜ meant r ≡ orderEffect t i c doors ⌝ }
+    ensures { λ r. ⌜ outcomeMeant r ≡ orderEffect t i c doors ⌝ }
 {
     c.number += 1;
     c.doors = doors;
@@ -69,7 +69,7 @@ pub(crate) fn order_effect(t: Tree, i: usize, mut c: Column, doors: u64) -> Outc
 // The earliest that the column is to send to is served: passed over where it is the column itself, its children to be sent to where it is noted, else sent a
 // message and awaited.
 pub fn send_effect(t: Tree, i: usize, mut c: Column) -> Outcome
-    ensures { λ r. ⌜ meant r ≡ boundedSend t i c ⌝ }
+    ensures { λ r. ⌜ outcomeMeant r ≡ boundedSend t i c ⌝ }
 {
     let k = choose(t, c.send);
     if !bounded(t, i, k) {
@@ -99,7 +99,7 @@ pub fn send_effect(t: Tree, i: usize, mut c: Column) -> Outcome
 
 fn acknowledgement_effect(mut c: Column, from: usize, number: Number) -> Outcome
     requires { ⌜ from < 16 ⌝ }
-    ensures { λ r. ⌜ meant r ≡ acknowledgementEffect c from number ⌝ }
+    ensures { λ r. ⌜ outcomeMeant r ≡ acknowledgementEffect c from number ⌝ }
 {
     if number == c.number {
         c.awaited = without(c.awaited, from);
@@ -109,7 +109,7 @@ fn acknowledgement_effect(mut c: Column, from: usize, number: Number) -> Outcome
 
 fn acknowledge_lowest(i: usize, mut c: Column, left: bool) -> Outcome
     requires { ⌜ (i < 16) × (0 < c .owed) ⌝ }
-    ensures { λ r. ⌜ meant r ≡ acknowledgeLowest i c left ⌝ }
+    ensures { λ r. ⌜ outcomeMeant r ≡ acknowledgeLowest i c left ⌝ }
 {
     let k = lowest(c.owed);
     c.owed = without(c.owed, k);
@@ -132,7 +132,7 @@ fn message_effect(
     doors: u64,
 ) -> Outcome
     requires { ⌜ (t .columns ≤ 16) × ((i < 16) × (from < 16)) ⌝ }
-    ensures { λ r. ⌜ meant r ≡ messageEffect t i c from number doors ⌝ }
+    ensures { λ r. ⌜ outcomeMeant r ≡ messageEffect t i c from number doors ⌝ }
 {
     if number == c.number {
         c.owed = insert(c.owed, from);
@@ -157,7 +157,7 @@ fn message_effect(
 
 // What a packet makes of the column that it is for.
 pub fn take_effect(t: Tree, i: usize, c: Column, p: Packet) -> Outcome
-    ensures { λ r. ⌜ meant r ≡ boundedTake t i c p ⌝ }
+    ensures { λ r. ⌜ outcomeMeant r ≡ boundedTake t i c p ⌝ }
 {
     let from = sender(p);
     if !bounded(t, i, from) {
@@ -171,7 +171,7 @@ pub fn take_effect(t: Tree, i: usize, c: Column, p: Packet) -> Outcome
 
 // The lowest owed is sent its acknowledgement, and owed no longer.
 pub fn ack_effect(t: Tree, i: usize, c: Column) -> Outcome
-    ensures { λ r. ⌜ meant r ≡ boundedAck t i c ⌝ }
+    ensures { λ r. ⌜ outcomeMeant r ≡ boundedAck t i c ⌝ }
 {
     if !bounded(t, i, lowest(c.owed)) {
         return refused(c, 4);
@@ -181,7 +181,7 @@ pub fn ack_effect(t: Tree, i: usize, c: Column) -> Outcome
 
 // The column takes over: it is to send to the root, and its goal is the whole bank.
 pub fn all_effect(t: Tree, i: usize, mut c: Column) -> Outcome
-    ensures { λ r. ⌜ meant r ≡ boundedAll t i c ⌝ }
+    ensures { λ r. ⌜ outcomeMeant r ≡ boundedAll t i c ⌝ }
 {
     if !bounded(t, i, t.root) {
         return refused(c, 4);
@@ -194,7 +194,7 @@ pub fn all_effect(t: Tree, i: usize, mut c: Column) -> Outcome
 
 // Column j is noted; where it was awaited, its children are to be sent to in its place.
 pub fn note_effect(t: Tree, i: usize, mut c: Column, j: usize) -> Outcome
-    ensures { λ r. ⌜ meant r ≡ boundedNote t i c j ⌝ }
+    ensures { λ r. ⌜ outcomeMeant r ≡ boundedNote t i c j ⌝ }
 {
     if !bounded(t, i, j) {
         return refused(c, 4);
@@ -210,7 +210,7 @@ pub fn note_effect(t: Tree, i: usize, mut c: Column, j: usize) -> Outcome
 
 // The column stops, and keeps all that it holds.
 pub fn halt_effect(mut c: Column) -> Outcome
-    ensures { λ r. ⌜ meant r ≡ haltEffect c ⌝ }
+    ensures { λ r. ⌜ outcomeMeant r ≡ haltEffect c ⌝ }
 {
     c.running = false;
     done(c)

@@ -4,7 +4,7 @@ use crate::state::Column;
 ghost use mathlib.Core.Bool.{false};
 ghost use mathlib.Core.Path.{_≡_};
 ghost use mathlib.Core.List.{[]};
-ghost use Rattle.column.specs.Steps.{meant, accepted, refused};
+ghost use Rattle.column.specs.Steps.{outcomeMeant, accepted, refused};
 
 pub enum Answer {
     // Accepted, and no packet is to be put.
@@ -24,7 +24,7 @@ pub struct Outcome {
 
 // The step is accepted with this column, and puts no packet.
 pub(crate) fn done(c: Column) -> Outcome
-    ensures { λ r. ⌜ meant r ≡ accepted c [] false ⌝ }
+    ensures { λ r. ⌜ outcomeMeant r ≡ accepted c [] false ⌝ }
 {
     Outcome {
         column: c,
@@ -34,7 +34,7 @@ pub(crate) fn done(c: Column) -> Outcome
 
 // The step is refused by n, with the column as it was.
 pub(crate) fn refused(c: Column, n: u8) -> Outcome
-    ensures { λ r. ⌜ meant r ≡ refused n c ⌝ }
+    ensures { λ r. ⌜ outcomeMeant r ≡ refused n c ⌝ }
 {
     Outcome {
         column: c,

@@ -5,13 +5,13 @@ use crate::outcome::done;
 use crate::outcome::refused;
 use crate::precedence::refuse_if;
 use crate::state::Column;
-use crate::state::standing;
+use crate::state::validity_refusal;
 use crate::tree::Tree;
 ghost use mathlib.Core.Bool.{cond};
 ghost use mathlib.Core.Path.{_≡_};
 ghost use lib.Count.{ones};
 ghost use Prim.Native.Nat.{_<_};
-ghost use Rattle.column.specs.Steps.{meant};
+ghost use Rattle.column.specs.Steps.{outcomeMeant};
 ghost use Rattle.column.specs.Pages.{page, byteMeant, readRefusal, readByte, writable, writeRefusal, written, write, lineUp};
 
 pub const PAGE_SIZE: usize = 8;
@@ -72,7 +72,7 @@ fn page(i: usize, c: Column) -> [u8; PAGE_SIZE]
 pub fn read_refusal(t: Tree, i: usize, c: Column, offset: usize) -> u8
     ensures { λ r. ⌜ r ≡ readRefusal t i c offset ⌝ }
 {
-    refuse_if(standing(t, i, c), PAGE_SIZE <= offset, 22)
+    refuse_if(validity_refusal(t, i, c), PAGE_SIZE <= offset, 22)
 }
 
 // The byte at an offset of column i's page, a halted one's too; or 2 to 4, 22.
@@ -113,12 +113,12 @@ pub fn written(mut c: Column, offset: usize, value: u8) -> Column
 pub fn write_refusal(t: Tree, i: usize, c: Column, offset: usize) -> u8
     ensures { λ r. ⌜ r ≡ writeRefusal t i c offset ⌝ }
 {
-    refuse_if(standing(t, i, c), !writable(offset), 22)
+    refuse_if(validity_refusal(t, i, c), !writable(offset), 22)
 }
 
 // Column i after a byte is written to its page, a halted one too; or 2 to 4, 22.
 pub fn write(t: Tree, i: usize, c: Column, offset: usize, value: u8) -> Outcome
-    ensures { λ r. ⌜ meant r ≡ write t i c offset value ⌝ }
+    ensures { λ r. ⌜ outcomeMeant r ≡ write t i c offset value ⌝ }
 {
     let n = write_refusal(t, i, c, offset);
     if n != 0 {

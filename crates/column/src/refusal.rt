@@ -9,7 +9,7 @@ use crate::packet::sender;
 use crate::precedence::earlier;
 use crate::precedence::refuse_if;
 use crate::state::Column;
-use crate::state::standing;
+use crate::state::validity_refusal;
 use crate::tree::Tree;
 ghost use mathlib.Core.Path.{_≡_};
 ghost use Rattle.column.specs.Refusals.{first, earlier};
@@ -56,7 +56,7 @@ pub(crate) fn order_conditions(n: u8, t: Tree, i: usize, c: Column) -> u8
 pub fn order_refusal(t: Tree, i: usize, c: Column) -> u8
     ensures { λ r. ⌜ r ≡ orderRefusal t i c ⌝ }
 {
-    order_conditions(standing(t, i, c), t, i, c)
+    order_conditions(validity_refusal(t, i, c), t, i, c)
 }
 
 // Of a send by column i: 5, 6 where nobody is to be sent to.
@@ -71,7 +71,7 @@ pub(crate) fn send_conditions(n: u8, t: Tree, i: usize, c: Column) -> u8
 pub fn send_refusal(t: Tree, i: usize, c: Column) -> u8
     ensures { λ r. ⌜ r ≡ sendRefusal t i c ⌝ }
 {
-    send_conditions(standing(t, i, c), t, i, c)
+    send_conditions(validity_refusal(t, i, c), t, i, c)
 }
 
 // 4 where row 4 refuses the packet. Neither the tree nor the addressee is tested.
@@ -98,7 +98,7 @@ pub(crate) fn take_conditions(n: u8, t: Tree, i: usize, c: Column, p: Packet) ->
 pub fn take_refusal(t: Tree, i: usize, c: Column, p: Packet) -> u8
     ensures { λ r. ⌜ r ≡ takeRefusal t i c p ⌝ }
 {
-    let n = earlier(standing(t, i, c), packet_refusal(t, p));
+    let n = earlier(validity_refusal(t, i, c), packet_refusal(t, p));
     take_conditions(n, t, i, c, p)
 }
 
@@ -115,7 +115,7 @@ pub(crate) fn ack_conditions(n: u8, t: Tree, i: usize, c: Column) -> u8
 pub fn ack_refusal(t: Tree, i: usize, c: Column) -> u8
     ensures { λ r. ⌜ r ≡ ackRefusal t i c ⌝ }
 {
-    ack_conditions(standing(t, i, c), t, i, c)
+    ack_conditions(validity_refusal(t, i, c), t, i, c)
 }
 
 // Of a takeover by column i: 5, 6 at the root, with the one that it watches not noted, after another takeover, or while it sends or awaits.
@@ -133,7 +133,7 @@ pub(crate) fn all_conditions(n: u8, t: Tree, i: usize, c: Column) -> u8
 pub fn all_refusal(t: Tree, i: usize, c: Column) -> u8
     ensures { λ r. ⌜ r ≡ allRefusal t i c ⌝ }
 {
-    all_conditions(standing(t, i, c), t, i, c)
+    all_conditions(validity_refusal(t, i, c), t, i, c)
 }
 
 // Of a note of column j by column i: 4 of a j that the bank has not, 5, 6 where j is i or is noted already.
@@ -150,12 +150,12 @@ pub(crate) fn note_conditions(n: u8, t: Tree, i: usize, c: Column, j: usize) -> 
 pub fn note_refusal(t: Tree, i: usize, c: Column, j: usize) -> u8
     ensures { λ r. ⌜ r ≡ noteRefusal t i c j ⌝ }
 {
-    note_conditions(standing(t, i, c), t, i, c, j)
+    note_conditions(validity_refusal(t, i, c), t, i, c, j)
 }
 
 // Of a halt of column i: 2 to 5.
 pub fn halt_refusal(t: Tree, i: usize, c: Column) -> u8
     ensures { λ r. ⌜ r ≡ haltRefusal t i c ⌝ }
 {
-    refuse_if(standing(t, i, c), !c.running, 5)
+    refuse_if(validity_refusal(t, i, c), !c.running, 5)
 }

@@ -7,7 +7,7 @@ use crate::topology::column_refusal;
 use crate::topology::tree_refusal;
 use crate::tree::Tree;
 ghost use mathlib.Core.Path.{_≡_};
-ghost use Rattle.column.specs.Columns.{freshUnder, freshMeant, freshGiven, stateRefusal, standing};
+ghost use Rattle.column.specs.Columns.{freshUnder, freshMeant, freshGiven, stateRefusal, validityRefusal};
 
 // Widest fields first, so that a column is 32 bytes.
 pub struct Column {
@@ -89,8 +89,8 @@ pub fn state_refusal(t: Tree, i: usize, c: Column) -> u8
 }
 
 // What every step tests first: 2 or 3 of the tree, then 4 of the state, else 0.
-pub fn standing(t: Tree, i: usize, c: Column) -> u8
-    ensures { λ r. ⌜ r ≡ standing t i c ⌝ }
+pub fn validity_refusal(t: Tree, i: usize, c: Column) -> u8
+    ensures { λ r. ⌜ r ≡ validityRefusal t i c ⌝ }
 {
     earlier(tree_refusal(t), state_refusal(t, i, c))
 }

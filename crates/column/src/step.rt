@@ -7,17 +7,17 @@ use crate::precedence::earlier;
 use crate::refusal::halt_refusal;
 use crate::refusal::packet_refusal;
 use crate::state::Column;
-use crate::state::standing;
+use crate::state::validity_refusal;
 use crate::tree::Tree;
 use crate::unchecked_for_bank;
 ghost use mathlib.Core.Path.{_≡_};
-ghost use Rattle.column.specs.Steps.{meant, order, send, take, ack, all, note, halt};
+ghost use Rattle.column.specs.Steps.{outcomeMeant, order, send, take, ack, all, note, halt};
 
 // The root with the next number, these doors, and its children to send to.
 pub fn order(t: Tree, i: usize, c: Column, doors: u64) -> Outcome
-    ensures { λ r. ⌜ meant r ≡ order t i c doors ⌝ }
+    ensures { λ r. ⌜ outcomeMeant r ≡ order t i c doors ⌝ }
 {
-    let n = standing(t, i, c);
+    let n = validity_refusal(t, i, c);
     if n != 0 {
         return refused(c, n);
     }
@@ -26,9 +26,9 @@ pub fn order(t: Tree, i: usize, c: Column, doors: u64) -> Outcome
 
 // Column i with the one served that stands earliest of those to send to, and the message for it, if there is one to put.
 pub fn send(t: Tree, i: usize, c: Column) -> Outcome
-    ensures { λ r. ⌜ meant r ≡ send t i c ⌝ }
+    ensures { λ r. ⌜ outcomeMeant r ≡ send t i c ⌝ }
 {
-    let n = standing(t, i, c);
+    let n = validity_refusal(t, i, c);
     if n != 0 {
         return refused(c, n);
     }
@@ -37,9 +37,9 @@ pub fn send(t: Tree, i: usize, c: Column) -> Outcome
 
 // Column i after a packet, what it answers at once, and whether the packet is left for another take.
 pub fn take(t: Tree, i: usize, c: Column, p: Packet) -> Outcome
-    ensures { λ r. ⌜ meant r ≡ take t i c p ⌝ }
+    ensures { λ r. ⌜ outcomeMeant r ≡ take t i c p ⌝ }
 {
-    let n = earlier(standing(t, i, c), packet_refusal(t, p));
+    let n = earlier(validity_refusal(t, i, c), packet_refusal(t, p));
     if n != 0 {
         return refused(c, n);
     }
@@ -48,9 +48,9 @@ pub fn take(t: Tree, i: usize, c: Column, p: Packet) -> Outcome
 
 // Column i with the lowest owed struck out, and the acknowledgement for that one.
 pub fn ack(t: Tree, i: usize, c: Column) -> Outcome
-    ensures { λ r. ⌜ meant r ≡ ack t i c ⌝ }
+    ensures { λ r. ⌜ outcomeMeant r ≡ ack t i c ⌝ }
 {
-    let n = standing(t, i, c);
+    let n = validity_refusal(t, i, c);
     if n != 0 {
         return refused(c, n);
     }
@@ -59,9 +59,9 @@ pub fn ack(t: Tree, i: usize, c: Column) -> Outcome
 
 // Column i with the whole bank as its goal, and the root alone to send to.
 pub fn all(t: Tree, i: usize, c: Column) -> Outcome
-    ensures { λ r. ⌜ meant r ≡ all t i c ⌝ }
+    ensures { λ r. ⌜ outcomeMeant r ≡ all t i c ⌝ }
 {
-    let n = standing(t, i, c);
+    let n = validity_refusal(t, i, c);
     if n != 0 {
         return refused(c, n);
     }
@@ -70,9 +70,9 @@ pub fn all(t: Tree, i: usize, c: Column) -> Outcome
 
 // Column i with j noted; where j was awaited, its children are to be sent to instead.
 pub fn note(t: Tree, i: usize, c: Column, j: usize) -> Outcome
-    ensures { λ r. ⌜ meant r ≡ note t i c j ⌝ }
+    ensures { λ r. ⌜ outcomeMeant r ≡ note t i c j ⌝ }
 {
-    let n = standing(t, i, c);
+    let n = validity_refusal(t, i, c);
     if n != 0 {
         return refused(c, n);
     }
@@ -81,7 +81,7 @@ pub fn note(t: Tree, i: usize, c: Column, j: usize) -> Outcome
 
 // Column i halted, with all else that it holds as it was.
 pub fn halt(t: Tree, i: usize, c: Column) -> Outcome
-    ensures { λ r. ⌜ meant r ≡ halt t i c ⌝ }
+    ensures { λ r. ⌜ outcomeMeant r ≡ halt t i c ⌝ }
 {
     let n = halt_refusal(t, i, c);
     if n != 0 {

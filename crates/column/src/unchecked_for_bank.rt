@@ -21,12 +21,12 @@ use crate::refusal::take_conditions;
 use crate::state::Column;
 use crate::tree::Tree;
 ghost use mathlib.Core.Path.{_≡_};
-ghost use Rattle.column.specs.Steps.{meant};
+ghost use Rattle.column.specs.Steps.{outcomeMeant};
 ghost use Rattle.column.specs.Unchecked.{orderUnchecked, sendUnchecked, takeUnchecked, ackUnchecked, allUnchecked, noteUnchecked};
 
 // The root with the next number, these doors, and its children to send to.
 pub fn order(t: Tree, i: usize, c: Column, doors: u64) -> Outcome
-    ensures { λ r. ⌜ meant r ≡ orderUnchecked t i c doors ⌝ }
+    ensures { λ r. ⌜ outcomeMeant r ≡ orderUnchecked t i c doors ⌝ }
 {
     let n = refuse_if(order_conditions(0, t, i, c), !bounded(t, i, i), 4);
     if n != 0 {
@@ -37,7 +37,7 @@ pub fn order(t: Tree, i: usize, c: Column, doors: u64) -> Outcome
 
 // Column i with the one served that stands earliest of those to send to, and the message for it, if there is one to put.
 pub fn send(t: Tree, i: usize, c: Column) -> Outcome
-    ensures { λ r. ⌜ meant r ≡ sendUnchecked t i c ⌝ }
+    ensures { λ r. ⌜ outcomeMeant r ≡ sendUnchecked t i c ⌝ }
 {
     let n = send_conditions(0, t, i, c);
     if n != 0 {
@@ -48,7 +48,7 @@ pub fn send(t: Tree, i: usize, c: Column) -> Outcome
 
 // Column i after a packet, what it answers at once, and whether the packet is left for another take.
 pub fn take(t: Tree, i: usize, c: Column, p: Packet) -> Outcome
-    ensures { λ r. ⌜ meant r ≡ takeUnchecked t i c p ⌝ }
+    ensures { λ r. ⌜ outcomeMeant r ≡ takeUnchecked t i c p ⌝ }
 {
     let n = take_conditions(0, t, i, c, p);
     if n != 0 {
@@ -59,7 +59,7 @@ pub fn take(t: Tree, i: usize, c: Column, p: Packet) -> Outcome
 
 // Column i with the lowest owed struck out, and the acknowledgement for that one.
 pub fn ack(t: Tree, i: usize, c: Column) -> Outcome
-    ensures { λ r. ⌜ meant r ≡ ackUnchecked t i c ⌝ }
+    ensures { λ r. ⌜ outcomeMeant r ≡ ackUnchecked t i c ⌝ }
 {
     let n = ack_conditions(0, t, i, c);
     if n != 0 {
@@ -70,7 +70,7 @@ pub fn ack(t: Tree, i: usize, c: Column) -> Outcome
 
 // Column i with the whole bank as its goal, and the root alone to send to.
 pub fn all(t: Tree, i: usize, c: Column) -> Outcome
-    ensures { λ r. ⌜ meant r ≡ allUnchecked t i c ⌝ }
+    ensures { λ r. ⌜ outcomeMeant r ≡ allUnchecked t i c ⌝ }
 {
     let n = all_conditions(0, t, i, c);
     if n != 0 {
@@ -81,7 +81,7 @@ pub fn all(t: Tree, i: usize, c: Column) -> Outcome
 
 // Column i with j noted; where j was awaited, its children are to be sent to instead.
 pub fn note(t: Tree, i: usize, c: Column, j: usize) -> Outcome
-    ensures { λ r. ⌜ meant r ≡ noteUnchecked t i c j ⌝ }
+    ensures { λ r. ⌜ outcomeMeant r ≡ noteUnchecked t i c j ⌝ }
 {
     let n = note_conditions(0, t, i, c, j);
     if n != 0 {

@@ -15,7 +15,7 @@ use Rattle.column.specs.Sets.{has, insert, without, minus}
 use Rattle.column.specs.Trees.{choose}
 use Rattle.column.specs.laws.SetLaws.{has-and, has-none, has-insert, has-without, insert-lt, and-insert, no-members}
 use Rattle.column.specs.laws.TreeLaws.{tree-sixteen}
-use Rattle.column.specs.Columns.{standing, withRegisters}
+use Rattle.column.specs.Columns.{validityRefusal, withRegisters}
 use Rattle.column.specs.Pages.{maskOffset, clearOffset, written, writeRefusal}
 use Rattle.column.specs.Steps.{Result, accepted, refused, unless, orderRefusal, orderEffect, sendConditions, sendRefusal, sendEffect, packetRefusal, takeConditions, takeRefusal, takeEffect, acknowledgementEffect, messageEffect, receiveEffect, ackRefusal, ackEffect, allRefusal, allEffect, noteConditions, noteRefusal, noteEffect, haltRefusal, haltEffect}
 use Rattle.column.specs.declared.tree.Tree.{Tree}
@@ -23,7 +23,7 @@ use Rattle.column.specs.declared.state.Column.{Column}
 use Rattle.column.specs.declared.packet.Packet.{Packet}
 use Rattle.column.specs.declared.packet.Packet.the-variants.{Message, Acknowledgement}
 use Rattle.figure.specs.Comparison.{Apart, columnOf, StaysApart, Apartness}
-use Rattle.figure.proofs.Refusals.{Stands, stands, set-lt}
+use Rattle.figure.proofs.Refusals.{Valid, valid, set-lt}
 
 -- ---- sets that share nobody
 
@@ -76,19 +76,19 @@ either true x y f g = f refl
 either false x y f g = g refl
 
 module _ (t : Tree) (i : ℕ) (c : Column) (h : Apart c) where
-  awaited-lt : Stands t i c → c .awaited < 2 ^ 16
+  awaited-lt : Valid t i c → c .awaited < 2 ^ 16
   awaited-lt s = set-lt t (c .awaited) (s .tree) (s .awaited)
 
-  noted-lt : Stands t i c → c .noted < 2 ^ 16
+  noted-lt : Valid t i c → c .noted < 2 ^ 16
   noted-lt s = set-lt t (c .noted) (s .tree) (s .noted)
 
-  send-apart : Stands t i c → Apart (columnOf (sendEffect t i c))
+  send-apart : Valid t i c → Apart (columnOf (sendEffect t i c))
   unfolding sendEffect
   send-apart s =
       let k = choose t (c .send) in
       either (eqb k i) _ _ (λ e. h) (λ e. either (has (c .noted) k) _ _ (λ e. h) (λ e. awaited-apart (c .awaited) (c .noted) h (noted-lt s) k e))
 
-  take-apart : Stands t i c → (p : Packet) → Apart (columnOf (takeEffect t i c p))
+  take-apart : Valid t i c → (p : Packet) → Apart (columnOf (takeEffect t i c p))
   unfolding acknowledgementEffect messageEffect receiveEffect
   take-apart s (Acknowledgement from to number) =
       either (eqb number (c .number)) _ _ (λ e. less-apart (c .awaited) (c .noted) h from) (λ e. h)
@@ -96,7 +96,7 @@ module _ (t : Tree) (i : ℕ) (c : Column) (h : Apart c) where
       either (eqb number (c .number)) _ _ (λ e. h) (λ e.
       either (ltb number (c .number)) _ _ (λ e. h) (λ e. either (eqb (c .owed) 0) _ _ (λ e. and-zero-l (c .noted)) (λ e. h)))
 
-  note-apart : Stands t i c → (j : ℕ) → j < 16 → Apart (columnOf (noteEffect t c j))
+  note-apart : Valid t i c → (j : ℕ) → j < 16 → Apart (columnOf (noteEffect t c j))
   unfolding noteEffect
   note-apart s j below = go (has (c .awaited) j) refl
     where
@@ -118,15 +118,15 @@ module _ (t : Tree) (i : ℕ) (c : Column) (h : Apart c) where
   unfolding sendRefusal takeRefusal noteRefusal orderEffect ackEffect allEffect haltEffect
   stays-apart = record {
     order = λ doors. unless-apart (orderRefusal t i c) c (orderEffect t i c doors) h (λ e. h);
-    send = unless-apart (sendRefusal t i c) c (sendEffect t i c) h (λ e. send-apart (stands t i c (earlier-none _ (first (sendConditions t i c)) e .0)));
+    send = unless-apart (sendRefusal t i c) c (sendEffect t i c) h (λ e. send-apart (valid t i c (earlier-none _ (first (sendConditions t i c)) e .0)));
     take = λ p.
         unless-apart (takeRefusal t i c p) c (takeEffect t i c p) h
-        (λ e. take-apart (stands t i c (earlier-none _ (earlier (packetRefusal t p) (first (takeConditions t i c p))) e .0)) p);
+        (λ e. take-apart (valid t i c (earlier-none _ (earlier (packetRefusal t p) (first (takeConditions t i c p))) e .0)) p);
     ack = unless-apart (ackRefusal t i c) c (ackEffect i c) h (λ e. h);
     all = unless-apart (allRefusal t i c) c (allEffect t c) h (λ e. h);
     note = λ j. unless-apart (noteRefusal t i c j) c (noteEffect t c j) h (λ e.
-        let q = earlier-none (standing t i c) (first (noteConditions t i c j)) e in
-        let s = stands t i c (q .0) in
+        let q = earlier-none (validityRefusal t i c) (first (noteConditions t i c j)) e in
+        let s = valid t i c (q .0) in
         note-apart s j (omega (arith, tree-sixteen t (s .tree), leb-false (t .columns) j (passed (noteConditions t i c j) tt (q .1) .0))));
     halt = unless-apart (haltRefusal t i c) c (haltEffect c) h (λ e. h);
     write = λ offset value. unless-apart (writeRefusal t i c offset) c (accepted (written c offset value) [] false) h (λ e. written-apart offset value);

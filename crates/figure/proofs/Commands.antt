@@ -13,7 +13,7 @@ use Rattle.column.specs.declared.tree.Tree.{Tree}
 use Rattle.column.specs.declared.state.Column.{Column}
 use Rattle.figure.specs.Figure.{Made, SUCC}
 use Rattle.figure.specs.Comparison.{variablesOf, numberOf, Ready, Guards, Makes}
-use Rattle.figure.proofs.Refusals.{stands}
+use Rattle.figure.proofs.Refusals.{valid}
 
 pub cond-not : {A : Type 0} (b : Bool) (x y : A) → cond b x y ≡ cond (not b) y x
 cond-not true x y = refl
@@ -29,7 +29,7 @@ successors t c = ap (λ (f : ℕ → Bool). selected f (t .columns)) (λ k q. ha
 
 -- the goal is the whole bank exactly where r = b: "the root's goal is always the whole bank"
 pub goal-is : (t : Tree) (i : ℕ) (c : Column) → Ready t i c → eqb (variablesOf t i c .r) (t .root) ≡ c .whole
-goal-is t i c ready = go (c .whole) (stands t i c (ready .good) .root-whole)
+goal-is t i c ready = go (c .whole) (valid t i c (ready .good) .root-whole)
   where
     go : (w : Bool) → (eqb i (t .root) && not w) ≡ false → eqb (cond w (t .root) i) (t .root) ≡ w
     go true e = eq-eqb (t .root) (t .root) refl

@@ -17,14 +17,14 @@ use Rattle.column.specs.declared.tree.Tree.{Tree}
 use Rattle.column.specs.declared.state.Column.{Column}
 use Rattle.figure.specs.Figure.{meet, withSets, failedGuard, failedCommand}
 use Rattle.figure.specs.Comparison.{variablesOf, Ready, Makes, NoteCompares}
-use Rattle.figure.proofs.Refusals.{stands, set-lt}
+use Rattle.figure.proofs.Refusals.{valid, set-lt}
 use Rattle.figure.proofs.Commands.{successors, makes-of, makes-goes}
 
 module _ (t : Tree) (i : ℕ) (c : Column) (ready : Ready t i c) (j : ℕ) (apart : meet (c .awaited) (c .noted) ≡ 0) where
   -- of those awaited only j can be newly noted
   newly : meet (c .awaited) (insert (c .noted) j) ≡ cond (has (c .awaited) j) (single j) 0
   newly =
-      let s = stands t i c (ready .good) in
+      let s = valid t i c (ready .good) in
       and-insert 16 (c .awaited) (c .noted) j (set-lt t (c .awaited) (s .tree) (s .awaited))
       ∙ rw apart (ap (λ (x : ℕ). cond (has (c .awaited) j) x 0) (or-zero-l (single j)))
 

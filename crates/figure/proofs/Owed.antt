@@ -18,7 +18,7 @@ use Rattle.column.specs.declared.packet.Packet.{Packet}
 use Rattle.column.specs.declared.packet.Packet.the-variants.{Acknowledgement}
 use Rattle.figure.specs.Figure.{Made, Variables, ackAll}
 use Rattle.figure.specs.Comparison.{variablesOf, Ready, Repeated, after, RepeatMakes}
-use Rattle.figure.proofs.Refusals.{Stands, stands, standing-of, set-lt}
+use Rattle.figure.proofs.Refusals.{Valid, valid, validity-refusal-of, set-lt}
 use Rattle.figure.proofs.Members.{members-empty, members-lowest}
 
 abbrev pub struck : Column → Column
@@ -28,8 +28,8 @@ pub none-acknowledged : (i : ℕ) (v : Variables) → v .ackto ≡ 0 → ackAll 
 none-acknowledged i v e = rw (e, members-empty 16)
 
 module _ (t : Tree) (i : ℕ) (c : Column) (ready : Ready t i c) where
-  rows : Stands t i c
-  rows = stands t i c (ready .good)
+  rows : Valid t i c
+  rows = valid t i c (ready .good)
 
   owed-lt : c .owed < 2 ^ 16
   owed-lt = set-lt t (c .owed) (rows .tree) (rows .owed)
@@ -56,7 +56,7 @@ module _ (t : Tree) (i : ℕ) (c : Column) (ready : Ready t i c) where
 
     struck-ready : Ready t i (struck c)
     struck-ready = record {
-      good = standing-of t i (struck c) (record {
+      good = validity-refusal-of t i (struck c) (record {
         tree = rows .tree;
         below = rows .below;
         send = rows .send;

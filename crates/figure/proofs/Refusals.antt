@@ -12,7 +12,7 @@ use Rattle.column.specs.Sets.{has, within}
 use Rattle.column.specs.laws.SetLaws.{within-lt}
 use Rattle.column.specs.Trees.{treeRefusal}
 use Rattle.column.specs.laws.TreeLaws.{tree-sixteen}
-use Rattle.column.specs.Columns.{standing, stateConditions, stateRefusal}
+use Rattle.column.specs.Columns.{validityRefusal, stateConditions, stateRefusal}
 use Rattle.column.specs.Steps.{Result, unless}
 use Rattle.column.specs.declared.tree.Tree.{Tree}
 use Rattle.column.specs.declared.state.Column.{Column}
@@ -22,7 +22,7 @@ pub goes : {n : ℕ} (c : Column) (effect : Result) → n ≡ 0 → unless n c e
 goes c effect e = ap (λ (n : ℕ). unless n c effect) e
 
 -- what rows 2 to 4 ask of a column
-pub record Stands (t : Tree) (i : ℕ) (c : Column) : Type 0 where
+pub record Valid (t : Tree) (i : ℕ) (c : Column) : Type 0 where
   pub tree : treeRefusal t ≡ 0
   pub below : leb (t .columns) i ≡ false
   pub send : within (c .send) (t .columns) ≡ true
@@ -34,9 +34,9 @@ pub record Stands (t : Tree) (i : ℕ) (c : Column) : Type 0 where
   pub sender : leb (t .columns) (c .sender) ≡ false
 
 module _ (t : Tree) (i : ℕ) (c : Column) where
-  pub stands : standing t i c ≡ 0 → Stands t i c
+  pub valid : validityRefusal t i c ≡ 0 → Valid t i c
   unfolding stateRefusal
-  stands e =
+  valid e =
       let q = earlier-none (treeRefusal t) (stateRefusal t i c) e in
       let p = passed (stateConditions t i c) tt (q .1) in
       record {
@@ -51,9 +51,9 @@ module _ (t : Tree) (i : ℕ) (c : Column) where
         sender = p .1 .1 .1 .1 .1 .1 .1 .0;
       }
 
-  pub standing-of : Stands t i c → standing t i c ≡ 0
+  pub validity-refusal-of : Valid t i c → validityRefusal t i c ≡ 0
   unfolding stateRefusal
-  standing-of s = simp (s .tree, s .below, s .send, s .awaited, s .owed, s .noted, s .not-itself, s .root-whole, s .sender)
+  validity-refusal-of s = simp (s .tree, s .below, s .send, s .awaited, s .owed, s .noted, s .not-itself, s .root-whole, s .sender)
 
 -- "A bank has 1 to 16 columns", so that sixteen digits hold each of its sets
 pub set-lt : (t : Tree) (m : ℕ) → treeRefusal t ≡ 0 → within m (t .columns) ≡ true → m < 2 ^ 16

@@ -5,7 +5,7 @@ use mathlib.Core.Bool.{Bool, true, false, _&&_, cond}
 use mathlib.Core.List.{List, [], _++_}
 use lib.Dec.{eqb}
 use Rattle.column.specs.Sets.{insert}
-use Rattle.column.specs.Columns.{fresh, standing, highest}
+use Rattle.column.specs.Columns.{fresh, validityRefusal, highest}
 use Rattle.column.specs.Steps as steps
 use Rattle.column.specs.Steps.{Result, accepted, refused, noteRefusal, packetRefusal}
 use Rattle.column.specs.Packets.{receiver}
@@ -38,7 +38,7 @@ numberOf (refused n c) = n
 
 -- a running column in a state that rows 2 to 4 let pass, whoever is watched
 pub record Ready (t : Tree) (i : ℕ) (c : Column) : Type 0 where
-  pub good : standing t i c ≡ 0
+  pub good : validityRefusal t i c ≡ 0
   pub runs : c .running ≡ true
 
 -- nobody awaited is noted: so it is with a fresh column, and every step keeps it (`Apartness`, below)

@@ -30,7 +30,7 @@ ghost use Prim.Native.Nat.{_≤_};
 ghost use mathlib.Core.Path.{_≡_};
 ghost use lib.ListN.{length};
 ghost use Rattle.column.specs.Packets.{write as Packets·write};
-ghost use Rattle.column.specs.Steps.{meant, send as core·send, ack as core·ack, all as core·all, note as core·note, halt as core·halt};
+ghost use Rattle.column.specs.Steps.{outcomeMeant, send as core·send, ack as core·ack, all as core·all, note as core·note, halt as core·halt};
 ghost use Rattle.firmware.specs.Blocks.{columnSize};
 ghost use Rattle.firmware.specs.Calls.{packetSize, leftInPlace, called, packetPut, stepLeft, stepSizes, stepCall, writeCall, orderCall, takeCall};
 ghost use Rattle.firmware.specs.inner.StepCalls.{stepOf};
@@ -81,7 +81,7 @@ fn leave_packet(c: Column, more: usize, p: Packet, column: &mut [u8], put: &mut 
 // What a step left, and its answer.
 fn leave(o: Outcome, column: &mut [u8], put: &mut [u8]) -> usize
     requires { ⌜ (length (now column) ≡ columnSize) × (length (now put) ≡ packetSize) ⌝ }
-    ensures { λ r. ⌜ called r (now (column .exit)) (now (put .exit)) ≡ stepLeft (meant o) (now (column .entry)) (now (put .entry)) ⌝ }
+    ensures { λ r. ⌜ called r (now (column .exit)) (now (put .exit)) ≡ stepLeft (outcomeMeant o) (now (column .entry)) (now (put .entry)) ⌝ }
 {
     let answer = o.answer;
     let c = o.column;
@@ -100,7 +100,7 @@ fn leave(o: Outcome, column: &mut [u8], put: &mut [u8]) -> usize
 
 // What the core makes of column i, which is c.
 fn core_step(x: LoneStep, t: Tree, i: usize, c: Column) -> Outcome
-    ensures { λ r. ⌜ meant r ≡ stepOf x t i c ⌝ }
+    ensures { λ r. ⌜ outcomeMeant r ≡ stepOf x t i c ⌝ }
 {
     match x {
         LoneStep::Order(doors) => order(t, i, c, doors),

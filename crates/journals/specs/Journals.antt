@@ -15,7 +15,7 @@ use Rattle.journals.specs.declared.line.Line.{Line}
 use Rattle.journals.specs.declared.line.LineAnswer.{LineAnswer}
 use Rattle.journals.specs.declared.line.LineAnswer.the-variants as answer
 use Rattle.journals.specs.declared.comparison.Compared.{Compared}
-use Rattle.journals.specs.declared.comparison.Compared.the-variants as answer
+use Rattle.journals.specs.declared.comparison.Compared.the-variants as compared-is
 
 abbrev pub sentKey : List ℕ
 sentKey = bytes "sent="
@@ -207,8 +207,8 @@ journalText owner l = columnKey ++ (decimal owner ++ (newline ∷ linesText l))
 
 -- what the call answers, and the whole buffer after it
 abbrev pub comparedMeant : Compared → List ℕ → Listed
-comparedMeant (answer.Length n) out = record { answer = given n; buffer = out }
-comparedMeant (answer.Refused n) out = record { answer = refused n; buffer = out }
+comparedMeant (compared-is.Length n) out = record { answer = given n; buffer = out }
+comparedMeant (compared-is.Refused n) out = record { answer = refused n; buffer = out }
 
 -- no line twice
 unfoldable pub Once : List Line → Type 0

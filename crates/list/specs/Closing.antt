@@ -7,7 +7,7 @@ use lib.Dec.{eqb, leb}
 use lib.ListN.{length}
 use Rattle.column.specs.Refusals.{first, earlier, Given, given, refused}
 use Rattle.column.specs.Sets.{has}
-use Rattle.column.specs.Columns.{standing}
+use Rattle.column.specs.Columns.{validityRefusal}
 use Rattle.column.specs.declared.tree.Tree.{Tree}
 use Rattle.column.specs.declared.state.Column.{Column}
 use Rattle.text.specs.Text.{columnKey, numberKey, occupiedKey, doorsKey, newline, field, written, divided}
@@ -54,7 +54,7 @@ placed old at text =
 
 -- the list of a lone column: its tree and its state are tested, and that it runs
 abbrev pub loneRefusal : Tree → ℕ → Column → ℕ
-loneRefusal t i c = earlier (standing t i c) (first ((5, not (c .running)) ∷ []))
+loneRefusal t i c = earlier (validityRefusal t i c) (first ((5, not (c .running)) ∷ []))
 
 unfoldable pub loneList : Tree → ℕ → Column → List ℕ → Listed
 loneList t i c old =

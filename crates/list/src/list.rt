@@ -1,7 +1,7 @@
 // The closing list of a column, written into a lent buffer, and the list of a column alone.
 use column::precedence::refuse_if;
 use column::state::Column;
-use column::state::standing;
+use column::state::validity_refusal;
 use column::tree::Tree;
 use text::writing::put_all;
 use text::writing::put_field;
@@ -71,7 +71,7 @@ pub fn write_list(i: usize, c: Column, out: &mut [u8]) -> Listing
 pub fn lone_list(t: Tree, i: usize, c: Column, buf: &mut [u8]) -> Listing
     ensures { λ r. ⌜ listed r (now (buf .exit)) ≡ loneList t i c (now (buf .entry)) ⌝ }
 {
-    let n = refuse_if(standing(t, i, c), !c.running, 5);
+    let n = refuse_if(validity_refusal(t, i, c), !c.running, 5);
     if n != 0 {
         return Listing::Refused(n);
     }

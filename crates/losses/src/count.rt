@@ -99,8 +99,8 @@ fn ended(b: Bank, set: u32, heads: [u64; 512], doors: [u64; 512]) -> Bank
 {
     let mut h = heads;
     let mut d = doors;
-    let dark = halt(b, set, &mut h, &mut d);
-    let rest = dispatch(dark.bank, TO_REST, &mut h, &mut d);
+    let halted_columns = halt(b, set, &mut h, &mut d);
+    let rest = dispatch(halted_columns.bank, TO_REST, &mut h, &mut d);
     rest.bank
 }
 

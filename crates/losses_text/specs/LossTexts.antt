@@ -7,7 +7,7 @@ use lib.ListN.{length, drop}
 use Rattle.column.specs.declared.tree.Tree.{Tree}
 use Rattle.text.specs.Text.{bytes, field, Reading, read, unread, refusedText}
 use Rattle.text.specs.Pieces.{Cut, ended, unended, cut, keyed}
-use Rattle.bank.specs.Steps.{Outcome, accepted, refused}
+use Rattle.bank.specs.Steps.{Result, accepted, refused}
 use Rattle.table.specs.Tables.{Placed, readTable, limit}
 use Rattle.losses.specs.Losses.{lossesRefusal, lossesOf}
 use Rattle.losses.specs.declared.count.Losses.{Losses}
@@ -50,7 +50,7 @@ unfoldable pub askedText : Tree → List ℕ → List ℕ
 askedText t rest = cond (eqb (lossesRefusal t) 0) (countedText t (stepCount rest)) (refusedText (lossesRefusal t))
 
 -- "Refusals print as in the script."
-unfoldable pub tableText : List ℕ → Outcome Placed → List ℕ
+unfoldable pub tableText : List ℕ → Result Placed → List ℕ
 tableText input (accepted p) = askedText (p .tree) (drop (p .end) input)
 tableText input (refused n p) = refusedText n
 

@@ -10,7 +10,7 @@ use Rattle.text.specs.Text.{tableOk, written, refusedText}
 use Rattle.text.specs.Pieces.{Cut, ended, unended, cut}
 use Rattle.list.specs.Closing.{longestList}
 use Rattle.bank.specs.Banks.{State, state, capacity, freshBank, noBank}
-use Rattle.bank.specs.Steps.{Outcome, accepted, refused}
+use Rattle.bank.specs.Steps.{Result, accepted, refused}
 use Rattle.table.specs.Tables.{Placed, noTree, readTable, limit}
 use Rattle.script.specs.Lines.{commandOf}
 use Rattle.script.specs.Scripts.{restText, answered}
@@ -30,7 +30,7 @@ abbrev pub progress : State → ℕ → Bool → Bool → List ℕ → Progress
 progress s position begun over text = record { state = s; position = position; begun = begun; over = over; text = text }
 
 -- "Input past the limit prints `refused=13` alone"; "A refused table prints its refusal and ends the run"
-unfoldable pub tableAdvance : Progress → Outcome Placed → Progress
+unfoldable pub tableAdvance : Progress → Result Placed → Progress
 tableAdvance p (accepted t) =
     progress (state (freshBank (t .tree)) (p .state .heads) (p .state .doors)) (t .end) true false tableOk
 tableAdvance p (refused n t) = progress (p .state) (p .position) true true (refusedText n)

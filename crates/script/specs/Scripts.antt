@@ -8,7 +8,7 @@ use Rattle.text.specs.Text.{stepsKey, tableOk, stepOk, restYes, restNo, field, 
 use Rattle.text.specs.Pieces.{Cut, ended, unended, cut}
 use Rattle.list.specs.Closing.{listText}
 use Rattle.bank.specs.Banks.{State, state, columnAt, capacity, freshBank}
-use Rattle.bank.specs.Steps.{Outcome, accepted, refused, after}
+use Rattle.bank.specs.Steps.{Result, accepted, refused, after}
 use Rattle.bank.specs.Performs.{perform}
 use Rattle.bank.specs.Rest.{atRest}
 use Rattle.bank.specs.Dispatch.{dispatched, dispatchOutcome}
@@ -28,7 +28,7 @@ abbrev pub printed : List ℕ → State → Printed
 printed text s = record { text = text; state = s }
 
 -- "for each step `step=ok` or `refused=` with the number"
-unfoldable pub stepText : Outcome State → List ℕ
+unfoldable pub stepText : Result State → List ℕ
 stepText (accepted s) = stepOk
 stepText (refused n s) = refusedText n
 
@@ -40,11 +40,11 @@ listedText s i = cond (eqb (listRefusal s i) 0) (listText i (columnAt (s .bank) 
 abbrev pub stepsText : ℕ → List ℕ
 stepsText steps = field stepsKey steps ++ stepOk
 
-unfoldable pub dispatchText : ℕ → Outcome State → List ℕ
+unfoldable pub dispatchText : ℕ → Result State → List ℕ
 dispatchText steps (accepted s) = stepsText steps
 dispatchText steps (refused n s) = refusedText n
 
-abbrev pub dispatchPrinted : ℕ → Outcome State → Printed
+abbrev pub dispatchPrinted : ℕ → Result State → Printed
 dispatchPrinted steps o = printed (dispatchText steps o) (after o)
 
 -- "13: script line of no form above"
@@ -80,7 +80,7 @@ abbrev pub freshOf : Placed → State
 freshOf p = state (freshBank (p .tree)) (replicate capacity 0) (replicate capacity 0)
 
 -- "A refused table prints its refusal and ends the run"
-unfoldable pub judgedText : List ℕ → Outcome Placed → List ℕ
+unfoldable pub judgedText : List ℕ → Result Placed → List ℕ
 judgedText input (accepted p) = tableOk ++ linesText (length input) (freshOf p) (drop (p .end) input)
 judgedText input (refused n p) = refusedText n
 

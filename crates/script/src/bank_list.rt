@@ -1,6 +1,6 @@
 // The closing list of a column of a bank.
 use bank::bank::Bank;
-use bank::standing::acting_refusal;
+use bank::validity::acting_refusal;
 use list::list::Listing;
 use list::list::write_list;
 ghost use Prim.Native.Nat.{_<_};

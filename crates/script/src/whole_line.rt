@@ -4,7 +4,7 @@ use crate::answer::put_step;
 use crate::line::Line;
 use bank::bank::Answer;
 use bank::bank::Bank;
-use bank::bank::Result;
+use bank::bank::Outcome;
 use bank::bank::Step;
 use bank::dispatch::dispatch;
 use bank::step::back;
@@ -18,7 +18,7 @@ ghost use lib.ListN.{length};
 ghost use Rattle.bank.specs.Banks.{state};
 ghost use Rattle.bank.specs.Parts.{isMove};
 ghost use Rattle.bank.specs.Performs.{perform};
-ghost use Rattle.bank.specs.Steps.{outcome};
+ghost use Rattle.bank.specs.Steps.{outcomeMeant};
 ghost use Rattle.list.specs.Closing.{longestList};
 ghost use Rattle.script.specs.Lines.{lineMeant};
 ghost use Rattle.script.specs.Scripts.{answered};
@@ -43,18 +43,18 @@ pub(crate) fn by_place(line: Line) -> bool
 }
 
 // What goes by place is none of these steps, and refused.
-fn no_step(b: Bank) -> Result
+fn no_step(b: Bank) -> Outcome
     ensures { λ r. ⌜ r .bank ≡ b ⌝ }
 {
-    Result {
+    Outcome {
         bank: b,
         answer: Answer::Refused(10),
     }
 }
 
 // The bank after a step that does not go by place.
-fn whole_step(b: Bank, x: Step, heads: &mut [u64; 512], doors: &mut [u64; 512]) -> Result
-    ensures { λ r. ⌜ (isMove x ≡ false → outcome r (now (heads .exit)) (now (doors .exit)) ≡ perform (state b (now (heads .entry)) (now (doors .entry))) x) ⌝ }
+fn whole_step(b: Bank, x: Step, heads: &mut [u64; 512], doors: &mut [u64; 512]) -> Outcome
+    ensures { λ r. ⌜ (isMove x ≡ false → outcomeMeant r (now (heads .exit)) (now (doors .exit)) ≡ perform (state b (now (heads .entry)) (now (doors .entry))) x) ⌝ }
 {
     match x {
         Step::Halt(m) => halt(b, m, heads, doors),

@@ -9,7 +9,7 @@ use Rattle.column.specs.Trees.{ascending, treeBy, treeOf, treeRefusal}
 use Rattle.column.specs.declared.tree.Tree.{Tree}
 use Rattle.text.specs.Text.{columnsKey, rootKey, upKey, firstKey, watchKey, watchesRoot, watchesSender, Reading, read, unread, startsWith, newline, field, divided}
 use Rattle.text.specs.Pieces.{Cut, ended, unended, numbers, cut, keyed, ThreeLines, threeLines}
-use Rattle.bank.specs.Steps.{Outcome, accepted, refused}
+use Rattle.bank.specs.Steps.{Result, accepted, refused}
 
 -- ---- the lines
 
@@ -140,12 +140,12 @@ abbrev pub noTree : Placed
 noTree = placedAt (treeOf 0 0 (replicate 16 0)) 0
 
 -- "1: table not of the form above"
-unfoldable pub judged : Reading Table → Outcome Placed
+unfoldable pub judged : Reading Table → Result Placed
 judged (read t) =
     cond (eqb (tableRefusal t) 0) (accepted (placedAt (treeIn t) (t .end))) (refused (tableRefusal t) noTree)
 judged unread = refused 1 noTree
 
-abbrev pub readTable : List ℕ → Outcome Placed
+abbrev pub readTable : List ℕ → Result Placed
 readTable s = judged (tableOf s)
 
 -- "It writes the three table lines"

@@ -1,8 +1,10 @@
 // Writers: each puts a text into a lent buffer from a place on, as much of it as has room, and answers the place after what it put.
-ghost use Prim.Native.Nat.{_-_, min};
+ghost use Prim.Native.Nat.{_+_, _-_, _≤_, min};
 ghost use mathlib.Core.Path.{_≡_};
+ghost use mathlib.Core.Bool.{false};
 ghost use mathlib.Core.List.{[], _∷_};
-ghost use Rattle.text.specs.Text.{decimal as Text·decimal, field, nextText, Puts};
+ghost use lib.ListN.{length, take};
+ghost use Rattle.text.specs.Text.{decimal as Text·decimal, field, nextText, Writes, Puts};
 use io::decimal;
 
 // How many of n bytes have room from a place on.
@@ -18,17 +20,28 @@ fn fitting(size: usize, at: usize, n: usize) -> usize
     n
 }
 
-// The bytes as they are.
-pub fn put_all(out: &mut [u8], at: usize, bytes: &[u8]) -> usize
-    ensures { λ r. ⌜ Puts r (now (out .exit)) (now (out .entry)) at (now (bytes .entry)) ⌝ }
+// The first n bytes, which have room.
+fn copy(out: &mut [u8], at: usize, bytes: &[u8], n: usize) -> usize
+    requires { ⌜ (n ≤ length (now bytes)) × (n ≤ length (now out) - at) ⌝ }
+    ensures { λ r. ⌜ Writes r (now (out .exit)) (now (out .entry)) at (take n (now (bytes .entry))) ⌝ }
 {
-    let n = fitting(out.len(), at, bytes.len());
     let mut i: usize = 0;
     while i < n {
         out[at + i] = bytes[i];
         i += 1;
     }
     at + i
+}
+
+// The bytes as they are. Where all have room, the compiler knows how many they are.
+pub fn put_all(out: &mut [u8], at: usize, bytes: &[u8]) -> usize
+    ensures { λ r. ⌜ Puts r (now (out .exit)) (now (out .entry)) at (now (bytes .entry)) ⌝ }
+{
+    let n = fitting(out.len(), at, bytes.len());
+    if n == bytes.len() {
+        return copy(out, at, bytes, bytes.len());
+    }
+    copy(out, at, bytes, n)
 }
 
 // One byte.
@@ -65,12 +78,34 @@ fn put_number(out: &mut [u8], at: usize, n: u64) -> usize
     put_byte(out, units, 48 + ((n % 10) as u8))
 }
 
+// A comma and a number where three bytes have room, so that one of two digits is not tested byte by byte.
+fn put_after_comma(out: &mut [u8], at: usize, n: u64) -> usize
+    requires { ⌜ at + 3 ≤ length (now out) ⌝ }
+    ensures { λ r. ⌜ Puts r (now (out .exit)) (now (out .entry)) at (nextText false n) ⌝ }
+{
+    if 100 <= n {
+        let number = put_byte(out, at, b',');
+        return put_digits(out, number, n);
+    }
+    out[at] = b',';
+    if n < 10 {
+        out[at + 1] = 48 + (n as u8);
+        return at + 2;
+    }
+    out[at + 1] = 48 + ((n / 10) as u8);
+    out[at + 2] = 48 + ((n % 10) as u8);
+    at + 3
+}
+
 // A number of a line that divides them by commas: the first of them, or another.
 pub fn put_next(out: &mut [u8], at: usize, first: bool, n: u64) -> usize
     ensures { λ r. ⌜ Puts r (now (out .exit)) (now (out .entry)) at (nextText first n) ⌝ }
 {
     if first {
         return put_number(out, at, n);
+    }
+    if fitting(out.len(), at, 3) == 3 {
+        return put_after_comma(out, at, n);
     }
     let number = put_byte(out, at, b',');
     put_number(out, number, n)

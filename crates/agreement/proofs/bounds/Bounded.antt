@@ -13,7 +13,8 @@ use Rattle.agreement.proofs.relation.Members.{Below}
 use Rattle.agreement.proofs.invariant.Invariant.{number, Unserved}
 use Rattle.agreement.proofs.bounds.Sums.{sum}
 use Rattle.agreement.proofs.bounds.TokenLaws.{one, tokens, any, stale, current, ahead}
-use Rattle.agreement.proofs.bounds.SpreadLaws.{ToServe, AllSpread}
+use Rattle.agreement.proofs.bounds.SpreadLaws.{ToServe}
+use Rattle.agreement.proofs.bounds.SpreadKept.{AllSpread}
 
 -- ---- while the root runs
 

@@ -18,7 +18,7 @@ use Rattle.agreement.proofs.invariant.InvariantCarried.{each}
 use Rattle.agreement.proofs.invariant.InvariantKept.{kept}
 use Rattle.agreement.proofs.bounds.TokenLaws.{tokens, any, stale, current, ahead}
 use Rattle.agreement.proofs.bounds.PairTokens.{Falls}
-use Rattle.agreement.proofs.bounds.SpreadLaws.{Onward, spread-kept}
+use Rattle.agreement.proofs.bounds.SpreadKept.{Onward, spread-kept}
 use Rattle.agreement.proofs.bounds.Bounded.{Bounded, ServesRootOnly, done-at, finished}
 use Rattle.agreement.proofs.bounds.EarlierDoneKept.{earlier-done-kept}
 use Rattle.agreement.proofs.bounds.PairTokensKept.{Sent, falls-or-sent, grows-other, AllPairTokens, pair-tokens-kept}

@@ -22,13 +22,13 @@ use Rattle.column.specs.declared.state.Column.{Column}
 use Rattle.bank.specs.Words.{packetOf}
 use Rattle.bank.specs.Networks.{closedUp, keeping, padded, put, puts}
 use Rattle.bank.specs.Banks.{places, freshPlace, bankRefusal}
-use Rattle.bank.specs.laws.NetworkLaws.{meant}
+use Rattle.bank.specs.laws.NetworkLaws.{packetsMeant}
 use Rattle.bank.specs.Steps.{fitting, acted}
 use Rattle.bank.specs.Performs.{perform}
 use Rattle.bank.specs.declared.bank.Step.the-variants.{Order}
 use Rattle.agreement.proofs.relation.Model.{State, In, Runs, count}
 use Rattle.agreement.proofs.invariant.Invariant.{Invariant, running-cases}
-use Rattle.agreement.proofs.invariant.Standing.{Standing}
+use Rattle.agreement.proofs.invariant.Validity.{Validity}
 use Rattle.agreement.proofs.bounds.TokenLaws.{one, tokens, stale, current, many}
 use Rattle.agreement.proofs.bounds.Sums.{sum, sum-le, sum-add, sum-swap, sum-rise, sum-but, square-add}
 use Rattle.agreement.proofs.bounds.Bounded.{Bounded}
@@ -42,7 +42,7 @@ use Rattle.agreement.proofs.bounds.PairTokens.{zero-cases}
 use Rattle.agreement.proofs.bounds.Cover.{isBelow, cover, exists}
 use Rattle.agreement.proofs.relation.View.{modelOf}
 
-module _ (t : Tree) (tree : IsTree t) {s : State} (inv : Invariant t s) (st : Standing t s) (bounded : Bounded t s) where
+module _ (t : Tree) (tree : IsTree t) {s : State} (inv : Invariant t s) (st : Validity t s) (bounded : Bounded t s) where
   abbrev c : Column
   c = s .columns (t .root)
 
@@ -123,7 +123,7 @@ module _ (t : Tree) (tree : IsTree t) {s : State} (inv : Invariant t s) (st : St
                 one-few (cover t (t .root) c q),
               )
 
-module _ (t : Tree) (tree : IsTree t) {s : State} (inv : Invariant t s) (st : Standing t s) (bounded : Bounded t s) where
+module _ (t : Tree) (tree : IsTree t) {s : State} (inv : Invariant t s) (st : Validity t s) (bounded : Bounded t s) where
   abbrev before : ℕ → ℕ → Bool
   before = bounded .halt-history .before
 
@@ -225,5 +225,5 @@ abbrev left : World → ℕ
 left w = potential (w .state .bank .tree) (modelOf (w .state) (w .orders))
 
 pub ceiling-met : (left (ordered 2) ≡ stepBound 2) × (left (ordered 3) ≡ stepBound 3)
-unfolding run told perform every closedUp keeping padded places freshPlace bankRefusal packetOf put puts fitting acted climb climbsIn treeRefusal stateRefusal selected trailingZeros subtreeIn subtreesIn core.orderRefusal core.orderEffect meant sum many exists cover parts debts
+unfolding run told perform every closedUp keeping padded places freshPlace bankRefusal packetOf put puts fitting acted climb climbsIn treeRefusal stateRefusal selected trailingZeros subtreeIn subtreesIn core.orderRefusal core.orderEffect packetsMeant sum many exists cover parts debts
 ceiling-met = (refl, refl)

@@ -21,7 +21,7 @@ use Rattle.agreement.proofs.relation.Members.{in-single, insert-cases, 
 use Rattle.agreement.proofs.invariant.Invariant.{number, Unserved, Invariant}
 use Rattle.agreement.proofs.invariant.Packets.{message-acknowledgement, message-issued, acknowledgement-sender, acknowledgement-number}
 use Rattle.agreement.proofs.invariant.InvariantCarried.{each}
-use Rattle.agreement.proofs.bounds.SpreadLaws.{Onward}
+use Rattle.agreement.proofs.bounds.SpreadKept.{Onward}
 use Rattle.agreement.proofs.bounds.Bounded.{ServesRootOnly, DoneWith, above, done-at, PendingOrDone, pending, finished, EarlierDone}
 
 -- ---- what a move of column a has to show; a halted column has nothing to show of itself

@@ -23,7 +23,7 @@ use Rattle.agreement.proofs.relation.Members.{absent, in-none, in-singl
 use Rattle.agreement.proofs.invariant.Invariant.{Invariant}
 use Rattle.agreement.proofs.invariant.Adjusting.{adjusted}
 use Rattle.agreement.proofs.invariant.Packets.{message-issued}
-use Rattle.agreement.proofs.invariant.Standing.{Standing}
+use Rattle.agreement.proofs.invariant.Validity.{Validity}
 use Rattle.agreement.proofs.bounds.TokenLaws.{one}
 use Rattle.agreement.proofs.bounds.SpreadLaws.{Spread, ToServe, to-send, to-await}
 use Rattle.agreement.proofs.bounds.Cover.{isBelow, below-true, true-below, cover, cover-serves, cover-passed, serves-cover}
@@ -78,13 +78,13 @@ module _ (t : Tree) (tree : IsTree t) {s : State} (a : ℕ) (inv : Invariant t s
   -- ---- packets and who is owed
 
   -- the acknowledgement of the present number to one who is owed: an ack, and a take that leaves its packet
-  pub fall-answer : {s' : State} (r : ℕ) → Standing t s → In (c .owed) r →
+  pub fall-answer : {s' : State} (r : ℕ) → Validity t s → In (c .owed) r →
       Becomes s s' a (owing c (without (c .owed) r)) (post s (Acknowledgement a r (c .number)) (s .network)) (s .orders) → potential t s' < potential t s
   fall-answer r st m b = falls t b (inv .inside a ra) ra ra (omega (
     arith,
     load-post s (Acknowledgement a r (c .number)) (s .network),
     same-parts (without (c .owed) r),
-    debts-without t (c .owed) r (member-lt (t .columns) (c .owed) r (st .each-stands a (inv .inside a ra) .owed) (m .holds)) m,
+    debts-without t (c .owed) r (member-lt (t .columns) (c .owed) r (st .each-valid a (inv .inside a ra) .owed) (m .holds)) m,
   ))
 
   pub fall-acknowledgement : {s' : State} (q k : ℕ) {l : List Packet} → Taken (s .network) (Acknowledgement q a k) l →

@@ -25,7 +25,7 @@ use Rattle.agreement.proofs.invariant.InvariantCarried.{each}
 use Rattle.agreement.proofs.bounds.Sums.{sum-le, sum-drop}
 use Rattle.agreement.proofs.bounds.TokenLaws.{one, tokens, any, stale, current}
 use Rattle.agreement.proofs.bounds.PairTokens.{Falls, zero-cases, risen-current, risen-stale}
-use Rattle.agreement.proofs.bounds.SpreadLaws.{Onward}
+use Rattle.agreement.proofs.bounds.SpreadKept.{Onward}
 use Rattle.agreement.proofs.bounds.Bounded.{haltedBefore, RootPairTokens, HaltCounts, HaltHistory, SomeHaltHistory}
 use Rattle.agreement.proofs.bounds.PairTokensKept.{falls-or-sent, AllPairTokens}
 use Rattle.agreement.proofs.bounds.HaltCounts.{keep-root-pair, counts-steady, history-falls, sent-history}

@@ -11,7 +11,7 @@ use borrow.Author.Tests.{eq-eqb, ne-eqb}
 use Rattle.column.specs.laws.Cases.{equal-cases, truth}
 use Rattle.column.specs.declared.tree.Tree.{Tree}
 use Rattle.agreement.proofs.relation.Model.{State}
-use Rattle.agreement.proofs.invariant.Standing.{Standing}
+use Rattle.agreement.proofs.invariant.Validity.{Validity}
 use Rattle.agreement.proofs.bounds.TokenLaws.{many, every, tokens, any, many-every}
 use Rattle.agreement.proofs.bounds.Sums.{sum, sum-le, sum-add, sum-swap, sum-drop, sum-rise, sum-but, square, square-add, of, many-pairs, of-between, none-alone}
 use Rattle.agreement.proofs.bounds.Potential.{one-few}
@@ -74,7 +74,7 @@ formula (suc (suc n)) l =
     let d : suc (suc n) - 1 ≡ suc n = omega arith in
     rw (a, b, d) c
 
-module _ (t : Tree) {s : State} (v : Standing t s) (w : Bounded t s) where
+module _ (t : Tree) {s : State} (v : Validity t s) (w : Bounded t s) where
   abbrev before : ℕ → ℕ → Bool
   before = w .halt-history .before
 

@@ -23,7 +23,8 @@ use Rattle.agreement.proofs.invariant.Packets.{message-issued}
 use Rattle.agreement.proofs.invariant.InvariantCarried.{each}
 use Rattle.agreement.proofs.bounds.TokenLaws.{one, many, between, tokens, stale, current, ahead, tokens-become}
 use Rattle.agreement.proofs.bounds.PairTokens.{Falls, fall-quiet, fall-taken, fall-halt, fall-lower, fall-answer, grow-sent, drop-taken, owes-equal, owes-higher, Halts, Carries, carry, fewer, zero-cases, rise}
-use Rattle.agreement.proofs.bounds.SpreadLaws.{Spread, ToServe, to-send, to-await, Onward, AllSpread}
+use Rattle.agreement.proofs.bounds.SpreadLaws.{Spread, ToServe, to-send, to-await}
+use Rattle.agreement.proofs.bounds.SpreadKept.{Onward, AllSpread}
 use Rattle.agreement.proofs.bounds.Bounded.{EarlierDone, PairTokens}
 
 -- ---- only a message that is sent adds a token

@@ -20,7 +20,7 @@ use Rattle.column.specs.declared.packet.Packet.the-variants.{Message, Acknowled
 use Rattle.agreement.proofs.relation.Model.{In, State, Runs, count, Holds}
 use Rattle.agreement.proofs.relation.Members.{Below}
 use Rattle.agreement.proofs.invariant.Invariant.{running-cases, Invariant}
-use Rattle.agreement.proofs.invariant.Standing.{Standing}
+use Rattle.agreement.proofs.invariant.Validity.{Validity}
 use Rattle.agreement.proofs.bounds.TokenLaws.{one, many, every, between, owes, tokens, any, stale, current, many-none, many-under, tokens-split}
 use Rattle.agreement.proofs.bounds.SpreadLaws.{ToServe, to-send, to-await}
 use Rattle.agreement.proofs.bounds.Bounded.{PairTokens, Bounded}
@@ -67,7 +67,7 @@ module _ (t : Tree) (s : State) where
           same false = refl
       go false = omega (arith, sum-zero (t .columns))
 
-  pub potential-pairs : Standing t s → potential t s ≡ square value (t .columns)
+  pub potential-pairs : Validity t s → potential t s ≡ square value (t .columns)
   potential-pairs st = omega (
     arith,
     many-pairs (t .columns) every (s .network) ends,
@@ -84,7 +84,7 @@ module _ (t : Tree) (s : State) where
       ends : (x : Packet) → Holds (s .network) x → (sender x < t .columns) × (receiver x < t .columns)
       ends x m = (st .packets x m .acceptable .sender-below, st .packets x m .acceptable .receiver-below)
 
-module _ (t : Tree) (tree : IsTree t) {s : State} (inv : Invariant t s) (st : Standing t s) (bounded : Bounded t s) where
+module _ (t : Tree) (tree : IsTree t) {s : State} (inv : Invariant t s) (st : Validity t s) (bounded : Bounded t s) where
   abbrev l : List Packet
   l = s .network
 
@@ -152,7 +152,7 @@ module _ (t : Tree) (tree : IsTree t) {s : State} (inv : Invariant t s) (st : St
   alone p h = omega (arith, none-own every p, none-own isMessage p, owes-none (s .columns p .running))
     where
       owes-none : (b : Bool) → one (b && (has (s .columns p .owed) p && true)) ≡ 0
-      owes-none true = ap (λ (x : Bool). one (x && true)) (st .each-stands p h .owes-others)
+      owes-none true = ap (λ (x : Bool). one (x && true)) (st .each-valid p h .owes-others)
       owes-none false = refl
 
   pub own-self : (p : ℕ) → own t s p p ≤ 4

@@ -15,8 +15,8 @@ use Rattle.agreement.proofs.relation.Move.{renewed, serving, Event, ord
 use Rattle.agreement.proofs.invariant.Invariant.{Invariant}
 use Rattle.agreement.proofs.invariant.Links.{receiver-other}
 use Rattle.agreement.proofs.invariant.InvariantKept.{kept}
-use Rattle.agreement.proofs.invariant.Standing.{Standing, standing-kept}
-use Rattle.agreement.proofs.bounds.SpreadLaws.{AllSpread}
+use Rattle.agreement.proofs.invariant.Validity.{Validity, validity-kept}
+use Rattle.agreement.proofs.bounds.SpreadKept.{AllSpread}
 use Rattle.agreement.proofs.bounds.Bounded.{Bounded}
 use Rattle.agreement.proofs.bounds.BoundedKept.{bounded-kept}
 use Rattle.agreement.proofs.bounds.Potential.{potential}
@@ -37,10 +37,10 @@ settling (backs j l) = false
 -- what holds of every reached state, whoever is watched
 pub record Good (t : Tree) (s : State) : Type 0 where
   pub invariant : Invariant t s
-  pub standing : Standing t s
+  pub validity : Validity t s
   pub bounded : Bounded t s
 
-module _ (t : Tree) (tree : IsTree t) {s s' : State} (inv : Invariant t s) (standing : Standing t s) (spreads : AllSpread t s) where
+module _ (t : Tree) (tree : IsTree t) {s s' : State} (inv : Invariant t s) (validity : Validity t s) (spreads : AllSpread t s) where
   pub fall : {e : Event} → Move t s s' e → settling e ≡ true → potential t s' < potential t s
   fall (order d r idle free b) e = absurd (true≢false (sym e))
   fall (send-self a x r z m b) e = fall-self t tree a inv r (spreads a r) (subst (In (s .columns a .send)) z m)
@@ -52,11 +52,11 @@ module _ (t : Tree) (tree : IsTree t) {s s' : State} (inv : Invariant t s) (stan
   fall (take-stale a q k r z taken b) e = fall-stale t tree a inv r q k taken b
   fall (take-equal a q k d r z taken b) e = fall-equal t tree a inv r q k d taken b
   fall (take-lower a q k d r z taken b) e = fall-lower t tree a inv r q k d taken b
-  fall (take-left a q k d x r z taken m b) e = fall-answer t tree a inv r x standing m b
+  fall (take-left a q k d x r z taken m b) e = fall-answer t tree a inv r x validity m b
   fall (take-higher a q k d {l} r z taken none b) e = fall-higher t tree a inv r q k d z taken
       (subst (λ (w : Bool). Becomes s s' a (renewed (s .columns a) k d (children t a) 0 (single q) w q) l (s .orders))
       (ne-eqb a (t .root) (receiver-other t inv a r z taken)) b)
-  fall (acknowledge a x r m z b) e = fall-answer t tree a inv r x standing m b
+  fall (acknowledge a x r m z b) e = fall-answer t tree a inv r x validity m b
   fall (widen a r ne m w idle b) e = fall-widen t tree a inv r ne w b
   fall (note-awaited a j r l h m b) e = fall-note-awaited t tree a inv r j l h m b
   fall (note-other a j r l h m new b) e = fall-note-other t tree a inv r j l h new b
@@ -76,13 +76,13 @@ pub data Moves (t : Tree) (s' : State) : State → ℕ → Type 0 where
 
 module _ (t : Tree) (tree : IsTree t) where
   pub good : {s m : State} {e : Event} → Good t s → Move t s m e → Good t m
-  good g k = record { invariant = kept tree (g .invariant) k; standing = standing-kept tree (g .invariant) (g .standing) k; bounded = bounded-kept tree (g .invariant) (g .bounded) k }
+  good g k = record { invariant = kept tree (g .invariant) k; validity = validity-kept tree (g .invariant) (g .validity) k; bounded = bounded-kept tree (g .invariant) (g .bounded) k }
 
   pub few : {s' s : State} {n : ℕ} → Good t s → Moves t s' s n → n ≤ potential t s
   few g none = omega arith
-  few g (settles k e l) = omega (arith, fall t tree (g .invariant) (g .standing) (g .bounded .spreads) k e, few (good g k) l)
-  few g (stops k l) = omega (arith, halt-stays t tree (g .invariant) (g .standing) (g .bounded .spreads) k, few (good g k) l)
+  few g (settles k e l) = omega (arith, fall t tree (g .invariant) (g .validity) (g .bounded .spreads) k e, few (good g k) l)
+  few g (stops k l) = omega (arith, halt-stays t tree (g .invariant) (g .validity) (g .bounded .spreads) k, few (good g k) l)
 
   -- "a bank of N columns rests within 9 times N squared less 5 times N steps", whichever steps are taken
   pub rests-within : {s' s : State} {n : ℕ} → Good t s → Moves t s' s n → n ≤ stepBound (t .columns)
-  rests-within g l = omega (arith, few g l, ceiling t tree (g .invariant) (g .standing) (g .bounded))
+  rests-within g l = omega (arith, few g l, ceiling t tree (g .invariant) (g .validity) (g .bounded))

@@ -25,9 +25,9 @@ use Rattle.agreement.proofs.relation.Members.{Below, absent}
 use Rattle.agreement.proofs.invariant.Invariant.{number, Invariant}
 use Rattle.agreement.proofs.invariant.Adjusting.{adjusted}
 use Rattle.agreement.proofs.journals.PacketsLogged.{got-sent, way-of, kind-of, other-of, number-of, written-other, wrote-cases, wrote-old, Logged, logged-put}
-use Rattle.agreement.proofs.bounds.SpreadLaws.{AllSpread}
+use Rattle.agreement.proofs.bounds.SpreadKept.{AllSpread}
 use Rattle.agreement.proofs.refinement.ReceivedByMoves.{leaves}
-use Rattle.agreement.proofs.invariant.Standing.{Standing}
+use Rattle.agreement.proofs.invariant.Validity.{Validity}
 
 -- ---- what a move writes
 
@@ -192,13 +192,13 @@ putBy s (backs j l) = []
 
 -- ---- a move gets and puts these
 
-module _ {t : Tree} {s : State} (inv : Invariant t s) (v : Standing t s) where
+module _ {t : Tree} {s : State} (inv : Invariant t s) (v : Validity t s) where
   some-owed : (a x : ℕ) → In (s .columns a .owed) x → eqb (s .columns a .owed) 0 ≡ false
   some-owed a x m = ne-eqb (s .columns a .owed) 0 (λ z. omega (arith, member-pos (s .columns a .owed) x (m .holds)))
 
   none-owed : (a : ℕ) → Runs s a → ((q : ℕ) → In (s .columns a .owed) q → ⊥) → eqb (s .columns a .owed) 0 ≡ true
   none-owed a r e =
-      eq-eqb (s .columns a .owed) 0 (no-members (t .columns) (s .columns a .owed) (v .each-stands a (inv .inside a r) .owed) (λ i h. absent (s .columns a .owed) i (e i)))
+      eq-eqb (s .columns a .owed) 0 (no-members (t .columns) (s .columns a .owed) (v .each-valid a (inv .inside a r) .owed) (λ i h. absent (s .columns a .owed) i (e i)))
 
   not-left : (a k : ℕ) → ¬ (number s a < k) → leaves s a k ≡ false
   not-left a k n = ap (λ (b : Bool). b && not (eqb (s .columns a .owed) 0)) (le-ltb (number s a) k (omega (arith, n)))

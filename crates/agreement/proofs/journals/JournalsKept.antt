@@ -27,7 +27,7 @@ use Rattle.agreement.proofs.invariant.Invariant.{number, Unserved, Inva
 use Rattle.agreement.proofs.invariant.InvariantCarried.{each}
 use Rattle.agreement.proofs.invariant.Adjusting.{adjusted}
 use Rattle.agreement.proofs.journals.PacketsLogged.{got-sent, way-of, kind-of, other-of, number-of, written-other, wrote-cases, wrote-new, Logged, logged-none, logged-others, logged-got, logged-proper}
-use Rattle.agreement.proofs.bounds.SpreadLaws.{under-child, Onward, AllSpread, spread-kept, spread-fresh}
+use Rattle.agreement.proofs.bounds.SpreadKept.{under-child, Onward, AllSpread, spread-kept, spread-fresh}
 use Rattle.agreement.proofs.journals.Dues.{posted, gots, puts, moved, Ahead, to-send, beyond, Served, Dues, Recorded, one-two, dues-adjusted, dues-got, dues-acknowledged, dues-served, logged-posted, posted-other, posted-mine}
 
 -- ---- every move keeps it

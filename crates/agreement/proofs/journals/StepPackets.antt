@@ -23,9 +23,9 @@ use Rattle.column.specs.declared.packet.Packet.{Packet}
 use Rattle.column.specs.declared.packet.Packet.the-variants.{Message, Acknowledgement}
 use Rattle.bank.specs.Banks as bank
 use Rattle.bank.specs.Banks.{columnAt, runs, packetAt, bankRefusal, actingRefusal}
-use Rattle.bank.specs.laws.StandingLaws.{Stands, stands, acting}
+use Rattle.bank.specs.laws.ValidityLaws.{Valid, valid, acting}
 use Rattle.bank.specs.Steps as steps
-use Rattle.bank.specs.Steps.{Outcome, accepted, refused, unless, settled, acted, delivered}
+use Rattle.bank.specs.Steps.{Result, accepted, refused, unless, settled, acted, delivered}
 use Rattle.bank.specs.Performs.{perform}
 use Rattle.bank.specs.Networks.{removed}
 use Rattle.bank.specs.declared.bank.Step.{Step}
@@ -49,7 +49,7 @@ not-refused : {A : Type 0} {n : ℕ} {x y : A} → refused n x ≡ accepted y �
 not-refused e = let z : _≡_ {A = ℕ} 0 1 = cc in omega arith
 
 module _ (s s' : bank.State) where
-  goes : (n : ℕ) (o : Outcome bank.State) → unless n s o ≡ accepted s' → (n ≡ 0) × (o ≡ accepted s')
+  goes : (n : ℕ) (o : Result bank.State) → unless n s o ≡ accepted s' → (n ≡ 0) × (o ≡ accepted s')
   goes n o h = go (eqb n 0) refl h
     where
       go : (b : Bool) → eqb n 0 ≡ b → cond b o (refused n s) ≡ accepted s' → (n ≡ 0) × (o ≡ accepted s')
@@ -108,7 +108,7 @@ module _ (s : bank.State) (l : List ℕ) where
 
   -- ---- an acknowledgement of the lowest owed
 
-  lowest-below : Stands s → (i : ℕ) → i < t .columns → columnAt (s .bank) i .owed ≢ 0 → lowest (columnAt (s .bank) i .owed) < t .columns
+  lowest-below : Valid s → (i : ℕ) → i < t .columns → columnAt (s .bank) i .owed ≢ 0 → lowest (columnAt (s .bank) i .owed) < t .columns
   lowest-below st i below some =
       let c = columnAt (s .bank) i in
       column-sound s st i below .owed-below (lowest (c .owed)) (lowest-in t (st .tree) (c .owed) (widths t i c (st .columns i below) .owed) some .holds)
@@ -125,7 +125,7 @@ module _ (s : bank.State) (l : List ℕ) where
 
   -- ---- take
 
-  module _ (place : ℕ) (s' : bank.State) (st : Stands s) (held : place < s .bank .count) where
+  module _ (place : ℕ) (s' : bank.State) (st : Valid s) (held : place < s .bank .count) where
     abbrev served : Packet → ℕ
     served p = lowest (columnAt (s .bank) (receiver p) .owed)
 
@@ -193,11 +193,11 @@ module _ (s : bank.State) (l : List ℕ) where
         go false = refl
 
   take-in : (place : ℕ) (s' : bank.State) → steps.take s place ≡ accepted s'
-      → Stands s × (place < s .bank .count) × (delivered s place (packetAt s place) ≡ accepted s')
+      → Valid s × (place < s .bank .count) × (delivered s place (packetAt s place) ≡ accepted s')
   take-in place s' e =
       let q = goes s s' (steps.takeRefusal s place) _ e in
       let z = earlier-none (bankRefusal s) (first ((10, leb (s .bank .count) place) ∷ [])) (q .0) in
-      (stands s (z .0), leb-false (s .bank .count) place (passed ((10, leb (s .bank .count) place) ∷ []) tt (z .1) .0), q .1)
+      (valid s (z .0), leb-false (s .bank .count) place (passed ((10, leb (s .bank .count) place) ∷ []) tt (z .1) .0), q .1)
 
   -- ---- every step
 

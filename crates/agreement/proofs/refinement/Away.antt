@@ -14,15 +14,15 @@ use Rattle.column.specs.laws.Cases.{equal-cases}
 use Rattle.column.specs.Sets.{has, single, insert}
 use Rattle.column.specs.laws.SetLaws.{has-single, has-without-self, insert-without, lt-within}
 use Rattle.column.specs.laws.TreeLaws.{every-all, tree-sixteen}
-use Rattle.column.specs.Columns.{standing}
+use Rattle.column.specs.Columns.{validityRefusal}
 use Rattle.column.specs.Returns.{struck}
 use Rattle.column.specs.Steps as core
 use Rattle.column.specs.declared.state.Column.{Column}
 use Rattle.bank.specs.Banks.{State, state, noColumn, columnAt, runs, bankRefusal}
 use Rattle.bank.specs.Networks.{puts}
-use Rattle.bank.specs.laws.StandingLaws.{stands, acting-passes}
+use Rattle.bank.specs.laws.ValidityLaws.{valid, acting-passes}
 use Rattle.bank.specs.laws.StepLaws.{fits}
-use Rattle.bank.specs.Steps.{Outcome, accepted, withColumn, acted, halted, haltRefusal}
+use Rattle.bank.specs.Steps.{Result, accepted, withColumn, acted, halted, haltRefusal}
 use Rattle.bank.specs.Performs.{perform}
 use Rattle.bank.specs.Rest.{Running}
 use Rattle.bank.specs.Strips.{among, Distinct}
@@ -37,7 +37,7 @@ use Rattle.agreement.proofs.refinement.Reached.{Reached, next, reached-
 
 -- the world after an accepted step
 pub stepped : (w : World) (x : Step) (s : State) → Reached w → perform (w .state) x ≡ accepted s → Reached (told w x (accepted s))
-stepped w x s r e = subst (λ (o : Outcome State). Reached (told w x o)) e (next w x r)
+stepped w x s r e = subst (λ (o : Result State). Reached (told w x o)) e (next w x r)
 
 -- ---- a halt of one column, and a note of it
 
@@ -68,8 +68,8 @@ module _ (s : State) (good : bankRefusal s ≡ 0) (j : ℕ) (below : j < s .bank
         → perform s (Note i j) ≡ accepted (withColumn s i (noticed (noting c (c .send) (c .awaited) (insert (c .noted) j))))
     unfolding perform acted puts core.noteEffect
     notes-it unnoted unawaited =
-        let st = stands s good in
-        let up : standing (s .bank .tree) i c ≡ 0 = rw (st .tree) (st .columns i (running .0)) in
+        let st = valid s good in
+        let up : validityRefusal (s .bank .tree) i c ≡ 0 = rw (st .tree) (st .columns i (running .0)) in
         rw (acting-passes s st i (running .0), note-passes (s .bank .tree) i c up (running .1) j below other unnoted, away, unawaited)
         (sym (fits s (withColumn s i (noticed (noting c (c .send) (c .awaited) (insert (c .noted) j)))) (st .room)))
 
@@ -151,7 +151,7 @@ module _ (k j : ℕ) (small : j < k) (before : ℕ → Column) where
     unfolding allAccepted run told
     noted-more z = (
       rw note-back (z .0),
-      λ n. ap (λ (o : Outcome State). columnAt (run (told w (Note i j) o) (map (λ (q : ℕ). Note q j) noters) .state .bank) n) note-back
+      λ n. ap (λ (o : Result State). columnAt (run (told w (Note i j) o) (map (λ (q : ℕ). Note q j) noters) .state .bank) n) note-back
           ∙ z .1 n ∙ go n (equal-cases n i),
     )
       where

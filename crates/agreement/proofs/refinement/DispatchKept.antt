@@ -7,12 +7,12 @@ use borrow.Author.Tests.{eq-eqb}
 use Rattle.column.specs.laws.Cases.{and-left, and-right}
 use Rattle.column.specs.Packets.{receiver}
 use Rattle.bank.specs.Banks.{State, runs, packetAt, bankRefusal}
-use Rattle.bank.specs.Steps.{Outcome, accepted, refused, after}
+use Rattle.bank.specs.Steps.{Result, accepted, refused, after}
 use Rattle.bank.specs.Performs.{perform}
 use Rattle.bank.specs.Dispatch.{dispatched, dispatch, dispatchOutcome}
 use Rattle.bank.specs.laws.Kinds.{byNoColumn}
 use Rattle.bank.specs.inner.Moves.{acts}
-use Rattle.bank.specs.laws.StandingOn.{runs-on}
+use Rattle.bank.specs.laws.ValidityOn.{runs-on}
 use Rattle.bank.specs.laws.RestSteps.{unchanged}
 use Rattle.bank.specs.declared.bank.Step.{Step}
 use Rattle.bank.specs.declared.bank.Step.the-variants.{Order, Send, Take, Ack, All, Note, Halt, Back, Write}
@@ -37,11 +37,11 @@ someone-acts s (Write i offset value) e = absurd (true≢false e)
 pub step-runs : (s : State) → bankRefusal s ≡ 0 → (x : Step) → byNoColumn x ≡ false → (j : ℕ) → runs (after (perform s x) .bank) j ≡ runs (s .bank) j
 step-runs s good x moves j = go (perform s x) refl
   where
-    go : (o : Outcome State) → perform s x ≡ o → runs (after o .bank) j ≡ runs (s .bank) j
+    go : (o : Result State) → perform s x ≡ o → runs (after o .bank) j ≡ runs (s .bank) j
     go (accepted s') e = let z = someone-acts s x moves in runs-on s x s' (z .0) moves good e (z .1) j
     go (refused n s') e = ap (λ (u : State). runs (u .bank) j) (unchanged s x n s' e)
 
-pub told-state : (w : World) (x : Step) (o : Outcome State) → told w x o .state ≡ after o
+pub told-state : (w : World) (x : Step) (o : Result State) → told w x o .state ≡ after o
 unfolding told
 told-state w x (accepted s) = refl
 told-state w x (refused n s) = refl
@@ -59,7 +59,7 @@ settling-keeps l (Halt m) e = absurd (true≢false (sym e))
 settling-keeps l (Back j) e = absurd (true≢false (sym e))
 settling-keeps l (Write i offset value) e = absurd (true≢false (sym e))
 
-pub told-orders : (w : World) (x : Step) (o : Outcome State) → ordersAfter (w .orders) x ≡ w .orders → told w x o .orders ≡ w .orders
+pub told-orders : (w : World) (x : Step) (o : Result State) → ordersAfter (w .orders) x ≡ w .orders → told w x o .orders ≡ w .orders
 unfolding told
 told-orders w x (accepted s) e = e
 told-orders w x (refused n s) e = refl

@@ -13,15 +13,15 @@ use Rattle.column.specs.laws.Cases.{truth, and-left, and-right, none-and}
 use Rattle.column.specs.Sets.{has}
 use Rattle.column.specs.Trees.{treeRefusal}
 use Rattle.column.specs.laws.TreeLaws.{tree-sixteen}
-use Rattle.column.specs.Columns.{idle, standing, watched, mayAcknowledge}
+use Rattle.column.specs.Columns.{idle, validityRefusal, watched, mayAcknowledge}
 use Rattle.column.specs.Steps.{sendRefusal, ackRefusal, allRefusal, noteRefusal}
 use Rattle.column.specs.declared.tree.Tree.{Tree}
 use Rattle.column.specs.declared.state.Column.{Column}
 use Rattle.bank.specs.Banks.{State, columnAt, runs, bankRefusal}
-use Rattle.bank.specs.laws.NetworkLaws.{meant}
+use Rattle.bank.specs.laws.NetworkLaws.{packetsMeant}
 use Rattle.bank.specs.Rest.{Running, AtRest}
 use Rattle.bank.specs.laws.RestSteps.{refuses, send-refused, ack-refused, all-refused, note-refused}
-use Rattle.bank.specs.laws.StandingLaws.{stands}
+use Rattle.bank.specs.laws.ValidityLaws.{valid}
 use Rattle.agreement.proofs.relation.Model.{Empty, Runs}
 use Rattle.agreement.proofs.relation.Members.{absent}
 use Rattle.agreement.proofs.relation.Move.{Idle, Free, Rest}
@@ -38,7 +38,7 @@ idle-passes : (t : Tree) → treeRefusal t ≡ 0 → (c : Column) → Widths t c
 idle-passes t ok c w e =
     ap₂ (λ (x y : ℕ). eqb x 0 && eqb y 0) (empty-set t ok (c .send) (w .send) (e .0)) (empty-set t ok (c .awaited) (w .awaited) (e .1))
 
-module _ (t : Tree) (i : ℕ) (c : Column) (ok : standing t i c ≡ 0) (r : c .running ≡ true) where
+module _ (t : Tree) (i : ℕ) (c : Column) (ok : validityRefusal t i c ≡ 0) (r : c .running ≡ true) where
   pub send-passes : c .send ≢ 0 → sendRefusal t i c ≡ 0
   unfolding sendRefusal
   send-passes n = simp (ok, r, ne-eqb (c .send) 0 n)
@@ -71,8 +71,8 @@ module _ (s : State) (orders : List ℕ) (good : bankRefusal s ≡ 0) (rest : At
   of-bank : (i : ℕ) → Runs (modelOf s orders) i → Running s i
   of-bank i r = (ltb-true i (t .columns) (and-left _ _ r), and-right (ltb i (t .columns)) _ r)
 
-  column-stands : (i : ℕ) → i < t .columns → standing t i (column i) ≡ 0
-  column-stands i h = rw (stands s good .tree) (stands s good .columns i h)
+  column-valid : (i : ℕ) → i < t .columns → validityRefusal t i (column i) ≡ 0
+  column-valid i h = rw (valid s good .tree) (valid s good .columns i h)
 
   -- a step of a running column is refused by the core
   no-send : (i : ℕ) → Running s i → sendRefusal t i (column i) ≢ 0
@@ -89,24 +89,24 @@ module _ (s : State) (orders : List ℕ) (good : bankRefusal s ≡ 0) (rest : At
       (sym (ap (λ (b : Bool). b || refuses (noteRefusal t i (column i) j)) h) ∙ sym (note-refused s (rest .no-packet) good i j) ∙ rest .no-note i j r)
 
   ok : treeRefusal t ≡ 0
-  ok = stands s good .tree
+  ok = valid s good .tree
 
   pub quiet-rest : Rest t (modelOf s orders)
-  unfolding meant
+  unfolding packetsMeant
   quiet-rest = record {
-    no-packet = ap (λ (n : ℕ). meant (take n (s .heads)) (take n (s .doors))) (rest .no-packet);
+    no-packet = ap (λ (n : ℕ). packetsMeant (take n (s .heads)) (take n (s .doors))) (rest .no-packet);
     no-send = λ i r q m. let b = of-bank i r in
-        no-send i b (send-passes t i (column i) (column-stands i (b .0)) (b .1) (λ z. empty z q m));
+        no-send i b (send-passes t i (column i) (column-valid i (b .0)) (b .1) (λ z. empty z q m));
     no-ack = λ i q r m f. let b = of-bank i r in
-        no-ack i b (ack-passes t i (column i) (column-stands i (b .0)) (b .1) (λ z. empty z q m) (free i (b .0) f));
+        no-ack i b (ack-passes t i (column i) (column-valid i (b .0)) (b .1) (λ z. empty z q m) (free i (b .0) f));
     no-all = λ i r n m w e. let b = of-bank i r in
-        no-all i b (all-passes t i (column i) (column-stands i (b .0)) (b .1) n (m .holds) w (idle-passes t ok (column i) (wide i (b .0)) e));
+        no-all i b (all-passes t i (column i) (column-valid i (b .0)) (b .1) n (m .holds) w (idle-passes t ok (column i) (wide i (b .0)) e));
     no-note = λ i j r h n d m. let b = of-bank i r in
-        no-note i j b (halted j h n) (note-passes t i (column i) (column-stands i (b .0)) (b .1) j h d (absent (column i .noted) j m));
+        no-note i j b (halted j h n) (note-passes t i (column i) (column-valid i (b .0)) (b .1) j h d (absent (column i .noted) j m));
   }
     where
       wide : (i : ℕ) → i < t .columns → Widths t (column i)
-      wide i h = widths t i (column i) (stands s good .columns i h)
+      wide i h = widths t i (column i) (valid s good .columns i h)
 
       -- the root may not acknowledge by its goal alone where senders are watched
       held : (i : ℕ) → (t .watch ≡ true → i ≢ t .root) → (t .watch && eqb i (t .root)) ≡ false

@@ -19,10 +19,10 @@ use Rattle.column.specs.laws.StateLaws.{acceptable-passes}
 use Rattle.column.specs.declared.tree.Tree.{Tree}
 use Rattle.column.specs.declared.state.Column.{Column}
 use Rattle.bank.specs.Banks.{State, state, columnAt, runs, packetAt, freshBank, capacity, bankRefusal}
-use Rattle.bank.specs.laws.StandingLaws.{fresh-at, fresh-unused, fresh-length}
-use Rattle.bank.specs.laws.NetworkLaws.{meant, packetsOf, packets-length, packet-at}
-use Rattle.bank.specs.laws.StandingLaws as bank
-use Rattle.bank.specs.Steps.{Outcome, accepted, refused, haltRefusal, halt}
+use Rattle.bank.specs.laws.ValidityLaws.{fresh-at, fresh-unused, fresh-length}
+use Rattle.bank.specs.laws.NetworkLaws.{packetsMeant, packetsOf, packets-length, packet-at}
+use Rattle.bank.specs.laws.ValidityLaws as bank
+use Rattle.bank.specs.Steps.{Result, accepted, refused, haltRefusal, halt}
 use Rattle.bank.specs.Performs.{perform}
 use Rattle.bank.specs.Strips.{haltOne, andThen, singles}
 use Rattle.bank.specs.laws.strips.StripLaws.{singly, listed, distinct-listed, members-listed}
@@ -37,7 +37,7 @@ use Rattle.agreement.proofs.relation.Model.{Holds, taken-held}
 use Rattle.agreement.proofs.invariant.Invariant.{Invariant, Fresh, fresh-invariant}
 use Rattle.agreement.proofs.invariant.Still.{below-cases}
 use Rattle.agreement.proofs.invariant.InvariantKept.{kept}
-use Rattle.agreement.proofs.invariant.Standing.{Stands, Deliverable, Standing, fresh-standing, standing-kept, stands-passes}
+use Rattle.agreement.proofs.invariant.Validity.{Valid, Deliverable, Validity, fresh-validity, validity-kept, valid-passes}
 use Rattle.agreement.proofs.relation.Move.{Event, halts}
 use Rattle.agreement.proofs.refinement.ReceivedByMoves as moves
 use Rattle.agreement.proofs.bounds.Bounded.{Bounded}
@@ -54,7 +54,7 @@ pub record Reached (w : World) : Type 0 where
   pub formed : Formed (w .state)
   pub room : w .state .bank .count ≤ capacity
   pub invariant : Invariant (w .state .bank .tree) (modelOf (w .state) (w .orders))
-  pub standing : Standing (w .state .bank .tree) (modelOf (w .state) (w .orders))
+  pub validity : Validity (w .state .bank .tree) (modelOf (w .state) (w .orders))
   pub bounded : Bounded (w .state .bank .tree) (modelOf (w .state) (w .orders))
   -- what a column holds is what it received last
   pub received-is : (i : ℕ) → columnAt (w .state .bank) i .number ≡ w .received i
@@ -64,7 +64,7 @@ pub record Reached (w : World) : Type 0 where
 
 -- the model of a fresh bank is fresh
 pub fresh-model : (t : Tree) → treeRefusal t ≡ 0 → (heads doors : List ℕ) → Fresh t (modelOf (state (freshBank t) heads doors) [])
-unfolding meant
+unfolding packetsMeant
 fresh-model t ok heads doors = record {
   columns-fresh = λ i l. ap (view t i) (fresh-at t ok i l) ∙ running i l;
   nobody-else = λ i l r. absurd (omega (arith, l, ltb-true i (t .columns) (and-left _ _ r)));
@@ -89,7 +89,7 @@ fresh-model t ok heads doors = record {
 
 pub start : (t : Tree) → treeRefusal t ≡ 0 → (heads doors : List ℕ) → length heads ≡ capacity → length doors ≡ capacity
     → Reached (begin t heads doors)
-unfolding meant
+unfolding packetsMeant
 start t ok heads doors h d = record {
   tree = ok;
   formed = record {
@@ -99,7 +99,7 @@ start t ok heads doors h d = record {
   };
   room = omega arith;
   invariant = fresh-invariant t (fresh-model t ok heads doors) below;
-  standing = fresh-standing t below (fresh-model t ok heads doors);
+  validity = fresh-validity t below (fresh-model t ok heads doors);
   bounded = fresh-bounded t below (fresh-model t ok heads doors);
   received-is = zero-number;
   awaits-is = λ q. ap (λ (c : Column). has (c .awaited) q) (fresh-at t ok (t .root) below) ∙ has-none q;
@@ -132,9 +132,9 @@ module _ (w w' : World) (e : Event) (r : Reached w) (f : Refined (w .state) (w .
     formed = f .formed;
     room = f .room;
     invariant = subst (λ (u : Tree). Invariant u m') (sym (f .same-tree)) (kept (check-exact before .0 (r .tree)) (r .invariant) (f .move));
-    standing = subst (λ (u : Tree). Standing u m') (sym (f .same-tree)) (standing-kept (check-exact before .0 (r .tree)) (r .invariant) (r .standing) (f .move));
+    validity = subst (λ (u : Tree). Validity u m') (sym (f .same-tree)) (validity-kept (check-exact before .0 (r .tree)) (r .invariant) (r .validity) (f .move));
     bounded = subst (λ (u : Tree). Bounded u m') (sym (f .same-tree)) (bounded-kept (check-exact before .0 (r .tree)) (r .invariant) (r .bounded) (f .move));
-    received-is = λ i. received-after (r .invariant) (r .standing) (w .received) (r .received-is) (f .move) i ∙ sym (received i);
+    received-is = λ i. received-after (r .invariant) (r .validity) (w .received) (r .received-is) (f .move) i ∙ sym (received i);
     awaits-is = λ q. ap (λ (u : Tree). has (columnAt (w' .state .bank) (u .root) .awaited) q) (f .same-tree)
         ∙ awaits-after (r .invariant) (w .awaits) (r .awaits-is) (f .move) q ∙ sym (awaits q);
   }
@@ -151,7 +151,7 @@ halted-singly [] w s' r e = let same : w .state ≡ s' = cc in subst (λ (s : St
 halted-singly (i ∷ l) w s' r e = go (λ v q h. halted-singly l v s' q h) (haltOne (w .state) i) refl e
   where
     go : ((v : World) → Reached v → singles (v .state) l ≡ accepted s' → Reached (moved v s'))
-        → (o : Outcome State) → haltOne (w .state) i ≡ o → andThen o (λ (t : State). singles t l) ≡ accepted s' → Reached (moved w s')
+        → (o : Result State) → haltOne (w .state) i ≡ o → andThen o (λ (t : State). singles t l) ≡ accepted s' → Reached (moved w s')
     go rest (accepted s1) z h =
         rest (moved w s1) (carried w (moved w s1) (halts i) r (refines-halt (w .state) (r .formed) (w .orders) i s1 z) (λ j. refl) (λ q. refl)) h
     go rest (refused n s1) z h = let z : _≡_ {A = ℕ} 0 1 = cc in absurd (omega arith)
@@ -175,7 +175,7 @@ written-kept w i offset value r =
       formed = written-formed (w .state) i offset value (r .formed);
       room = r .room;
       invariant = subst (Invariant t) same (r .invariant);
-      standing = subst (Standing t) same (r .standing);
+      validity = subst (Validity t) same (r .validity);
       bounded = subst (Bounded t) same (r .bounded);
       received-is = λ j. ap (λ (c : Column). c .number) (at j) ∙ r .received-is j;
       awaits-is = λ q. ap (λ (c : Column). has (c .awaited) q) (at (t .root)) ∙ r .awaits-is q;
@@ -205,7 +205,7 @@ pub next : (w : World) (x : Step) → Reached w → Reached (told w x (perform (
 unfolding told
 next w x r = go (perform (w .state) x) refl
   where
-    go : (o : Outcome State) → perform (w .state) x ≡ o → Reached (told w x o)
+    go : (o : Result State) → perform (w .state) x ≡ o → Reached (told w x o)
     go (accepted s') e = step-kept w x s' r e
     go (refused n s') e = subst (λ (s : State). Reached (told w x (refused n s))) (sym (unchanged (w .state) x n s' e)) r
 
@@ -242,13 +242,13 @@ module _ (w : World) (r : Reached w) where
   delivered k h =
       let whole = r .formed .whole in
       let p = packetAt s k in
-      r .standing .packets p (subst (Holds (packetsOf s)) (packet-at s whole k p h (r .room))
+      r .validity .packets p (subst (Holds (packetsOf s)) (packet-at s whole k p h (r .room))
       (taken-held (taken-place (packetsOf s) k p (omega (arith, h, packets-length s whole (r .room))))))
 
-  pub reached-stands : bank.Stands s
-  reached-stands = record {
+  pub reached-valid : bank.Valid s
+  reached-valid = record {
     tree = r .tree;
-    columns = λ i h. stands-passes t is-tree i (columnAt (s .bank) i) h (let z = r .standing .each-stands i h in record {
+    columns = λ i h. valid-passes t is-tree i (columnAt (s .bank) i) h (let z = r .validity .each-valid i h in record {
       send = z .send;
       awaited = z .awaited;
       owed = z .owed;
@@ -263,4 +263,4 @@ module _ (w : World) (r : Reached w) where
   }
 
   pub reached-passes : bankRefusal s ≡ 0
-  reached-passes = bank.stands-passes s reached-stands
+  reached-passes = bank.valid-passes s reached-valid

@@ -22,7 +22,7 @@ use Rattle.agreement.proofs.invariant.Invariant.{number, Invariant}
 use Rattle.agreement.proofs.invariant.InvariantCarried.{each}
 use Rattle.agreement.proofs.invariant.Links.{receiver-other}
 use Rattle.agreement.proofs.invariant.Serving.{self-root}
-use Rattle.agreement.proofs.invariant.Standing.{Standing}
+use Rattle.agreement.proofs.invariant.Validity.{Validity}
 use Rattle.agreement.proofs.invariant.Still.{returned-each}
 
 -- ---- by the moves
@@ -95,7 +95,7 @@ both-true a b e f = ap₂ (λ (x y : Bool). x && y) e f
 
 -- ---- the numbers
 
-module _ {t : Tree} {s : State} (inv : Invariant t s) (v : Standing t s) (f : ℕ → ℕ) (known : (j : ℕ) → number s j ≡ f j) where
+module _ {t : Tree} {s : State} (inv : Invariant t s) (v : Validity t s) (f : ℕ → ℕ) (known : (j : ℕ) → number s j ≡ f j) where
   -- the moving column's number, and the others'
   numbers-are : {s' : State} {a : ℕ} {c : Column} {network : List Packet} {l : List ℕ} → Becomes s s' a c network l →
       (g : ℕ → ℕ) → c .number ≡ g a → ((j : ℕ) → j ≢ a → f j ≡ g j) → (j : ℕ) → number s' j ≡ g j
@@ -132,7 +132,7 @@ module _ {t : Tree} {s : State} (inv : Invariant t s) (v : Standing t s) (f : �
       unheard b refl q k d (right-false (ltb (f a) k) (not (leaves s a k)) (ap not left))
   received-after (take-higher a q k d r lt taken e b) =
       let o = s .columns a .owed in
-      let none : o ≡ 0 = no-members (t .columns) o (v .each-stands a (inv .inside a r) .owed) (λ i h. absent o i (e i)) in
+      let none : o ≡ 0 = no-members (t .columns) o (v .each-valid a (inv .inside a r) .owed) (λ i h. absent o i (e i)) in
       let stays : leaves s a k ≡ false = right-false (ltb (number s a) k) (not (eqb o 0)) (ap not (eq-eqb o 0 none)) in
       let hears : (ltb (f a) k && not (leaves s a k)) ≡ true =
       both-true (ltb (f a) k) (not (leaves s a k)) (lt-ltb (f a) k (subst (λ (x : ℕ). x < k) (known a) lt)) (ap not stays) in

@@ -16,7 +16,7 @@ use Rattle.column.specs.laws.TreeLaws.{tree-sixteen, check-exact}
 use Rattle.column.specs.declared.tree.Tree.{Tree}
 use Rattle.column.specs.declared.state.Column.{Column}
 use Rattle.bank.specs.Banks.{State, state, columnAt, runs, runningOf, haltedOf}
-use Rattle.bank.specs.laws.StandingLaws.{stands-passes}
+use Rattle.bank.specs.laws.ValidityLaws.{valid-passes}
 use Rattle.bank.specs.Steps.{accepted}
 use Rattle.bank.specs.Returns.{lowestRunning, remaining, backRefusal, returned, back}
 use Rattle.bank.specs.laws.ReturnLaws.{Returning, returning, returned-length, place-mine, place-struck, place-unused}
@@ -51,7 +51,7 @@ module _ (s : State) (formed : Formed s) (orders : List ℕ) (j : ℕ) where
 
   module _ (known : Returning s j) where
     sixteen : t .columns ≤ 16
-    sixteen = tree-sixteen t (known .stands .tree)
+    sixteen = tree-sixteen t (known .valid .tree)
 
     -- ---- the column that is copied
 
@@ -59,13 +59,13 @@ module _ (s : State) (formed : Formed s) (orders : List ℕ) (j : ℕ) where
     some-lt = selected-lt (runs b) (t .columns) (t .columns) (omega arith)
 
     l-in : In (runningOf b) l
-    l-in = lowest-in t (known .stands .tree) (runningOf b) some-lt (known .some-run)
+    l-in = lowest-in t (known .valid .tree) (runningOf b) some-lt (known .some-run)
 
     l-below : l < t .columns
     l-below = member-lt (t .columns) (runningOf b) l some-lt (l-in .holds)
 
     l-runs : Runs (modelOf s orders) l
-    l-runs = model-runs s (known .stands) l l-below orders (sym (selected-has (runs b) (t .columns) l l-below) ∙ l-in .holds)
+    l-runs = model-runs s (known .valid) l l-below orders (sym (selected-has (runs b) (t .columns) l l-below) ∙ l-in .holds)
 
     -- ---- who remains halted
 
@@ -97,7 +97,7 @@ module _ (s : State) (formed : Formed s) (orders : List ℕ) (j : ℕ) where
     -- ---- the columns after it, as the model sees them
 
     root-below : t .root < t .columns
-    root-below = check-exact t .0 (known .stands .tree) .root-below
+    root-below = check-exact t .0 (known .valid .tree) .root-below
 
     there : columnAt (returned b j) j ≡ rejoined (columnAt b j) (columnAt b l) (remaining b j) (not (runs b (t .root))) l
     there = place-mine b j (omega (arith, formed .places, known .below, sixteen))
@@ -125,7 +125,7 @@ module _ (s : State) (formed : Formed s) (orders : List ℕ) (j : ℕ) where
         fits e h = subst (λ (x : Column). x .number < numbers) (sym e) h
 
     rests : move.Rest t (modelOf s orders)
-    rests = quiet-rest s orders (stands-passes s (known .stands)) (known .at-rest)
+    rests = quiet-rest s orders (valid-passes s (known .valid)) (known .at-rest)
 
     -- "The bank is at rest afterwards."
     pub rests-after : move.Rest t (modelOf next orders)
@@ -141,7 +141,7 @@ module _ (s : State) (formed : Formed s) (orders : List ℕ) (j : ℕ) where
         numbers-fit = number-fits;
       };
       same-tree = refl;
-      room = known .stands .room;
+      room = known .valid .room;
     }
 
   pub refines-back : Refines s orders orders (move.backs j l) (back s j)

@@ -19,10 +19,10 @@ use Rattle.column.specs.declared.state.Column.{Column}
 use Rattle.column.specs.declared.packet.Packet.{Packet}
 use Rattle.bank.specs.laws.WordLaws.{HeadFits}
 use Rattle.bank.specs.Banks.{State, noColumn, columnAt, runs, capacity, Whole}
-use Rattle.bank.specs.laws.StandingLaws.{Stands}
+use Rattle.bank.specs.laws.ValidityLaws.{Valid}
 use Rattle.bank.specs.Networks.{put, puts, withPacket}
 use Rattle.bank.specs.laws.NetworkLaws.{packetsOf, put-meant, put-whole}
-use Rattle.bank.specs.Steps.{Outcome, accepted, refused, unless, withColumn, fitting, settled}
+use Rattle.bank.specs.Steps.{Result, accepted, refused, unless, withColumn, fitting, settled}
 use Rattle.agreement.specs.Returning.{Formed}
 use Rattle.agreement.proofs.relation.Model.{Becomes, post}
 use Rattle.agreement.proofs.relation.Move.{Event, Move}
@@ -35,11 +35,11 @@ pub record Refined (s : State) (orders orders' : List ℕ) (e : Event) (s' : Sta
   pub same-tree : s' .bank .tree ≡ s .bank .tree
   pub room : s' .bank .count ≤ capacity
 
-abbrev pub Refines : State → List ℕ → List ℕ → Event → Outcome State → Type 0
+abbrev pub Refines : State → List ℕ → List ℕ → Event → Result State → Type 0
 Refines s orders orders' e o = (s' : State) → o ≡ accepted s' → Refined s orders orders' e s'
 
 -- what is accepted is not refused
-pub accepted-goes : (s s' : State) (n : ℕ) (o : Outcome State) → unless n s o ≡ accepted s' → (n ≡ 0) × (o ≡ accepted s')
+pub accepted-goes : (s s' : State) (n : ℕ) (o : Result State) → unless n s o ≡ accepted s' → (n ≡ 0) × (o ≡ accepted s')
 accepted-goes s s' n o = go (eqb n 0) refl
   where
     go : (b : Bool) → eqb n 0 ≡ b → cond b o (refused n s) ≡ accepted s' → (n ≡ 0) × (o ≡ accepted s')
@@ -53,13 +53,13 @@ pub record Rewritten (s next : State) (i : ℕ) (c : Column) : Type 0 where
   pub whole : Whole next
 
 module _ (s : State) (orders orders' : List ℕ) (e : Event) where
-  abbrev Goal : Outcome State → Type 0
+  abbrev Goal : Result State → Type 0
   Goal o = Refines s orders orders' e o
 
   pub refines-refused : (n : ℕ) (r : State) → Goal (refused n r)
   refines-refused n r s' q = let z : _≡_ {A = ℕ} 0 1 = cc in absurd (omega arith)
 
-  pub refines-unless : (n : ℕ) (o : Outcome State) → (n ≡ 0 → Goal o) → Goal (unless n s o)
+  pub refines-unless : (n : ℕ) (o : Result State) → (n ≡ 0 → Goal o) → Goal (unless n s o)
   refines-unless n o h = go (eqb n 0) refl
     where
       go : (b : Bool) → eqb n 0 ≡ b → Goal (cond b o (refused n s))
@@ -123,12 +123,12 @@ module _ (s : State) (formed : Formed s) (i : ℕ) (i-place : i < 16) (c : Colum
 
 -- ---- the bank after the core's result: column i is c, and its packets are put
 
-module _ (s : State) (formed : Formed s) (stands : Stands s) (i : ℕ) (below : i < s .bank .tree .columns) (c : Column)
+module _ (s : State) (formed : Formed s) (valid : Valid s) (i : ℕ) (below : i < s .bank .tree .columns) (c : Column)
     (fits : c .number < numbers) (gone : State) (gone-tree : gone .bank .tree ≡ s .bank .tree)
     (gone-columns : gone .bank .columns ≡ s .bank .columns) (gone-whole : Whole gone)
     (orders orders' : List ℕ) (e : Event) where
   place : i < 16
-  place = omega (arith, below, tree-sixteen (s .bank .tree) (stands .tree))
+  place = omega (arith, below, tree-sixteen (s .bank .tree) (valid .tree))
 
   refined : {next : State} → Rewritten s next i c → next .bank .count ≤ capacity
       → Move (s .bank .tree) (modelOf s orders) (modelOf next orders') e → Refined s orders orders' e next

@@ -27,7 +27,7 @@ use Rattle.column.specs.declared.packet.Packet.the-variants.{Message, Acknowled
 use Rattle.bank.specs.Banks.{State, columnAt, runs, actingRefusal}
 use Rattle.bank.specs.Networks.{puts}
 use Rattle.bank.specs.laws.NetworkLaws.{packetsOf}
-use Rattle.bank.specs.laws.StandingLaws.{Stands, acting}
+use Rattle.bank.specs.laws.ValidityLaws.{Valid, acting}
 use Rattle.bank.specs.Steps as bank
 use Rattle.bank.specs.Steps.{fitting, withColumn, settled, acted, order, send, ack, all, note}
 use Rattle.agreement.specs.Returning.{Formed}
@@ -40,7 +40,7 @@ use Rattle.agreement.proofs.refinement.RefineCommon.{Refines, refines-u
 
 -- ---- a column of a bank that stands
 
-module _ (s : State) (stands : Stands s) (i : ℕ) (below : i < s .bank .tree .columns) where
+module _ (s : State) (valid : Valid s) (i : ℕ) (below : i < s .bank .tree .columns) where
   abbrev tree : Tree
   tree = s .bank .tree
 
@@ -48,13 +48,13 @@ module _ (s : State) (stands : Stands s) (i : ℕ) (below : i < s .bank .tree .c
   column = columnAt (s .bank) i
 
   pub column-sound : Sound tree i column
-  column-sound = sound tree i column (stands .columns i below)
+  column-sound = sound tree i column (valid .columns i below)
 
   pub model-runs : (orders : List ℕ) → column .running ≡ true → Runs (modelOf s orders) i
   model-runs orders r = ap₂ (λ (x y : Bool). x && y) (lt-ltb i (tree .columns) below) r
 
   pub column-small : i < 256
-  column-small = omega (arith, below, tree-sixteen tree (stands .tree))
+  column-small = omega (arith, below, tree-sixteen tree (valid .tree))
 
 -- the lowest member of a set that is not empty
 pub lowest-in : (t : Tree) → treeRefusal t ≡ 0 → (m : ℕ) → m < 2 ^ t .columns → m ≢ 0 → In m (lowest m)
@@ -68,7 +68,7 @@ module _ (s : State) (formed : Formed s) (orders : List ℕ) where
 
   -- what is left to show once the bank stands and the core does not refuse
   refines-acting : (i n : ℕ) (r : core.Result) (orders' : List ℕ) (e : move.Event)
-      → (Stands s → i < t .columns → n ≡ 0 → Refines s orders orders' e (settled s s i r))
+      → (Valid s → i < t .columns → n ≡ 0 → Refines s orders orders' e (settled s s i r))
       → Refines s orders orders' e (acted s i (core.unless n (columnAt (s .bank) i) r))
   unfolding acted
   refines-acting i n r orders' e h =
@@ -106,7 +106,7 @@ module _ (s : State) (formed : Formed s) (orders : List ℕ) where
       e : move.Event
       e = move.sends i x
 
-      go : Stands s → i < t .columns → Runs (modelOf s orders) i → In (c .send) x → x < t .columns → (self noted : Bool) → eqb x i ≡ self → has (c .noted) x ≡ noted
+      go : Valid s → i < t .columns → Runs (modelOf s orders) i → In (c .send) x → x < t .columns → (self noted : Bool) → eqb x i ≡ self → has (c .noted) x ≡ noted
           → Refines s orders orders e (settled s s i
           (cond self (core.accepted (withSets c (without (c .send) x) (c .awaited) (c .owed)) [] false)
           (cond noted (core.accepted (withSets c (join (without (c .send) x) (children t x)) (c .awaited) (c .owed)) [] false)
@@ -123,7 +123,7 @@ module _ (s : State) (formed : Formed s) (orders : List ℕ) where
           (λ s' z. move.send-message i x runs (eqb-false x i p) m (not-member q) z)
 
   -- the lowest owed gets its acknowledgement: with ack, and with a take that leaves its packet
-  pub refines-acknowledgement : (i : ℕ) (gone : State) (left : Bool) → cond left s gone ≡ s → Stands s → (below : i < t .columns)
+  pub refines-acknowledgement : (i : ℕ) (gone : State) (left : Bool) → cond left s gone ≡ s → Valid s → (below : i < t .columns)
       → columnAt (s .bank) i .owed ≢ 0 → (e : move.Event)
       → ((s' : State) → In (columnAt (s .bank) i .owed) (lowest (columnAt (s .bank) i .owed))
       → Becomes (modelOf s orders) (modelOf s' orders) i
@@ -179,7 +179,7 @@ module _ (s : State) (formed : Formed s) (orders : List ℕ) where
       halted : runs (s .bank) j ≡ false → Runs (modelOf s orders) j → ⊥
       halted h r = true≢false (sym (and-right (ltb j (t .columns)) _ r) ∙ h)
 
-      go : Stands s → i < t .columns → noteRefusal t i c j ≡ 0 → runs (s .bank) j ≡ false → (b : Bool) → has (c .awaited) j ≡ b
+      go : Valid s → i < t .columns → noteRefusal t i c j ≡ 0 → runs (s .bank) j ≡ false → (b : Bool) → has (c .awaited) j ≡ b
           → Refines s orders orders e (settled s s i (core.accepted
           (withPending (move.noting c (cond b (join (c .send) (children t j)) (c .send)) (cond b (without (c .awaited) j) (c .awaited)) (insert (c .noted) j)) haltNoted) [] false))
       go st below ok h true a =

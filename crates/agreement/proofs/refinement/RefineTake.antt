@@ -26,7 +26,7 @@ use Rattle.bank.specs.laws.WordLaws.{fits-of}
 use Rattle.bank.specs.Banks.{State, columnAt, runs, packetAt, bankRefusal, actingRefusal, Whole}
 use Rattle.bank.specs.Networks.{removed, only, vanished}
 use Rattle.bank.specs.laws.NetworkLaws.{packetsOf, packets-length, packet-at, removed-meant, removed-whole, vanished-meant, vanished-whole, others}
-use Rattle.bank.specs.laws.StandingLaws.{Stands, stands, acting}
+use Rattle.bank.specs.laws.ValidityLaws.{Valid, valid, acting}
 use Rattle.bank.specs.Steps as bank
 use Rattle.bank.specs.Steps.{settled, delivered}
 use Rattle.bank.specs.Strips.{haltOne}
@@ -51,7 +51,7 @@ module _ (s : State) (formed : Formed s) (orders : List ℕ) where
 
   -- what is known of the packet p at a place
   record Arrived (place : ℕ) (p : Packet) : Type 0 where
-    bank-stands : Stands s
+    bank-valid : Valid s
     sound : Acceptable t p
     runs-there : runs (s .bank) (receiver p) ≡ true
     taken : Taken (packetsOf s) p (packetsOf (removed s place))
@@ -70,8 +70,8 @@ module _ (s : State) (formed : Formed s) (orders : List ℕ) where
         e : move.Event
         e = move.takes (Message q a k d) (lowest (c .owed))
 
-        st : Stands s
-        st = z .bank-stands
+        st : Valid s
+        st = z .bank-valid
 
         below : a < t .columns
         below = z .sound .receiver-below
@@ -121,15 +121,15 @@ module _ (s : State) (formed : Formed s) (orders : List ℕ) where
         below = z .sound .receiver-below
 
         runs-model : Runs (modelOf s orders) a
-        runs-model = model-runs s (z .bank-stands) a below orders (z .runs-there)
+        runs-model = model-runs s (z .bank-valid) a below orders (z .runs-there)
 
         go : (equal : Bool) → eqb k (c .number) ≡ equal → Refines s orders orders e (settled s (removed s place) a
             (cond equal (core.accepted (withSets c (c .send) (without (c .awaited) q) (c .owed)) [] false) (core.accepted c [] false)))
         go true x =
-            refines-quiet s formed (z .bank-stands) a below _ (formed .numbers-fit a) (removed s place) refl refl gone-whole orders orders e
+            refines-quiet s formed (z .bank-valid) a below _ (formed .numbers-fit a) (removed s place) refl refl gone-whole orders orders e
             (λ s' b. move.take-acknowledgement a q k runs-model (eqb-true k (c .number) x) (z .taken) b)
         go false x =
-            refines-quiet s formed (z .bank-stands) a below c (formed .numbers-fit a) (removed s place) refl refl gone-whole orders orders e
+            refines-quiet s formed (z .bank-valid) a below c (formed .numbers-fit a) (removed s place) refl refl gone-whole orders orders e
             (λ s' b. move.take-stale a q k runs-model (eqb-false k (c .number) x) (z .taken) b)
 
     arrives : (p : Packet) → Arrived place p → Refines s orders orders (move.takes p (lowest (columnAt (s .bank) (receiver p) .owed))) (delivered s place p)
@@ -145,18 +145,18 @@ module _ (s : State) (formed : Formed s) (orders : List ℕ) where
   refines-take place =
       refines-unless s orders orders (move.takes (packetAt s place) (lowest (columnAt (s .bank) (receiver (packetAt s place)) .owed))) (bank.takeRefusal s place) _ (λ ok.
       let q = earlier-none (bankRefusal s) (refusals.first ((10, leb (s .bank .count) place) ∷ [])) ok in
-      let st = stands s (q .0) in
+      let st = valid s (q .0) in
       let held = leb-false (s .bank .count) place (passed ((10, leb (s .bank .count) place) ∷ []) tt (q .1) .0) in
       let w = formed .whole in
       arrives place (removed-whole s w place held (st .room)) (packetAt s place) (record {
-        bank-stands = st;
+        bank-valid = st;
         sound = acceptable t (packetAt s place) (st .packets place held);
         runs-there = st .receivers place held;
         taken = there place st held;
         number-fits = fits-of (getD (s .heads) place 0) (getD (s .doors) place 0) .number-lt;
       }))
     where
-      there : (place : ℕ) → Stands s → place < s .bank .count → Taken (packetsOf s) (packetAt s place) (packetsOf (removed s place))
+      there : (place : ℕ) → Valid s → place < s .bank .count → Taken (packetsOf s) (packetAt s place) (packetsOf (removed s place))
       there place st held =
           let w = formed .whole in
           let p = packetAt s place in

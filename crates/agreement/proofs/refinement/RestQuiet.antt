@@ -12,7 +12,7 @@ use Rattle.column.specs.laws.Cases.{truth, and-right}
 use Rattle.column.specs.Refusals.{first}
 use Rattle.column.specs.laws.RefusalLaws.{passed, earlier-none}
 use Rattle.column.specs.Sets.{has, lowest}
-use Rattle.column.specs.Columns.{standing}
+use Rattle.column.specs.Columns.{validityRefusal}
 use Rattle.column.specs.Steps.{sendRefusal, ackRefusal, allRefusal, noteConditions, noteRefusal}
 use Rattle.column.specs.declared.tree.Tree.{Tree}
 use Rattle.column.specs.declared.state.Column.{Column}
@@ -20,7 +20,7 @@ use Rattle.bank.specs.Banks.{State, columnAt, runs, bankRefusal}
 use Rattle.bank.specs.Rest.{Refused, Running, AtRest, isRefused}
 use Rattle.bank.specs.laws.RestSteps.{refuses, send-refused, ack-refused, all-refused, note-refused, any-note-refused}
 use Rattle.bank.specs.Steps.{note}
-use Rattle.bank.specs.laws.StandingLaws.{Stands, stands}
+use Rattle.bank.specs.laws.ValidityLaws.{Valid, valid}
 use Rattle.bank.specs.Exact.{ownRefusal, refusalOf}
 use Rattle.bank.specs.laws.ExactLaws.{exact}
 use Rattle.bank.specs.laws.Kinds.{ofHalted}
@@ -42,7 +42,7 @@ refusing n h = ap not (ne-eqb n 0 h)
 note-free : (t : Tree) (i : ℕ) (c : Column) (j : ℕ) → noteRefusal t i c j ≡ 0 → (j ≢ i) × (has (c .noted) j ≡ false)
 unfolding noteRefusal
 note-free t i c j e =
-    let p = passed (noteConditions t i c j) tt (earlier-none (standing t i c) (first (noteConditions t i c j)) e .1) in
+    let p = passed (noteConditions t i c j) tt (earlier-none (validityRefusal t i c) (first (noteConditions t i c j)) e .1) in
     (eqb-false j i (p .1 .1 .0), p .1 .1 .1 .0)
 
 module _ (s : State) (orders : List ℕ) (none : s .bank .count ≡ 0) (good : bankRefusal s ≡ 0) (rest : Rest (s .bank .tree) (modelOf s orders)) where
@@ -55,8 +55,8 @@ module _ (s : State) (orders : List ℕ) (none : s .bank .count ≡ 0) (good : b
   in-model : (i : ℕ) → Running s i → Runs (modelOf s orders) i
   in-model i h = ap₂ (λ (x y : Bool). x && y) (lt-ltb i (t .columns) (h .0)) (h .1)
 
-  st : Stands s
-  st = stands s good
+  st : Valid s
+  st = valid s good
 
   wide : (i : ℕ) → Running s i → Widths t (column i)
   wide i h = widths t i (column i) (st .columns i (h .0))

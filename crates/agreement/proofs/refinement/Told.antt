@@ -24,7 +24,7 @@ use Rattle.column.specs.declared.state.Column.{Column}
 use Rattle.column.specs.declared.packet.Packet.{Packet}
 use Rattle.column.specs.declared.packet.Packet.the-variants.{Message, Acknowledgement}
 use Rattle.bank.specs.Banks.{State, columnAt, runs, packetAt, bankRefusal, noColumn}
-use Rattle.bank.specs.laws.StandingLaws.{Stands, stands}
+use Rattle.bank.specs.laws.ValidityLaws.{Valid, valid}
 use Rattle.bank.specs.Steps as bank
 use Rattle.bank.specs.Steps.{accepted, withColumn}
 use Rattle.bank.specs.Performs.{perform}
@@ -66,7 +66,7 @@ not-refused : (t : Tree) (c : Column) (p : Packet) → treeRefusal t ≡ 0 → s
 unfolding takeRefusal
 not-refused t c p h i j r = simp (h, i, j, r, eq-eqb (receiver p) (receiver p) refl)
 
-pub left-is : (s : State) → Stands s → (place q a k d : ℕ) → place < s .bank .count → packetAt s place ≡ Message q a k d
+pub left-is : (s : State) → Valid s → (place q a k d : ℕ) → place < s .bank .count → packetAt s place ≡ Message q a k d
     → leftBy s (Message q a k d) ≡ moves.leaves (modelOf s []) a k
 left-is s st place q a k d held e =
     let t = s .bank .tree in
@@ -102,7 +102,7 @@ module _ (w : World) where
   abbrev m : model.State
   m = modelOf s (w .orders)
 
-  heard-told : Stands s → (place : ℕ) → place < s .bank .count → (p : Packet) → packetAt s place ≡ p → (j : ℕ)
+  heard-told : Valid s → (place : ℕ) → place < s .bank .count → (p : Packet) → packetAt s place ≡ p → (j : ℕ)
       → heard s p (w .received) j ≡ moves.heard m p (w .received) j
   heard-told st place held (Message q a k d) e j =
       changed-at (ltb (w .received a) k && not (leftBy s (Message q a k d))) (changed (w .received) a k) (w .received) j
@@ -132,7 +132,7 @@ module _ (w : World) where
   received-told (Take place) o s' e j =
       let q = earlier-none (bankRefusal s) (first ((10, leb (s .bank .count) place) ∷ [])) (accepted-goes s s' (bank.takeRefusal s place) _ e .0) in
       let held = leb-false (s .bank .count) place (passed ((10, leb (s .bank .count) place) ∷ []) tt (q .1) .0) in
-      heard-told (stands s (q .0)) place held (packetAt s place) refl j
+      heard-told (valid s (q .0)) place held (packetAt s place) refl j
   received-told (Ack i) o s' e j = refl
   received-told (All i) o s' e j = refl
   received-told (Note i x) o s' e j = refl

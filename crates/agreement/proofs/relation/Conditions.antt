@@ -11,7 +11,7 @@ use Rattle.column.specs.Refusals.{first}
 use Rattle.column.specs.laws.RefusalLaws.{passed, earlier-none}
 use Rattle.column.specs.Sets.{has}
 use Rattle.column.specs.laws.SetLaws.{within-lt, no-members, member-pos}
-use Rattle.column.specs.Columns.{highest, stateConditions, stateRefusal, standing, idle, watched, mayAcknowledge}
+use Rattle.column.specs.Columns.{highest, stateConditions, stateRefusal, validityRefusal, idle, watched, mayAcknowledge}
 use Rattle.column.specs.Steps.{orderConditions, orderRefusal, sendConditions, sendRefusal, ackConditions, ackRefusal, allConditions, allRefusal, noteConditions, noteRefusal, haltConditions, haltRefusal}
 use Rattle.column.specs.declared.tree.Tree.{Tree}
 use Rattle.column.specs.declared.state.Column.{Column}
@@ -57,7 +57,7 @@ module _ (t : Tree) (i : ℕ) (c : Column) where
   pub order-in : orderRefusal t i c ≡ 0 → (c .running ≡ true) × Idle c × (t .watch ≡ true → Empty (c .owed)) × (c .number ≢ highest)
   unfolding orderRefusal
   order-in e =
-      let p = passed (orderConditions t i c) tt (earlier-none (standing t i c) (first (orderConditions t i c)) e .1) in (
+      let p = passed (orderConditions t i c) tt (earlier-none (validityRefusal t i c) (first (orderConditions t i c)) e .1) in (
         not-false _ (p .1 .0),
         idle-in c (not-false _ (p .1 .1 .0)),
         λ w. empty (eqb-true (c .owed) 0 (not-false _ (and-none (t .watch) _ (p .1 .1 .1 .0) w))),
@@ -67,7 +67,7 @@ module _ (t : Tree) (i : ℕ) (c : Column) where
   pub send-in : sendRefusal t i c ≡ 0 → (c .running ≡ true) × (c .send ≢ 0)
   unfolding sendRefusal
   send-in e =
-      let p = passed (sendConditions t i c) tt (earlier-none (standing t i c) (first (sendConditions t i c)) e .1) in
+      let p = passed (sendConditions t i c) tt (earlier-none (validityRefusal t i c) (first (sendConditions t i c)) e .1) in
       (not-false _ (p .0), eqb-false (c .send) 0 (p .1 .0))
 
   free-in : mayAcknowledge t i c ≡ true → Free t i c
@@ -78,24 +78,24 @@ module _ (t : Tree) (i : ℕ) (c : Column) where
   pub ack-in : ackRefusal t i c ≡ 0 → (c .running ≡ true) × (c .owed ≢ 0) × Free t i c
   unfolding ackRefusal
   ack-in e =
-      let p = passed (ackConditions t i c) tt (earlier-none (standing t i c) (first (ackConditions t i c)) e .1) in
+      let p = passed (ackConditions t i c) tt (earlier-none (validityRefusal t i c) (first (ackConditions t i c)) e .1) in
       (not-false _ (p .0), eqb-false (c .owed) 0 (p .1 .0), free-in (not-false _ (p .1 .1 .0)))
 
   pub all-in : allRefusal t i c ≡ 0 →
       (c .running ≡ true) × (i ≢ t .root) × In (c .noted) (watched t c) × (c .whole ≡ false) × Idle c
   unfolding allRefusal
   all-in e =
-      let p = passed (allConditions t i c) tt (earlier-none (standing t i c) (first (allConditions t i c)) e .1) in
+      let p = passed (allConditions t i c) tt (earlier-none (validityRefusal t i c) (first (allConditions t i c)) e .1) in
       (not-false _ (p .0), eqb-false i (t .root) (p .1 .0), member (not-false _ (p .1 .1 .0)), p .1 .1 .1 .0, idle-in c (not-false _ (p .1 .1 .1 .1 .0)))
 
   pub note-in : (j : ℕ) → noteRefusal t i c j ≡ 0 → (j < t .columns) × (c .running ≡ true) × (¬ In (c .noted) j)
   unfolding noteRefusal
   note-in j e =
-      let p = passed (noteConditions t i c j) tt (earlier-none (standing t i c) (first (noteConditions t i c j)) e .1) in
+      let p = passed (noteConditions t i c j) tt (earlier-none (validityRefusal t i c) (first (noteConditions t i c j)) e .1) in
       (leb-false (t .columns) j (p .0), not-false _ (p .1 .0), not-member (p .1 .1 .1 .0))
 
   pub halt-in : haltRefusal t i c ≡ 0 → c .running ≡ true
   unfolding haltRefusal
   halt-in e =
-      let p = passed (haltConditions t i c) tt (earlier-none (standing t i c) (first (haltConditions t i c)) e .1) in
+      let p = passed (haltConditions t i c) tt (earlier-none (validityRefusal t i c) (first (haltConditions t i c)) e .1) in
       not-false _ (p .0)

@@ -65,14 +65,14 @@ unfolding NoneBack told perform every closedUp keeping padded places freshPlace 
 none-back = (refl, (refl, (refl, tt)))
 
 -- the root halts, the two that run take over, one of them halts; its return is refused, since its halt is not yet noted, and the root's
-abbrev pub darkened : List Step
-darkened = row takenOver .steps ++ (Halt 4 ∷ Back 2 ∷ Back 0 ∷ [])
+abbrev pub withHalts : List Step
+withHalts = row takenOver .steps ++ (Halt 4 ∷ Back 2 ∷ Back 0 ∷ [])
 
-pub none-back-dark : NoneBack (fresh chain) darkened
+pub none-back-with-halts : NoneBack (fresh chain) withHalts
 unfolding NoneBack told perform every closedUp keeping padded places freshPlace bankRefusal packetOf put puts vanished fitting acted delivered rewriting halted haltRefusal backRefusal returned atRest climbsIn treeRefusal stateRefusal selected trailingZeros core.orderRefusal core.sendRefusal core.packetRefusal core.takeRefusal core.ackRefusal core.allRefusal core.noteRefusal core.orderEffect core.sendEffect core.acknowledgementEffect core.receiveEffect core.messageEffect core.ackEffect core.allEffect core.noteEffect
-none-back-dark = (refl, (refl, (refl, (refl, (refl, (refl, (refl, (refl, (refl, (refl, (refl, (refl, (refl, (refl, (refl, (refl, (refl, (refl, (refl, (refl, (refl, (tt, (tt, tt)))))))))))))))))))))))
+none-back-with-halts = (refl, (refl, (refl, (refl, (refl, (refl, (refl, (refl, (refl, (refl, (refl, (refl, (refl, (refl, (refl, (refl, (refl, (refl, (refl, (refl, (refl, (tt, (tt, tt)))))))))))))))))))))))
 
-pub dark-said : JournalsAgree → Consistent 3 (journals (fresh chain) darkened (λ i. []))
-dark-said agree =
+pub with-halts-said : JournalsAgree → Consistent 3 (journals (fresh chain) withHalts (λ i. []))
+with-halts-said agree =
     let words : length {A = ℕ} (replicate capacity 0) ≡ capacity = length-replicate {A = ℕ} capacity 0 in
-    agree chain (ap (λ x. x .1) (runs-pass takenOver)) (replicate capacity 0) (replicate capacity 0) words words darkened none-back-dark
+    agree chain (ap (λ x. x .1) (runs-pass takenOver)) (replicate capacity 0) (replicate capacity 0) words words withHalts none-back-with-halts

@@ -19,9 +19,9 @@ use Rattle.column.specs.declared.tree.Tree.{Tree}
 use Rattle.column.specs.declared.packet.Packet.{Packet}
 use Rattle.column.specs.declared.packet.Packet.the-variants.{Message, Acknowledgement}
 use Rattle.bank.specs.Banks.{State, columnAt, runs, packetAt, capacity}
-use Rattle.bank.specs.laws.StandingLaws.{Stands, stands, places-at}
+use Rattle.bank.specs.laws.ValidityLaws.{Valid, valid, places-at}
 use Rattle.bank.specs.Steps as steps
-use Rattle.bank.specs.Steps.{Outcome, accepted, refused}
+use Rattle.bank.specs.Steps.{Result, accepted, refused}
 use Rattle.bank.specs.Performs.{perform}
 use Rattle.bank.specs.laws.Places.{tree-kept}
 use Rattle.bank.specs.Rest.{Running, AtRest}
@@ -73,12 +73,12 @@ module _ (q : ℕ) (far : 16 < q) where
   awaits-none w ok (Back j) e = e
   awaits-none w ok (Write i offset value) e = e
 
-  told-none : (w : World) → Good w → (x : Step) (o : Outcome State) → w .awaits q ≡ false → told w x o .awaits q ≡ false
+  told-none : (w : World) → Good w → (x : Step) (o : Result State) → w .awaits q ≡ false → told w x o .awaits q ≡ false
   unfolding told
   told-none w ok x (accepted s) e = awaits-none w ok x e
   told-none w ok x (refused n s) e = e
 
-  told-after : (w : World) (x : Step) (o : Outcome State) → told w x o .state ≡ steps.after o
+  told-after : (w : World) (x : Step) (o : Result State) → told w x o .state ≡ steps.after o
   unfolding told
   told-after w x (accepted s) = refl
   told-after w x (refused n s) = refl
@@ -93,11 +93,11 @@ module _ (q : ℕ) (far : 16 < q) where
 
 -- ---- what the refusals of one step say of it
 
-refused-by : (n : ℕ) (o : Outcome State) → refusal o ++ [] ≡ n ∷ [] → (s : State) × (o ≡ refused n s)
+refused-by : (n : ℕ) (o : Result State) → refusal o ++ [] ≡ n ∷ [] → (s : State) × (o ≡ refused n s)
 refused-by n (accepted s) e = let z : _≡_ {A = ℕ} 0 1 = ap length e in absurd (omega arith)
 refused-by n (refused m s) e = (s, ap (λ (k : ℕ). refused k s) cc)
 
-accepted-by : (o : Outcome State) → refusal o ++ [] ≡ [] → (s : State) × (o ≡ accepted s)
+accepted-by : (o : Result State) → refusal o ++ [] ≡ [] → (s : State) × (o ≡ accepted s)
 accepted-by (accepted s) e = (s, refl)
 accepted-by (refused m s) e = let z : _≡_ {A = ℕ} 1 0 = ap length e in absurd (omega arith)
 
@@ -139,8 +139,8 @@ module _ (c : Case) where
       subst P (follow-steps (fromFresh (row c .tree)) (row c .steps))
       (f (row c .tree) (ap (λ x. x .1) (runs-pass c)) (replicate capacity 0) (replicate capacity 0) words words (map step (row c .steps)))
 
-  pub bank-stands : Stands s
-  bank-stands = stands s (ap (λ x. x .2) (runs-pass c))
+  pub bank-valid : Valid s
+  bank-valid = valid s (ap (λ x. x .2) (runs-pass c))
 
   rests : row c .rest ≡ true → AtRest s
   rests e = rest-exact s .0 (ap (λ (r : Row). r .rest) row-is ∙ e)

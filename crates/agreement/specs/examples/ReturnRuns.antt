@@ -18,7 +18,7 @@ use Rattle.column.specs.declared.state.Column.{Column}
 use Rattle.bank.specs.Words.{packetOf}
 use Rattle.bank.specs.Networks.{keeping, padded, puts, vanished}
 use Rattle.bank.specs.Banks.{State, state, noColumn, columnAt, runs, capacity, places, freshPlace, bankRefusal}
-use Rattle.bank.specs.Steps.{Outcome, accepted, refused, fitting, acted, rewriting, halted, haltRefusal}
+use Rattle.bank.specs.Steps.{Result, accepted, refused, fitting, acted, rewriting, halted, haltRefusal}
 use Rattle.bank.specs.Rest.{isRefused, Running, AtRest, atRest}
 use Rattle.bank.specs.Returns.{backRefusal, returned}
 use Rattle.bank.specs.Performs.{perform}
@@ -48,7 +48,7 @@ pub computed : _≡_ {A = Bool × Bool × Bool × ℕ × ℕ}
 unfolding run told perform every keeping padded places freshPlace bankRefusal packetOf puts vanished fitting acted rewriting halted haltRefusal backRefusal returned atRest climbsIn treeRefusal stateRefusal selected trailingZeros core.sendRefusal core.ackRefusal core.allRefusal core.noteRefusal core.noteEffect
 computed = refl
 
-comes : (o : Outcome State) → isRefused o ≡ false → (s : State) × (o ≡ accepted s)
+comes : (o : Result State) → isRefused o ≡ false → (s : State) × (o ≡ accepted s)
 comes (accepted s) e = (s, refl)
 comes (refused n s) e = absurd (true≢false e)
 

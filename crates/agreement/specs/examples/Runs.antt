@@ -16,7 +16,7 @@ use Rattle.bank.specs.Words.{packetOf}
 use Rattle.bank.specs.Networks.{closedUp, keeping, padded, put, puts, vanished}
 use Rattle.bank.specs.Banks.{State, columnAt, runs, capacity, places, freshPlace, bankRefusal}
 use Rattle.bank.specs.Steps as bank
-use Rattle.bank.specs.Steps.{Outcome, fitting, acted, delivered, rewriting, halted, haltRefusal}
+use Rattle.bank.specs.Steps.{Result, fitting, acted, delivered, rewriting, halted, haltRefusal}
 use Rattle.bank.specs.Returns.{backRefusal, returned}
 use Rattle.bank.specs.Performs.{perform}
 use Rattle.bank.specs.Rest.{atRest}
@@ -73,7 +73,7 @@ after r = run (fromFresh (r .tree)) (r .steps)
 
 -- ---- a row is what is computed
 
-abbrev pub refusal : Outcome State → List ℕ
+abbrev pub refusal : Result State → List ℕ
 refusal (bank.accepted s) = []
 refusal (bank.refused n s) = n ∷ []
 

@@ -15,7 +15,7 @@ use Rattle.column.specs.declared.packet.Packet.{Packet}
 use Rattle.column.specs.declared.packet.Packet.the-variants.{Message}
 use Rattle.bank.specs.Words.{headOf, packetOf}
 use Rattle.bank.specs.Banks.{State, state, noColumn, capacity, places, freshPlace, freshBank, bankRefusal}
-use Rattle.bank.specs.laws.StandingLaws.{Stands, stands}
+use Rattle.bank.specs.laws.ValidityLaws.{Valid, valid}
 use Rattle.bank.specs.Networks.{counting, withPacket, put, puts}
 use Rattle.bank.specs.laws.NetworkLaws.{packetsOf, put-meant}
 use Rattle.bank.specs.Steps.{accepted, refused, after, withColumn, fitting, acted}
@@ -41,19 +41,19 @@ pub full : (bankRefusal (crowded 512) ≡ 0)
 unfolding every climbsIn treeRefusal stateRefusal trailingZeros packetOf places freshPlace bankRefusal put puts perform fitting acted core.packetRefusal core.sendRefusal core.sendEffect
 full = (refl, refl, refl)
 
-pub full-stands : Stands (crowded 512)
-full-stands = stands (crowded 512) (full .0)
+pub full-valid : Valid (crowded 512)
+full-valid = valid (crowded 512) (full .0)
 
 -- no packet is under way, and column 1 is halted
 abbrev dark : State
 dark = withColumn (crowded 0) 1 noColumn
 
 -- "Only 5 and 7 can be written, at a halted column too"; "22 for .. a write elsewhere, after 4"
-pub dark-written : (perform dark (Write 1 5 255) ≡ accepted (withColumn dark 1 (withRegisters noColumn 255 0)))
+pub with-halts-written : (perform dark (Write 1 5 255) ≡ accepted (withColumn dark 1 (withRegisters noColumn 255 0)))
     × (perform dark (Write 1 6 255) ≡ refused 22 dark)
     × (perform dark (Write 3 6 255) ≡ refused 4 dark)
 unfolding every climbsIn treeRefusal stateRefusal places freshPlace bankRefusal perform writeRefusal written
-dark-written = (refl, refl, refl)
+with-halts-written = (refl, refl, refl)
 
 pub last-put : packetsOf (withPacket (crowded 511) message) ≡ packetsOf (crowded 511) ++ (message ∷ [])
 last-put =

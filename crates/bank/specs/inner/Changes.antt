@@ -8,7 +8,7 @@ use lib.ListN.{set}
 use Rattle.column.specs.Refusals.{first, earlier}
 use Rattle.column.specs.Sets.{has}
 use Rattle.column.specs.Packets.{receiver}
-use Rattle.column.specs.Columns.{standing}
+use Rattle.column.specs.Columns.{validityRefusal}
 use Rattle.column.specs.Steps as core
 use Rattle.column.specs.declared.tree.Tree.{Tree}
 use Rattle.column.specs.declared.state.Column.{Column}
@@ -17,14 +17,14 @@ use Rattle.column.specs.declared.outcome.Outcome as core-outcome
 use Rattle.column.specs.declared.outcome.Answer as core-answer
 use Rattle.column.specs.declared.outcome.Answer.the-variants as core-is
 use Rattle.bank.specs.Banks.{State, state, columnAt, runs, packetAt, bankRefusal}
-use Rattle.bank.specs.inner.Surveys.{newestStands}
+use Rattle.bank.specs.inner.Surveys.{newestValid}
 use Rattle.bank.specs.Networks.{put, removed}
-use Rattle.bank.specs.Steps.{Outcome, accepted, refused, withColumn, fitting, settled, delivered, outcome}
+use Rattle.bank.specs.Steps.{Result, accepted, refused, withColumn, fitting, settled, delivered, outcomeMeant}
 use Rattle.bank.specs.Pages.{write}
 use Rattle.bank.specs.declared.bank.Bank.{Bank}
 use Rattle.bank.specs.declared.bank.Answer.{Answer}
 use Rattle.bank.specs.declared.bank.Answer.the-variants.{Done, Refused}
-use Rattle.bank.specs.declared.bank.Result.{Result}
+use Rattle.bank.specs.declared.bank.Outcome.{Outcome}
 use Rattle.bank.specs.declared.settling.Change.{Change}
 use Rattle.bank.specs.declared.bank.Step.{Step}
 use Rattle.bank.specs.declared.bank.Step.the-variants.{Order, Send, Take, Ack, All, Note, Halt, Back, Write}
@@ -40,23 +40,23 @@ pub record Becomes (r : Change) (c : Column) (count : ℕ) (a : Answer) : Type 0
 abbrev pub stored : Bank → ℕ → Change → Bank
 stored b i r = record { tree = b .tree; columns = set (b .columns) i (r .column); count = r .count }
 
-abbrev pub changeBy : Answer → Bank → Bank → List ℕ → List ℕ → Outcome State
+abbrev pub changeBy : Answer → Bank → Bank → List ℕ → List ℕ → Result State
 changeBy Done before after heads doors = accepted (state after heads doors)
 changeBy (Refused n) before after heads doors = refused n (state before heads doors)
 
 -- the bank after it, where column i acted and these words were left
-abbrev pub changed : Bank → ℕ → Change → List ℕ → List ℕ → Outcome State
+abbrev pub changed : Bank → ℕ → Change → List ℕ → List ℕ → Result State
 changed b i r heads doors = changeBy (r .answer) b (stored b i r) heads doors
 
 -- ---- what a function is handed of a bank
 
 -- the set has who runs
-abbrev pub Lit : ℕ → Bank → Type 0
-Lit running b = (j : ℕ) → j < b .tree .columns → has running j ≡ runs b j
+abbrev pub RunningIs : ℕ → Bank → Type 0
+RunningIs running b = (j : ℕ) → j < b .tree .columns → has running j ≡ runs b j
 
 pub record Handed (b : Bank) (t : Tree) (running i : ℕ) (c : Column) (count : ℕ) : Type 0 where
   pub tree-is : b .tree ≡ t
-  pub lit : Lit running b
+  pub running-is : RunningIs running b
   pub column-is : columnAt b i ≡ c
   pub count-is : b .count ≡ count
 
@@ -64,7 +64,7 @@ pub record Handed (b : Bank) (t : Tree) (running i : ℕ) (c : Column) (count : 
 
 abbrev pub Delivers : Change → ℕ → Column → Packet → ℕ → List ℕ → List ℕ → List ℕ → List ℕ → Type 0
 Delivers r running c p count heads doors heads' doors' =
-    (b : Bank) (i : ℕ) → b .count ≡ count → Lit running b → c .running ≡ runs b i → receiver p < b .tree .columns
+    (b : Bank) (i : ℕ) → b .count ≡ count → RunningIs running b → c .running ≡ runs b i → receiver p < b .tree .columns
     → changed b i r heads' doors' ≡ fitting (state b heads doors) (put (withColumn (state b heads doors) i c) p)
 
 abbrev pub Steady : Column → core.Result → Type 0
@@ -80,13 +80,13 @@ Aimed t (core.refused n d) = Unit {0}
 
 abbrev pub Settles : Change → ℕ → core-outcome.Outcome → ℕ → List ℕ → List ℕ → List ℕ → List ℕ → Type 0
 Settles r running o count heads doors heads' doors' =
-    (b : Bank) (i : ℕ) → b .count ≡ count → Lit running b → Steady (columnAt b i) (core.meant o) → Aimed (b .tree) (core.meant o)
-    → changed b i r heads' doors' ≡ settled (state b heads doors) (state b heads doors) i (core.meant o)
+    (b : Bank) (i : ℕ) → b .count ≡ count → RunningIs running b → Steady (columnAt b i) (core.outcomeMeant o) → Aimed (b .tree) (core.outcomeMeant o)
+    → changed b i r heads' doors' ≡ settled (state b heads doors) (state b heads doors) i (core.outcomeMeant o)
 
 abbrev pub SettlesTaken : Change → ℕ → ℕ → core-outcome.Outcome → ℕ → List ℕ → List ℕ → List ℕ → List ℕ → Type 0
 SettlesTaken r running place o count heads doors heads' doors' =
-    (b : Bank) (i : ℕ) → b .count ≡ count → Lit running b → Steady (columnAt b i) (core.meant o) → Aimed (b .tree) (core.meant o)
-    → changed b i r heads' doors' ≡ settled (state b heads doors) (removed (state b heads doors) place) i (core.meant o)
+    (b : Bank) (i : ℕ) → b .count ≡ count → RunningIs running b → Steady (columnAt b i) (core.outcomeMeant o) → Aimed (b .tree) (core.outcomeMeant o)
+    → changed b i r heads' doors' ≡ settled (state b heads doors) (removed (state b heads doors) place) i (core.outcomeMeant o)
 
 abbrev pub Takes : Change → Tree → ℕ → ℕ → ℕ → Column → ℕ → List ℕ → List ℕ → List ℕ → List ℕ → Type 0
 Takes r t running place i c count heads doors heads' doors' =
@@ -109,22 +109,22 @@ coreStep t running (Back j) i c = core.refused 10 c
 coreStep t running (Write k offset value) i c = core.refused 10 c
 
 abbrev pub StepsCore : core-outcome.Outcome → Tree → ℕ → Step → ℕ → Column → Type 0
-StepsCore o t running x i c = standing t i c ≡ 0 → core.meant o ≡ coreStep t running x i c
+StepsCore o t running x i c = validityRefusal t i c ≡ 0 → core.outcomeMeant o ≡ coreStep t running x i c
 
 -- ---- whether the bank stands after a step
 
 abbrev pub TellsNewest : Bool → ℕ → ℕ → Bool → ℕ → ℕ → List ℕ → Type 0
 TellsNewest r columns root watch running count heads =
-    (b : Bank) (doors : List ℕ) → b .tree .columns ≡ columns → b .tree .root ≡ root → b .tree .watch ≡ watch → Lit running b → b .count ≡ count
-    → r ≡ newestStands (state b heads doors)
+    (b : Bank) (doors : List ℕ) → b .tree .columns ≡ columns → b .tree .root ≡ root → b .tree .watch ≡ watch → RunningIs running b → b .count ≡ count
+    → r ≡ newestValid (state b heads doors)
 
 abbrev pub isRefusal : Answer → Bool
 isRefusal Done = false
 isRefusal (Refused n) = true
 
 -- what is answered, whatever the doors under way, which a write keeps
-abbrev pub Writes : Result → Bank → List ℕ → ℕ → ℕ → ℕ → Type 0
-Writes r b heads i offset value = (doors : List ℕ) → outcome r heads doors ≡ write (state b heads doors) i offset value
+abbrev pub Writes : Outcome → Bank → List ℕ → ℕ → ℕ → ℕ → Type 0
+Writes r b heads i offset value = (doors : List ℕ) → outcomeMeant r heads doors ≡ write (state b heads doors) i offset value
 
 abbrev pub takesOff : core-answer.Answer → Bool
 takesOff core-is.Done = true

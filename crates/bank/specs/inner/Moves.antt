@@ -12,8 +12,8 @@ use Rattle.column.specs.declared.state.Column.{Column}
 use Rattle.bank.specs.Banks.{State, packetAt, capacity, state, columnAt, bankRefusal, joined}
 use Rattle.bank.specs.Parts.{isTake, isMove}
 use Rattle.bank.specs.Performs.{perform}
-use Rattle.bank.specs.inner.Changes.{Lit, changed}
-use Rattle.bank.specs.inner.Surveys.{newestStands}
+use Rattle.bank.specs.inner.Changes.{RunningIs, changed}
+use Rattle.bank.specs.inner.Surveys.{newestValid}
 use Rattle.bank.specs.declared.bank.Step.{Step}
 use Rattle.bank.specs.declared.bank.Step.the-variants.{Order, Send, Take, Ack, All, Note, Halt, Back, Write}
 use Rattle.bank.specs.declared.settling.Change.{Change}
@@ -59,7 +59,7 @@ openingRefusal n columns x i count =
 abbrev pub Moves : Change → Tree → ℕ → Step → ℕ → Column → ℕ → List ℕ → List ℕ → List ℕ → List ℕ → Type 0
 Moves r t running x i c count heads doors heads' doors' =
     (columns : List Column) → let s = state (joined t columns count) heads doors in
-    columnAt (s .bank) i ≡ c → Lit running (s .bank) → bankRefusal s ≡ 0 → i < t .columns → acts s x i ≡ true
+    columnAt (s .bank) i ≡ c → RunningIs running (s .bank) → bankRefusal s ≡ 0 → i < t .columns → acts s x i ≡ true
     → changed (s .bank) i r heads' doors' ≡ perform s x
 
 pub record PartIs (r : Part) (c : Column) (count : ℕ) (a : Answer) (n : ℕ) : Type 0 where
@@ -71,5 +71,5 @@ pub record PartIs (r : Part) (c : Column) (count : ℕ) (a : Answer) (n : ℕ) :
 -- a bank that stood before a step is refused by 4 after it, or by nothing
 abbrev pub RefusesAfter : ℕ → Tree → ℕ → ℕ → List ℕ → Type 0
 RefusesAfter n t running count heads =
-    (b : Bank) (doors : List ℕ) → b .tree ≡ t → Lit running b → b .count ≡ count → t .columns ≤ 16 → count ≤ 512
-    → n ≡ cond (newestStands (state b heads doors)) 0 4
+    (b : Bank) (doors : List ℕ) → b .tree ≡ t → RunningIs running b → b .count ≡ count → t .columns ≤ 16 → count ≤ 512
+    → n ≡ cond (newestValid (state b heads doors)) 0 4

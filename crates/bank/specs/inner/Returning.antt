@@ -11,10 +11,10 @@ use Rattle.column.specs.declared.tree.Tree.{Tree}
 use Rattle.column.specs.declared.state.Column.{Column}
 use Rattle.bank.specs.inner.Turning.{readyOf}
 use Rattle.bank.specs.Banks.{state}
-use Rattle.bank.specs.Steps.{outcome}
+use Rattle.bank.specs.Steps.{outcomeMeant}
 use Rattle.bank.specs.Returns.{back}
 use Rattle.bank.specs.declared.bank.Bank.{Bank}
-use Rattle.bank.specs.declared.bank.Result.{Result}
+use Rattle.bank.specs.declared.bank.Outcome.{Outcome}
 
 -- nobody can do anything
 abbrev pub columnsRest : Bank → Bool
@@ -34,8 +34,8 @@ unfoldable pub returningRefusal : ℕ → Bank → ℕ → ℕ → ℕ
 returningRefusal n b running j = earlier n (first (returningConditions b running j))
 
 -- what a return answers, whatever the doors under way, which it keeps
-abbrev pub ComesBack : Result → Bank → List ℕ → ℕ → Type 0
-ComesBack r b heads j = (doors : List ℕ) → outcome r heads doors ≡ back (state b heads doors) j
+abbrev pub ComesBack : Outcome → Bank → List ℕ → ℕ → Type 0
+ComesBack r b heads j = (doors : List ℕ) → outcomeMeant r heads doors ≡ back (state b heads doors) j
 
 -- the column that comes back, by itself, the one that it copies and who runs
 abbrev pub rejoining : Tree → ℕ → Column → Column → ℕ → Column

@@ -8,15 +8,15 @@ use Rattle.column.specs.Sets.{has, join, insert, within, selected}
 use Rattle.column.specs.Trees.{every}
 use Rattle.column.specs.declared.tree.Tree.{Tree}
 use Rattle.column.specs.declared.state.Column.{Column}
-use Rattle.bank.specs.Banks.{State, columnAt, runs, runningOf, packetAt, columnStands, packetStands, RefusesBank, joined}
+use Rattle.bank.specs.Banks.{State, columnAt, runs, runningOf, packetAt, columnValid, packetValid, RefusesBank, joined}
 use Rattle.bank.specs.declared.bank.Bank.{Bank}
 use Rattle.bank.specs.declared.survey.Seen.{Seen}
 use Rattle.bank.specs.declared.survey.Surveyed.{Surveyed}
 use Rattle.bank.specs.Words.{ends, acknowledging, receiverIn, senderIn}
 
 -- row 4 of a packet but for whether its receiver runs
-unfoldable pub endsStand : ℕ → ℕ → Bool → ℕ → Bool
-endsStand columns root watch head =
+unfoldable pub endsValid : ℕ → ℕ → Bool → ℕ → Bool
+endsValid columns root watch head =
     ltb (receiverIn head) columns
     && ((ltb (senderIn head) columns && not (eqb (senderIn head) (receiverIn head)))
     && (leb acknowledging head || (not (eqb (receiverIn head) root) || watch)))
@@ -26,15 +26,15 @@ unfoldable pub barredOf : ℕ → Bool → ℕ
 barredOf root watch = cond watch 255 (root % 256)
 
 -- the same by what stands above the number in the head
-unfoldable pub pairStands : ℕ → ℕ → ℕ → Bool
-pairStands columns barred pair =
+unfoldable pub pairValid : ℕ → ℕ → ℕ → Bool
+pairValid columns barred pair =
     not (eqb (pair / ends % ends) (pair % ends))
     && (ltb (pair / ends % ends) columns
     && (ltb (pair % ends) columns
     && (not (eqb (pair % ends) barred) || leb (ends * ends) pair)))
 
-unfoldable pub headStands : ℕ → ℕ → Bool → ℕ → ℕ → Bool
-headStands columns root watch running head =
+unfoldable pub headValid : ℕ → ℕ → Bool → ℕ → ℕ → Bool
+headValid columns root watch running head =
     ltb (receiverIn head) columns
     && (((ltb (senderIn head) columns && not (eqb (senderIn head) (receiverIn head)))
     && (leb acknowledging head || (not (eqb (receiverIn head) root) || watch)))
@@ -79,7 +79,7 @@ tells v columns whole = within (membersIn (v .sets)) columns && (v .sent && (not
 
 -- the columns below i are seen
 pub record Saw (v : Seen) (b : Bank) (i : ℕ) : Type 0 where
-  pub stand-so : tells v (b .tree .columns) (leb i (b .tree .root) || columnAt b (b .tree .root) .whole) ≡ every (columnStands b) i
+  pub valid-so : tells v (b .tree .columns) (leb i (b .tree .root) || columnAt b (b .tree .root) .whole) ≡ every (columnValid b) i
   pub running-so : v .running ≡ selected (runs b) i
 
 -- of so many places the columns below j are seen
@@ -100,5 +100,5 @@ pub record Surveys (r : Surveyed) (b : Bank) (heads : List ℕ) : Type 0 where
 -- ---- what a step can have changed
 
 -- row 4 of the newest packet, where there is one: of its column a step breaks nothing, by `column-on` of StandingOn
-abbrev pub newestStands : State → Bool
-newestStands s = eqb (s .bank .count) 0 || packetStands (s .bank) (packetAt s (s .bank .count - 1))
+abbrev pub newestValid : State → Bool
+newestValid s = eqb (s .bank .count) 0 || packetValid (s .bank) (packetAt s (s .bank .count - 1))

@@ -21,7 +21,7 @@ use Rattle.column.specs.declared.tree.Tree.{Tree}
 use Rattle.column.specs.declared.state.Column.{Column}
 use Rattle.bank.specs.Banks.{State, state, columnAt, runs, packetAt, noColumn, capacity, bankRefusal, actingRefusal}
 use Rattle.bank.specs.Networks.{removed, vanished}
-use Rattle.bank.specs.Steps.{Outcome, accepted, refused, after, unless, withColumn, settled, acted, noted, noteRefusal, takeRefusal, delivered, rewriting, halted, haltRefusal, send, ack, all, note}
+use Rattle.bank.specs.Steps.{Result, accepted, refused, after, unless, withColumn, settled, acted, noted, noteRefusal, takeRefusal, delivered, rewriting, halted, haltRefusal, send, ack, all, note}
 use Rattle.bank.specs.Rest.{isRefused, atRest}
 use Rattle.bank.specs.Returns.{backRefusal, comeBack, returned}
 use Rattle.bank.specs.Pages.{writeRefusal}
@@ -61,7 +61,7 @@ module _ (s : State) where
   unfolding acted
   plain-acted i r =
       plain-unless (actingRefusal s i) s (settled s s i r)
-      ∙ ap₂ (λ (n : ℕ) (o : Outcome State). unless n p o) (sym (acting-plain i)) (plain-settled s s i r)
+      ∙ ap₂ (λ (n : ℕ) (o : Result State). unless n p o) (sym (acting-plain i)) (plain-settled s s i r)
 
 acted-apart : (s : State) (i : ℕ) (r r' : core.Result) → Same r' r → plainOutcome (acted (plainState s) i r') ≡ plainOutcome (acted s i r)
 acted-apart s i r r' e =
@@ -136,11 +136,11 @@ module _ (s : State) where
 
   -- ---- a return asks for rest
 
-  refused-plain : (o : Outcome State) → isRefused (plainOutcome o) ≡ isRefused o
+  refused-plain : (o : Result State) → isRefused (plainOutcome o) ≡ isRefused o
   refused-plain (accepted u) = refl
   refused-plain (refused k u) = refl
 
-  refused-same : (o o' : Outcome State) → plainOutcome o ≡ plainOutcome o' → isRefused o ≡ isRefused o'
+  refused-same : (o o' : Result State) → plainOutcome o ≡ plainOutcome o' → isRefused o ≡ isRefused o'
   refused-same o o' e = sym (refused-plain o) ∙ ap isRefused e ∙ refused-plain o'
 
   rest-plain : atRest (p s) ≡ atRest s
@@ -219,11 +219,11 @@ pages-apart s s' e x = sym (apart s x) ∙ ap (λ (u : State). plainOutcome (per
 
 -- ---- every list of steps
 
-answer-plain : (o : Outcome State) → answerOf (plainOutcome o) ≡ answerOf o
+answer-plain : (o : Result State) → answerOf (plainOutcome o) ≡ answerOf o
 answer-plain (accepted s) = refl
 answer-plain (refused n s) = refl
 
-after-plain : (o : Outcome State) → after (plainOutcome o) ≡ plainState (after o)
+after-plain : (o : Result State) → after (plainOutcome o) ≡ plainState (after o)
 after-plain (accepted s) = refl
 after-plain (refused n s) = refl
 

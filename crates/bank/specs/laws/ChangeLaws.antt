@@ -15,7 +15,7 @@ use Rattle.column.specs.Sets.{has, selected}
 use Rattle.column.specs.laws.SetLaws.{selected-has}
 use Rattle.column.specs.Packets.{receiver}
 use Rattle.column.specs.Trees.{treeRefusal}
-use Rattle.column.specs.Columns.{standing}
+use Rattle.column.specs.Columns.{validityRefusal}
 use Rattle.column.specs.laws.StateLaws.{acceptable, note-beyond}
 use Rattle.column.specs.Steps as core
 use Rattle.column.specs.Unchecked.{takeUnchecked}
@@ -28,13 +28,13 @@ use Rattle.column.specs.declared.state.Column.{Column}
 use Rattle.column.specs.declared.packet.Packet.{Packet}
 use Rattle.bank.specs.laws.ListLaws.{set-keeps}
 use Rattle.bank.specs.Banks.{State, state, columnAt, runs, haltedOf, packetAt, noColumn, actingRefusal}
-use Rattle.bank.specs.laws.StandingLaws.{Stands, acting-passes}
+use Rattle.bank.specs.laws.ValidityLaws.{Valid, acting-passes}
 use Rattle.bank.specs.Networks.{withPacket, put, puts, removed}
 use Rattle.bank.specs.inner.NetworkWords.{Appended, ClosedUp}
-use Rattle.bank.specs.Steps.{Outcome, accepted, refused, answered, outcome, unless, withColumn, fitting, settled, acted, noteRefusal, noted, delivered}
+use Rattle.bank.specs.Steps.{Result, accepted, refused, answered, outcomeMeant, unless, withColumn, fitting, settled, acted, noteRefusal, noted, delivered}
 use Rattle.bank.specs.Performs.{perform}
 use Rattle.bank.specs.laws.StepLaws.{fits, put-halted, put-running, put-full, put-count, settled-off, acted-refused, acted-settled}
-use Rattle.bank.specs.inner.Changes.{takesOff, Steady, Aimed, Becomes, stored, changed, changeBy, Lit, coreStep, isRefusal}
+use Rattle.bank.specs.inner.Changes.{takesOff, Steady, Aimed, Becomes, stored, changed, changeBy, RunningIs, coreStep, isRefusal}
 use Rattle.bank.specs.laws.Steady.{steady-cond, steady-send, steady-take, aimed-unless, aimed-send, aimed-ack, aimed-take}
 use Rattle.bank.specs.Parts.{isOwn}
 use Rattle.bank.specs.Rest.{isRefused}
@@ -42,7 +42,7 @@ use Rattle.bank.specs.inner.Moves.{acts}
 use Rattle.bank.specs.declared.bank.Bank.{Bank}
 use Rattle.bank.specs.declared.bank.Answer.{Answer}
 use Rattle.bank.specs.declared.bank.Answer.the-variants.{Done, Refused}
-use Rattle.bank.specs.declared.bank.Result.{Result}
+use Rattle.bank.specs.declared.bank.Outcome.{Outcome}
 use Rattle.bank.specs.declared.settling.Change.{Change}
 use Rattle.bank.specs.declared.bank.Step.{Step}
 use Rattle.bank.specs.declared.bank.Step.the-variants.{Order, Send, Take, Ack, All, Note, Halt, Back, Write}
@@ -62,7 +62,7 @@ module _ (b : Bank) (i : ℕ) (heads doors : List ℕ) where
   pub refused-at : {r : Change} {c : Column} {n m : ℕ} → Becomes r c n (Refused m) → changed b i r heads doors ≡ refused m (state b heads doors)
   refused-at {r} k = ap (λ (a : Answer). changeBy a b (stored b i r) heads doors) (k .answer-is)
 
-  module _ (r : Change) (o : Outcome State) where
+  module _ (r : Change) (o : Result State) where
     -- a change that is refused is of no other bank
     pub changed-refused : isRefusal (r .answer) ≡ true → changed b i r heads doors ≡ o → answered (r .answer) (state b heads doors) ≡ o
     changed-refused e z = go (r .answer) e z
@@ -94,10 +94,10 @@ module _ (b : Bank) (i : ℕ) (heads doors : List ℕ) (c : Column) (count : ℕ
   unfolding puts
   settled-none k room = done-at b i heads doors k ∙ ap accepted counted ∙ fits s next (omega (arith, room, count-is))
 
-  module _ (p : Packet) (running : ℕ) (lit : Lit running b) (steady : c .running ≡ runs b i) (below : receiver p < b .tree .columns) where
+  module _ (p : Packet) (running : ℕ) (running-is : RunningIs running b) (steady : c .running ≡ runs b i) (below : receiver p < b .tree .columns) where
     -- who runs is as before
     asked : has running (receiver p) ≡ runs (next .bank) (receiver p)
-    asked = lit (receiver p) below ∙ sym (set-keeps (λ (c : Column). c .running) noColumn (b .columns) i c steady (receiver p))
+    asked = running-is (receiver p) below ∙ sym (set-keeps (λ (c : Column). c .running) noColumn (b .columns) i c steady (receiver p))
 
     pub delivered-halted : {r : Change} → Becomes r c count Done → has running (receiver p) ≡ false → count ≤ 512
         → changed b i r heads doors ≡ fitting s (put next p)
@@ -118,7 +118,7 @@ module _ (b : Bank) (i : ℕ) (heads doors : List ℕ) (c : Column) (count : ℕ
 
   -- where the core puts a packet, and leaves the one that it was given or not
   pub settled-put : (a : core-answer.Answer) (p : Packet) → (a ≡ core-is.Put p) ⊎ (a ≡ core-is.Left p) → Steady (columnAt b i) (core.answered c a)
-      → Aimed (b .tree) (core.answered c a) → {o : Outcome State}
+      → Aimed (b .tree) (core.answered c a) → {o : Result State}
       → (c .running ≡ runs b i → receiver p < b .tree .columns → o ≡ fitting s (put next p)) → o ≡ settled s s i (core.answered c a)
   unfolding puts
   settled-put a p (inl e) steady aimed put-is =
@@ -159,15 +159,15 @@ module _ (b : Bank) (i : ℕ) (heads doors : List ℕ) (place : ℕ) (c : Column
 
 -- ---- the core's step in a bank that stands
 
-module _ (s : State) (stood : Stands s) (i : ℕ) (below : i < s .bank .tree .columns) where
+module _ (s : State) (stood : Valid s) (i : ℕ) (below : i < s .bank .tree .columns) where
   abbrev t : Tree
   t = s .bank .tree
 
   abbrev column : Column
   column = columnAt (s .bank) i
 
-  pub stands-at : standing t i column ≡ 0
-  stands-at = rw (eq-eqb (treeRefusal t) 0 (stood .tree)) (stood .columns i below)
+  pub valid-at : validityRefusal t i column ≡ 0
+  valid-at = rw (eq-eqb (treeRefusal t) 0 (stood .tree)) (stood .columns i below)
 
   module _ (running : ℕ) where
     pub core-steady : (x : Step) → Steady column (coreStep t running x i column)
@@ -185,16 +185,16 @@ module _ (s : State) (stood : Stands s) (i : ℕ) (below : i < s .bank .tree .co
     pub core-aimed : (x : Step) → Aimed t (coreStep t running x i column)
     unfolding core.orderEffect core.allEffect core.noteEffect
     core-aimed (Order doors) = aimed-unless t (core.orderRefusal t i column) column _ (λ e. tt)
-    core-aimed (Send k) = aimed-send t i column stands-at
+    core-aimed (Send k) = aimed-send t i column valid-at
     core-aimed (Take place) = tt
-    core-aimed (Ack k) = aimed-ack t i column stands-at
+    core-aimed (Ack k) = aimed-ack t i column valid-at
     core-aimed (All k) = aimed-unless t (core.allRefusal t i column) column _ (λ e. tt)
     core-aimed (Note k j) = aimed-unless t (earlier (core.noteRefusal t i column j) (first ((6, has running j) ∷ []))) column _ (λ e. tt)
     core-aimed (Halt m) = tt
     core-aimed (Back j) = tt
     core-aimed (Write k offset value) = tt
 
-    module _ (lit : Lit running (s .bank)) where
+    module _ (running-is : RunningIs running (s .bank)) where
       -- a j that the bank has not is refused before it is asked whether it runs
       noted-is : (j : ℕ) → coreStep t running (Note i j) i column ≡ noted (s .bank) i j
       noted-is j = go (truth (ltb j (t .columns)))
@@ -204,8 +204,8 @@ module _ (s : State) (stood : Stands s) (i : ℕ) (below : i < s .bank .tree .co
           tested a b e = ap (λ (x : Bool). core.unless (earlier (core.noteRefusal t i column j) (first ((6, x) ∷ []))) column (core.noteEffect t column j)) e
 
           go : (ltb j (t .columns) ≡ true) ⊎ (ltb j (t .columns) ≡ false) → coreStep t running (Note i j) i column ≡ noted (s .bank) i j
-          go (inl e) = tested (has running j) (runs (s .bank) j) (lit j (ltb-true j (t .columns) e))
-          go (inr e) = rw (note-beyond t i column stands-at j (ltb-false j (t .columns) e))
+          go (inl e) = tested (has running j) (runs (s .bank) j) (running-is j (ltb-true j (t .columns) e))
+          go (inr e) = rw (note-beyond t i column valid-at j (ltb-false j (t .columns) e))
 
       pub core-performs : (x : Step) → isOwn x ≡ true → acts s x i ≡ true → settled s s i (coreStep t running x i column) ≡ perform s x
       unfolding perform
@@ -226,21 +226,21 @@ module _ (s : State) (stood : Stands s) (i : ℕ) (below : i < s .bank .tree .co
           go (Write k offset value) own e = absurd (true≢false (sym own))
 
       -- what settles the core's step is the bank's
-      pub own-done : (x : Step) → isOwn x ≡ true → acts s x i ≡ true → {m : core.Result} {o : Outcome State} → m ≡ coreStep t running x i column
+      pub own-done : (x : Step) → isOwn x ≡ true → acts s x i ≡ true → {m : core.Result} {o : Result State} → m ≡ coreStep t running x i column
           → (Steady column m → Aimed t m → o ≡ settled s s i m) → o ≡ perform s x
       own-done x own actor {m} e settles =
           settles (subst (Steady column) (sym e) (core-steady x)) (subst (Aimed t) (sym e) (core-aimed x)) ∙ ap (settled s s i) e ∙ core-performs x own actor
 
 -- a step of the core whose column is refused
 pub own-refused : (s : State) (x : Step) (i n : ℕ) → isOwn x ≡ true → acts s x i ≡ true → n ≡ actingRefusal s i → (n ≡ 0 → ⊥)
-    → (r : Result) → answered (r .answer) (r .bank) ≡ refused n (s .bank) → outcome r (s .heads) (s .doors) ≡ perform s x
+    → (r : Outcome) → answered (r .answer) (r .bank) ≡ refused n (s .bank) → outcomeMeant r (s .heads) (s .doors) ≡ perform s x
 unfolding perform
 own-refused s x i n own actor e some r k = go x own actor
   where
-    by : (f : ℕ → core.Result) (j : ℕ) → eqb i j ≡ true → outcome r (s .heads) (s .doors) ≡ acted s j (f j)
+    by : (f : ℕ → core.Result) (j : ℕ) → eqb i j ≡ true → outcomeMeant r (s .heads) (s .doors) ≡ acted s j (f j)
     by f j z = acted-refused s i n e (f i) r some k ∙ ap (λ (j : ℕ). acted s j (f j)) (eqb-true i j z)
 
-    go : (x : Step) → isOwn x ≡ true → acts s x i ≡ true → outcome r (s .heads) (s .doors) ≡ perform s x
+    go : (x : Step) → isOwn x ≡ true → acts s x i ≡ true → outcomeMeant r (s .heads) (s .doors) ≡ perform s x
     go (Order doors) own z = by (λ (j : ℕ). core.order (s .bank .tree) j (columnAt (s .bank) j) doors) (s .bank .tree .root) z
     go (Send j) own z = by (λ (j : ℕ). core.send (s .bank .tree) j (columnAt (s .bank) j)) j z
     go (Take place) own z = absurd (true≢false (sym own))
@@ -253,23 +253,23 @@ own-refused s x i n own actor e some r k = go x own actor
 
 -- ---- a packet given to its receiver in a bank that stands
 
-module _ (s : State) (stood : Stands s) (place : ℕ) (there : place < s .bank .count) where
+module _ (s : State) (stood : Valid s) (place : ℕ) (there : place < s .bank .count) where
   abbrev p : Packet
   p = packetAt s place
 
   to-below : receiver p < s .bank .tree .columns
   to-below = acceptable (s .bank .tree) p (stood .packets place there) .receiver-below
 
-  pub taken-done : (i : ℕ) → i ≡ receiver p → (o : core-outcome.Outcome) → core.meant o ≡ takeUnchecked (s .bank .tree) i (columnAt (s .bank) i) p
-      → {after : Outcome State} → (Steady (columnAt (s .bank) i) (core.meant o) → Aimed (s .bank .tree) (core.meant o) → after ≡ settled s (removed s place) i (core.meant o))
+  pub taken-done : (i : ℕ) → i ≡ receiver p → (o : core-outcome.Outcome) → core.outcomeMeant o ≡ takeUnchecked (s .bank .tree) i (columnAt (s .bank) i) p
+      → {after : Result State} → (Steady (columnAt (s .bank) i) (core.outcomeMeant o) → Aimed (s .bank .tree) (core.outcomeMeant o) → after ≡ settled s (removed s place) i (core.outcomeMeant o))
       → after ≡ delivered s place p
   unfolding delivered
   taken-done i is o e settles =
       let t = s .bank .tree in
       let c = columnAt (s .bank) i in
       let fit = stood .packets place there in
-      let good = stands-at s stood i (subst (λ (j : ℕ). j < t .columns) (sym is) to-below) in
-      let same : core.meant o ≡ core.take t i c p = e ∙ take-unchecked t i c good p fit in
+      let good = valid-at s stood i (subst (λ (j : ℕ). j < t .columns) (sym is) to-below) in
+      let same : core.outcomeMeant o ≡ core.take t i c p = e ∙ take-unchecked t i c good p fit in
       let steady = steady-cond (eqb (core.takeRefusal t i c p) 0) c (core.takeEffect t i c p) (core.refused (core.takeRefusal t i c p) c) (steady-take t i c p) tt in
       settles (subst (Steady c) (sym same) steady) (subst (Aimed t) (sym same) (aimed-take t i c good p fit))
       ∙ ap (settled s (removed s place) i) same
@@ -277,8 +277,8 @@ module _ (s : State) (stood : Stands s) (place : ℕ) (there : place < s .bank .
 
 -- ---- who runs
 
-pub lit-running : (b : Bank) {m : ℕ} → m ≡ selected (runs b) (b .tree .columns) → Lit m b
-lit-running b e j h = ap (λ (m : ℕ). has m j) e ∙ selected-has (runs b) (b .tree .columns) j h
+pub running-is-of : (b : Bank) {m : ℕ} → m ≡ selected (runs b) (b .tree .columns) → RunningIs m b
+running-is-of b e j h = ap (λ (m : ℕ). has m j) e ∙ selected-has (runs b) (b .tree .columns) j h
 
 -- a column that runs has a place
 pub placed : (l : List Column) (i : ℕ) → getD l i noColumn .running ≡ true → i < length l
@@ -291,8 +291,8 @@ stored-at b i r e = getD-set-same (b .columns) i (r .column) noColumn (placed (b
 
 -- where the same run in another state of a bank
 module _ (b d : Bank) (same-tree : d .tree ≡ b .tree) (same : (j : ℕ) → runs d j ≡ runs b j) where
-  pub lit-on : (m : ℕ) → Lit m b → Lit m d
-  lit-on m lit j h = lit j (subst (λ (t : Tree). j < t .columns) same-tree h) ∙ sym (same j)
+  pub running-is-on : (m : ℕ) → RunningIs m b → RunningIs m d
+  running-is-on m running-is j h = running-is j (subst (λ (t : Tree). j < t .columns) same-tree h) ∙ sym (same j)
 
   pub halted-on : haltedOf d ≡ haltedOf b
   halted-on = ap₂ (λ (f : ℕ → Bool) (t : Tree). selected (λ j. not (f j)) (t .columns)) (λ x j. same j x) same-tree

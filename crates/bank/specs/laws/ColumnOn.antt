@@ -16,7 +16,7 @@ use Rattle.column.specs.declared.tree.Tree.{Tree}
 use Rattle.column.specs.declared.state.Column.{Column}
 use Rattle.bank.specs.Banks.{State, columnAt, runs, packetAt, noColumn, capacity, actingRefusal}
 use Rattle.bank.specs.Networks.{removed}
-use Rattle.bank.specs.Steps.{Outcome, accepted, refused, unless, fitting, withColumn, settled, acted, delivered, noteRefusal, takeRefusal}
+use Rattle.bank.specs.Steps.{Result, accepted, refused, unless, fitting, withColumn, settled, acted, delivered, noteRefusal, takeRefusal}
 use Rattle.bank.specs.Performs.{perform}
 use Rattle.bank.specs.laws.ChangeLaws.{placed}
 use Rattle.bank.specs.laws.Kinds.{byNoColumn}
@@ -26,7 +26,7 @@ use Rattle.bank.specs.declared.bank.Step.{Step}
 use Rattle.bank.specs.declared.bank.Step.the-variants.{Order, Send, Take, Ack, All, Note, Halt, Back, Write}
 
 -- only place i is rewritten, by a column that row 4 lets pass
-abbrev Passing : State → ℕ → Outcome State → Type 0
+abbrev Passing : State → ℕ → Result State → Type 0
 Passing s i (accepted u) = (d : Column) × (u .bank .columns ≡ set (s .bank .columns) i d) × (stateRefusal (s .bank .tree) i d ≡ 0)
 Passing s i (refused n u) = Unit {0}
 
@@ -34,7 +34,7 @@ module _ (s : State) (i : ℕ) where
   abbrev t : Tree
   t = s .bank .tree
 
-  passing-unless : (n : ℕ) (o : Outcome State) → Passing s i o → Passing s i (unless n s o)
+  passing-unless : (n : ℕ) (o : Result State) → Passing s i o → Passing s i (unless n s o)
   passing-unless n o h = go (eqb n 0)
     where
       go : (b : Bool) → Passing s i (cond b o (refused n s))

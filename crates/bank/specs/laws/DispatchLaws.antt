@@ -17,7 +17,7 @@ use Rattle.column.specs.laws.StateLaws.{acceptable}
 use Rattle.column.specs.Steps as core
 use Rattle.column.specs.declared.packet.Packet.{Packet}
 use Rattle.bank.specs.Banks.{State, columnAt, runs, places, packetAt, capacity, bankRefusal}
-use Rattle.bank.specs.laws.StandingLaws.{Stands, stands-passes}
+use Rattle.bank.specs.laws.ValidityLaws.{Valid, valid-passes}
 use Rattle.bank.specs.Steps.{takeRefusal, take, send, ack, all, note}
 use Rattle.bank.specs.Performs.{perform}
 use Rattle.bank.specs.Rest.{isRefused, quiet, atRest}
@@ -147,7 +147,7 @@ module _ (s : State) where
 
 -- ---- the take of a packet
 
-module _ (s : State) (st : Stands s) (place : ℕ) (held : place < s .bank .count) where
+module _ (s : State) (st : Valid s) (place : ℕ) (held : place < s .bank .count) where
   abbrev p : Packet
   p = packetAt s place
 
@@ -166,4 +166,4 @@ module _ (s : State) (st : Stands s) (place : ℕ) (held : place < s .bank .coun
   take-accepted room =
       let not-full : overfull s (Take place) ≡ false =
       ap (λ (b : Bool). raised s (Take place) && b) (ne-eqb (s .bank .count) capacity (λ e. omega (arith, e, room))) ∙ and-false (raised s (Take place)) in
-      refused-exactly s (Take place) ∙ simp (stands-passes s st, lt-leb (s .bank .count) place held, core-takes, not-full)
+      refused-exactly s (Take place) ∙ simp (valid-passes s st, lt-leb (s .bank .count) place held, core-takes, not-full)

@@ -12,7 +12,7 @@ use Rattle.column.specs.Refusals.{first, earlier}
 use Rattle.column.specs.laws.RefusalLaws.{earlier-none, earlier-assoc}
 use Rattle.column.specs.Sets.{has}
 use Rattle.column.specs.Trees.{choose, treeRefusal}
-use Rattle.column.specs.Columns.{stateRefusal, standing}
+use Rattle.column.specs.Columns.{stateRefusal, validityRefusal}
 use Rattle.column.specs.Packets.{receiver}
 use Rattle.column.specs.Steps as core
 use Rattle.column.specs.Pages.{writeConditions}
@@ -22,9 +22,9 @@ use Rattle.column.specs.declared.packet.Packet.{Packet}
 use Rattle.column.specs.declared.packet.Packet.the-variants.{Message, Acknowledgement}
 use Rattle.bank.specs.Banks.{State, state, columnAt, runs, packetAt, capacity, noColumn, bankRefusal, actingRefusal}
 use Rattle.bank.specs.Networks.{put, puts, removed}
-use Rattle.bank.specs.laws.StandingLaws.{Stands, stands, acting}
+use Rattle.bank.specs.laws.ValidityLaws.{Valid, valid, acting}
 use Rattle.bank.specs.laws.StepLaws.{fits, put-halted, put-running, put-full, put-count, takes}
-use Rattle.bank.specs.Steps.{Outcome, accepted, refused, after, unless, withColumn, fitting, settled, acted, noted, noteRefusal, takeRefusal, delivered, halted, haltConditions, haltRefusal, halt}
+use Rattle.bank.specs.Steps.{Result, accepted, refused, after, unless, withColumn, fitting, settled, acted, noted, noteRefusal, takeRefusal, delivered, halted, haltConditions, haltRefusal, halt}
 use Rattle.bank.specs.Returns.{backConditions, backRefusal, returned, back}
 use Rattle.bank.specs.Pages.{writeRefusal, write}
 use Rattle.bank.specs.Performs.{perform}
@@ -72,10 +72,10 @@ at s i = columnAt (s .bank) i
 -- ---- one answer: refused by m with the state as it was, or accepted where m is 0
 
 module _ (s : State) where
-  abbrev Answered : ℕ → Outcome State → Type 0
+  abbrev Answered : ℕ → Result State → Type 0
   Answered m o = o ≡ unless m s (accepted (after o))
 
-  answered-unless : (n m : ℕ) (o : Outcome State) → (n ≡ 0 → Answered m o) → Answered (earlier n m) (unless n s o)
+  answered-unless : (n m : ℕ) (o : Result State) → (n ≡ 0 → Answered m o) → Answered (earlier n m) (unless n s o)
   answered-unless n m o h = go (eqb n 0) refl
     where
       go : (b : Bool) → eqb n 0 ≡ b → Answered (cond b m n) (cond b o (refused n s))
@@ -95,7 +95,7 @@ module _ (s : State) where
   abbrev nine : Bool → core.Result → ℕ
   nine taking r = first ((9, raises taking (s .bank) r && eqb (s .bank .count) capacity) ∷ [])
 
-  module _ (w : Stands s) (i : ℕ) where
+  module _ (w : Valid s) (i : ℕ) where
     -- no packet is put, or one is taken off for it
     answered-room : (next : State) → next .bank .count ≤ capacity → Answered 0 (fitting s next)
     answered-room next room = subst (Answered 0) (fits s next room) refl
@@ -145,11 +145,11 @@ module _ (s : State) where
 
   module _ (i : ℕ) where
     -- "column not below columns": the core says 4 as well
-    beyond : bankRefusal s ≡ 0 → leb (tree s .columns) i ≡ true → standing (tree s) i (at s i) ≡ 4
+    beyond : bankRefusal s ≡ 0 → leb (tree s .columns) i ≡ true → validityRefusal (tree s) i (at s i) ≡ 4
     unfolding stateRefusal
-    beyond e h = rw (eq-eqb (treeRefusal (tree s)) 0 (stands s e .tree), h)
+    beyond e h = rw (eq-eqb (treeRefusal (tree s)) 0 (valid s e .tree), h)
 
-    acting-number : (n m : ℕ) → (standing (tree s) i (at s i) ≡ 4 → n ≡ 4)
+    acting-number : (n m : ℕ) → (validityRefusal (tree s) i (at s i) ≡ 4 → n ≡ 4)
         → earlier (actingRefusal s i) (earlier n m) ≡ earlier (bankRefusal s) (earlier n m)
     acting-number n m four =
         earlier-assoc (bankRefusal s) (first ((4, leb (tree s .columns) i) ∷ [])) (earlier n m)
@@ -161,7 +161,7 @@ module _ (s : State) where
         go true e false h = refl
         go false e l h = refl
 
-    answered-acted : (n : ℕ) (effect : core.Result) → (standing (tree s) i (at s i) ≡ 4 → n ≡ 4) → Calm (at s i) effect
+    answered-acted : (n : ℕ) (effect : core.Result) → (validityRefusal (tree s) i (at s i) ≡ 4 → n ≡ 4) → Calm (at s i) effect
         → Answered (earlier (bankRefusal s) (earlier n (nine false effect))) (acted s i (core.unless n (at s i) effect))
     unfolding acted
     answered-acted n effect four calm =
@@ -225,7 +225,7 @@ module _ (s : State) where
       subst (λ k. Answered s k (perform s (Take place)))
       (earlier-assoc (bankRefusal s) ten (earlier n m) ∙ ap (earlier (bankRefusal s)) (sym (earlier-assoc ten n m)))
       (answered-unless s (takeRefusal s place) (earlier n m) _ (λ e.
-      let w = stands s (earlier-none (bankRefusal s) ten e .0) in
+      let w = valid s (earlier-none (bankRefusal s) ten e .0) in
       let l = takes s place e in
       answered-core s (removed s place) i n m (at s i) (core.takeEffect (tree s) i (at s i) p) (λ z.
       answered-taking s w i (removed s place) (omega (arith, l .1, l .2)) (core.takeEffect (tree s) i (at s i) p) (calm-take (tree s) i (at s i) p))))

@@ -12,13 +12,13 @@ use Rattle.column.specs.Sets.{has, join, insert}
 use Rattle.column.specs.laws.SetLaws.{has-none, has-join, has-insert, join-lt, insert-lt, same-members}
 use Rattle.column.specs.Columns.{numbers}
 use Rattle.bank.specs.Words.{ends, acknowledging, receiverIn, senderIn}
-use Rattle.bank.specs.inner.Surveys.{endsStand, barredOf, pairStands, headStands}
+use Rattle.bank.specs.inner.Surveys.{endsValid, barredOf, pairValid, headValid}
 
 -- ---- a packet
 
 pub head-ends : (columns root : ℕ) (watch : Bool) (running head : ℕ)
-    → headStands columns root watch running head ≡ (endsStand columns root watch head && has running (receiverIn head))
-unfolding headStands endsStand
+    → headValid columns root watch running head ≡ (endsValid columns root watch head && has running (receiverIn head))
+unfolding headValid endsValid
 head-ends columns root watch running head = go (ltb (receiverIn head) columns) _ _
   where
     go : (a b c : Bool) → (a && (b && c)) ≡ ((a && b) && c)
@@ -68,8 +68,8 @@ covers-insert k r m i hm hr hi = go (truth (has r i))
 
 -- ---- packets, gathered
 
-pub pair-below : (columns barred pair : ℕ) → pairStands columns barred pair ≡ true → pair % ends < columns
-unfolding pairStands
+pub pair-below : (columns barred pair : ℕ) → pairValid columns barred pair ≡ true → pair % ends < columns
+unfolding pairValid
 pair-below columns barred pair e =
     let from = pair / ends % ends in
     let to = pair % ends in
@@ -101,8 +101,8 @@ barred-to columns root to false few top h = let same : root % 256 ≡ root = ome
 
 -- what is left to test of a packet whose ends stand as a pair
 pub head-pair : (columns root : ℕ) (watch : Bool) (running head : ℕ) → columns ≤ 16 → root < 16
-    → headStands columns root watch running head ≡ (pairStands columns (barredOf root watch) (head / numbers) && has running (receiverIn head))
-unfolding headStands pairStands
+    → headValid columns root watch running head ≡ (pairValid columns (barredOf root watch) (head / numbers) && has running (receiverIn head))
+unfolding headValid pairValid
 head-pair columns root watch running head few top = go (ltb to columns) refl
   where
     to : ℕ

@@ -16,14 +16,14 @@ use Rattle.column.specs.laws.StateLaws.{acceptable}
 use Rattle.bank.specs.Words.{receiverIn}
 use Rattle.bank.specs.laws.WordLaws.{receiver-of}
 use Rattle.bank.specs.Banks.{State, packetAt, capacity, bankRefusal}
-use Rattle.bank.specs.laws.StandingLaws.{Stands, stands, acting}
-use Rattle.bank.specs.Steps.{refused, answered, outcome, delivered, takeRefusal}
+use Rattle.bank.specs.laws.ValidityLaws.{Valid, valid, acting}
+use Rattle.bank.specs.Steps.{refused, answered, outcomeMeant, delivered, takeRefusal}
 use Rattle.bank.specs.laws.StepLaws.{unless-refused, unless-goes}
 use Rattle.bank.specs.Performs.{perform}
 use Rattle.bank.specs.inner.Moves.{acts, openingRefusal, Moving, placeIn}
 use Rattle.bank.specs.Parts.{isTake, isOwn, receiverAt, isMove}
 use Rattle.bank.specs.laws.ChangeLaws.{own-refused}
-use Rattle.bank.specs.declared.bank.Result.{Result}
+use Rattle.bank.specs.declared.bank.Outcome.{Outcome}
 use Rattle.bank.specs.declared.bank.Step.{Step}
 use Rattle.bank.specs.declared.bank.Step.the-variants.{Order, Send, Take, Ack, All, Note, Halt, Back, Write}
 
@@ -85,11 +85,11 @@ take-performs s x e ok there =
 
 -- where n is not 0 the step is refused by it
 pub opening-refused : (s : State) (x : Step) (i n : ℕ) → Moving s x i → n ≡ opening s x i → (n ≡ 0 → ⊥)
-    → (r : Result) → answered (r .answer) (r .bank) ≡ refused n (s .bank) → outcome r (s .heads) (s .doors) ≡ perform s x
+    → (r : Outcome) → answered (r .answer) (r .bank) ≡ refused n (s .bank) → outcomeMeant r (s .heads) (s .doors) ≡ perform s x
 unfolding perform
 opening-refused s x i n moving e some r k = go (truth (isTake x))
   where
-    go : (isTake x ≡ true) ⊎ (isTake x ≡ false) → outcome r (s .heads) (s .doors) ≡ perform s x
+    go : (isTake x ≡ true) ⊎ (isTake x ≡ false) → outcomeMeant r (s .heads) (s .doors) ≡ perform s x
     go (inl takes) =
         unless-refused s (delivered s (placeIn x) (packetAt s (placeIn x))) n (takeRefusal s (placeIn x)) r (e ∙ opening-take _ _ x i _ takes) some k
         ∙ ap (perform s) (sym (take-is x takes))
@@ -98,7 +98,7 @@ opening-refused s x i n moving e some r k = go (truth (isTake x))
 
 -- where it is 0 the bank stands, and has the column and the packet
 pub record Opened (s : State) (x : Step) (i : ℕ) : Type 0 where
-  pub stood : Stands s
+  pub stood : Valid s
   pub there : isTake x ≡ true → placeIn x < s .bank .count
   pub below : i < s .bank .tree .columns
   pub actor : acts s x i ≡ true
@@ -112,7 +112,7 @@ opened s x i moving e = go (truth (isTake x))
         let passes : earlier (bankRefusal s) (first late) ≡ 0 = sym (opening-take _ _ x i _ takes) ∙ e in
         let q = earlier-none (bankRefusal s) (first late) passes in
         let l = leb-false (s .bank .count) (placeIn x) (passed late tt (q .1) .0) in
-        let w = stands s (q .0) in
+        let w = valid s (q .0) in
         let a = moving .1 (λ z. omega (arith, l, w .room)) in
         record {
           stood = w;

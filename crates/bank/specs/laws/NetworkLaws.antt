@@ -19,14 +19,14 @@ use Rattle.bank.specs.laws.ListSteps.{keeping-few, keeping-same}
 use Rattle.bank.specs.laws.ListLaws.{Freed, closed-up-front, closed-up-length, closed-up-freed, padded-front, padded-length, padded-freed}
 use Rattle.bank.specs.Banks.{State, packetAt, capacity, Whole}
 
-unfoldable pub meant : List ℕ → List ℕ → List Packet
-meant [] ds = []
-meant (h ∷ hs) [] = []
-meant (h ∷ hs) (d ∷ ds) = packetOf h d ∷ meant hs ds
+unfoldable pub packetsMeant : List ℕ → List ℕ → List Packet
+packetsMeant [] ds = []
+packetsMeant (h ∷ hs) [] = []
+packetsMeant (h ∷ hs) (d ∷ ds) = packetOf h d ∷ packetsMeant hs ds
 
 -- the network, "oldest first, place 0 the oldest"
 abbrev pub packetsOf : State → List Packet
-packetsOf s = meant (take (s .bank .count) (s .heads)) (take (s .bank .count) (s .doors))
+packetsOf s = packetsMeant (take (s .bank .count) (s .heads)) (take (s .bank .count) (s .doors))
 
 -- the packets that are not addressed to column i
 unfoldable pub others : ℕ → List Packet → List Packet
@@ -40,57 +40,57 @@ pub record WordsFreed (s t : State) : Type 0 where
 
 -- ---- the packets of two lists of words
 
-meant-none : (hs : List ℕ) → meant hs [] ≡ []
-unfolding meant
+meant-none : (hs : List ℕ) → packetsMeant hs [] ≡ []
+unfolding packetsMeant
 meant-none [] = refl
 meant-none (h ∷ hs) = refl
 
-meant-take : (n : ℕ) (hs ds : List ℕ) → take n (meant hs ds) ≡ meant (take n hs) (take n ds)
-unfolding meant
+meant-take : (n : ℕ) (hs ds : List ℕ) → take n (packetsMeant hs ds) ≡ packetsMeant (take n hs) (take n ds)
+unfolding packetsMeant
 meant-take zero hs ds = refl
 meant-take (suc n) [] ds = refl
 meant-take (suc n) (h ∷ hs) [] = refl
 meant-take (suc n) (h ∷ hs) (d ∷ ds) = ap (λ l. packetOf h d ∷ l) (meant-take n hs ds)
 
-meant-drop : (n : ℕ) (hs ds : List ℕ) → drop n (meant hs ds) ≡ meant (drop n hs) (drop n ds)
-unfolding meant
+meant-drop : (n : ℕ) (hs ds : List ℕ) → drop n (packetsMeant hs ds) ≡ packetsMeant (drop n hs) (drop n ds)
+unfolding packetsMeant
 meant-drop zero hs ds = refl
 meant-drop (suc n) [] ds = refl
 meant-drop (suc n) (h ∷ hs) [] = sym (meant-none (drop n hs))
 meant-drop (suc n) (h ∷ hs) (d ∷ ds) = meant-drop n hs ds
 
-meant-append : (hs ds hs' ds' : List ℕ) → length hs ≡ length ds → meant (hs ++ hs') (ds ++ ds') ≡ meant hs ds ++ meant hs' ds'
-unfolding meant
+meant-append : (hs ds hs' ds' : List ℕ) → length hs ≡ length ds → packetsMeant (hs ++ hs') (ds ++ ds') ≡ packetsMeant hs ds ++ packetsMeant hs' ds'
+unfolding packetsMeant
 meant-append [] [] hs' ds' e = refl
 meant-append [] (d ∷ ds) hs' ds' e = absurd (omega (arith, e))
 meant-append (h ∷ hs) [] hs' ds' e = absurd (omega (arith, e))
 meant-append (h ∷ hs) (d ∷ ds) hs' ds' e = ap (λ l. packetOf h d ∷ l) (meant-append hs ds hs' ds' (omega (arith, e)))
 
-meant-length : (hs ds : List ℕ) → length hs ≡ length ds → length (meant hs ds) ≡ length hs
-unfolding meant
+meant-length : (hs ds : List ℕ) → length hs ≡ length ds → length (packetsMeant hs ds) ≡ length hs
+unfolding packetsMeant
 meant-length [] ds e = refl
 meant-length (h ∷ hs) [] e = absurd (omega (arith, e))
 meant-length (h ∷ hs) (d ∷ ds) e = ap suc (meant-length hs ds (omega (arith, e)))
 
 meant-at : (hs ds : List ℕ) (k : ℕ) (p : Packet) → k < length hs → k < length ds
-    → getD (meant hs ds) k p ≡ packetOf (getD hs k 0) (getD ds k 0)
-unfolding meant
+    → getD (packetsMeant hs ds) k p ≡ packetOf (getD hs k 0) (getD ds k 0)
+unfolding packetsMeant
 meant-at [] ds k p h d = absurd (omega arith)
 meant-at (x ∷ hs) [] k p h d = absurd (omega arith)
 meant-at (x ∷ hs) (y ∷ ds) zero p h d = refl
 meant-at (x ∷ hs) (y ∷ ds) (suc k) p h d = meant-at hs ds k p (omega arith) (omega arith)
 
 meant-others : (i : ℕ) (hs ds : List ℕ) → length hs ≡ length ds
-    → meant (keeping (elsewhere (only i)) hs hs) (keeping (elsewhere (only i)) hs ds) ≡ others i (meant hs ds)
-unfolding keeping meant others
+    → packetsMeant (keeping (elsewhere (only i)) hs hs) (keeping (elsewhere (only i)) hs ds) ≡ others i (packetsMeant hs ds)
+unfolding keeping packetsMeant others
 meant-others i [] ds e = refl
 meant-others i (h ∷ hs) [] e = absurd (omega (arith, e))
 meant-others i (h ∷ hs) (d ∷ ds) e = rw (receiver-of h d) (go (eqb (receiverIn h) i) (meant-others i hs ds (omega (arith, e))))
   where
-    go : (t : Bool) → meant (keeping (elsewhere (only i)) hs hs) (keeping (elsewhere (only i)) hs ds) ≡ others i (meant hs ds)
-        → meant (cond (not t) (h ∷ keeping (elsewhere (only i)) hs hs) (keeping (elsewhere (only i)) hs hs))
+    go : (t : Bool) → packetsMeant (keeping (elsewhere (only i)) hs hs) (keeping (elsewhere (only i)) hs ds) ≡ others i (packetsMeant hs ds)
+        → packetsMeant (cond (not t) (h ∷ keeping (elsewhere (only i)) hs hs) (keeping (elsewhere (only i)) hs hs))
         (cond (not t) (d ∷ keeping (elsewhere (only i)) hs ds) (keeping (elsewhere (only i)) hs ds))
-        ≡ cond t (others i (meant hs ds)) (packetOf h d ∷ others i (meant hs ds))
+        ≡ cond t (others i (packetsMeant hs ds)) (packetOf h d ∷ others i (packetsMeant hs ds))
     go true r = r
     go false r = ap (λ l. packetOf h d ∷ l) r
 
@@ -126,12 +126,12 @@ module _ (s : State) (w : Whole s) where
   -- ---- a packet is put
 
   pub put-meant : (p : Packet) → HeadFits p → count < capacity → packetsOf (withPacket s p) ≡ packetsOf s ++ (p ∷ [])
-  unfolding meant
+  unfolding packetsMeant
   put-meant p f l =
       let a = take-suc-set (s .heads) count (headOf p) (omega (arith, w .heads-length)) in
       let b = take-suc-set (s .doors) count (doorsOf p) (omega (arith, w .doors-length)) in
-      ap (λ n. meant (take n (set (s .heads) count (headOf p))) (take n (set (s .doors) count (doorsOf p)))) (add-one count)
-      ∙ ap₂ meant a b
+      ap (λ n. packetsMeant (take n (set (s .heads) count (headOf p))) (take n (set (s .doors) count (doorsOf p)))) (add-one count)
+      ∙ ap₂ packetsMeant a b
       ∙ meant-append hs ds (headOf p ∷ []) (doorsOf p ∷ []) (same-length count)
       ∙ ap (λ q. packetsOf s ++ (q ∷ [])) (packet-words p f)
 
@@ -147,7 +147,7 @@ module _ (s : State) (w : Whole s) where
     pub removed-meant : packetsOf (removed s place) ≡ take place (packetsOf s) ++ drop (place + 1) (packetsOf s)
     removed-meant =
         let e : length (take place hs) ≡ length (take place ds) = simp length-take (omega (arith, w .heads-length, w .doors-length)) in
-        ap₂ meant (closed-up-front (s .heads) place count 0 h (heads-there l)) (closed-up-front (s .doors) place count 0 h (doors-there l))
+        ap₂ packetsMeant (closed-up-front (s .heads) place count 0 h (heads-there l)) (closed-up-front (s .doors) place count 0 h (doors-there l))
         ∙ meant-append (take place hs) (take place ds) (drop (place + 1) hs) (drop (place + 1) ds) e
         ∙ sym (ap₂ _++_ (meant-take place hs ds) (meant-drop (place + 1) hs ds))
 
@@ -191,7 +191,7 @@ module _ (s : State) (w : Whole s) where
   pub vanished-meant : (i : ℕ) → packetsOf (vanished s (only i)) ≡ others i (packetsOf s)
   unfolding vanished
   vanished-meant i =
-      ap₂ meant
+      ap₂ packetsMeant
       (padded-front (keeping (elsewhere (only i)) hs hs) (s .heads) count 0 _ refl)
       (padded-front (keeping (elsewhere (only i)) hs ds) (s .doors) count 0 _ (sym (kept-same (only i))))
       ∙ meant-others i hs ds (same-length count)

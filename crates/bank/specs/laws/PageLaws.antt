@@ -6,14 +6,14 @@ use native.Mathlib.Omega.{arith}
 use borrow.Author.Tests.{eq-eqb, ne-eqb, le-leb, lt-leb}
 use Rattle.column.specs.Refusals.{given, refused}
 use Rattle.column.specs.Sets.{minus}
-use Rattle.column.specs.Columns.{withRegisters, standing}
+use Rattle.column.specs.Columns.{withRegisters, validityRefusal}
 use Rattle.column.specs.Pages as core
 use Rattle.column.specs.declared.state.Column.{Column}
 use Rattle.bank.specs.Banks.{State, columnAt, actingRefusal}
 use Rattle.bank.specs.Steps as step
 use Rattle.bank.specs.Pages.{readByte, writeRefusal, write, lineUp}
-use Rattle.bank.specs.laws.StandingLaws.{acting}
-use Rattle.bank.specs.laws.ChangeLaws.{stands-at}
+use Rattle.bank.specs.laws.ValidityLaws.{acting}
+use Rattle.bank.specs.laws.ChangeLaws.{valid-at}
 
 module _ (s : State) (i : ℕ) (good : actingRefusal s i ≡ 0) where
   abbrev here : Column
@@ -63,4 +63,4 @@ pub page-read : (s : State) (i offset : ℕ) → actingRefusal s i ≡ 0
 unfolding core.readRefusal
 page-read s i offset none =
     let z = acting s i none in
-    rw (eq-eqb (standing (s .bank .tree) i (columnAt (s .bank) i)) 0 (stands-at s (z .0) i (z .1)), eq-eqb (actingRefusal s i) 0 none)
+    rw (eq-eqb (validityRefusal (s .bank .tree) i (columnAt (s .bank) i)) 0 (valid-at s (z .0) i (z .1)), eq-eqb (actingRefusal s i) 0 none)

@@ -14,16 +14,16 @@ use Rattle.column.specs.Sets.{selected}
 use Rattle.column.specs.Trees.{treeRefusal}
 use Rattle.column.specs.laws.TreeLaws.{tree-sixteen}
 use Rattle.column.specs.declared.state.Column.{Column}
-use Rattle.bank.specs.Banks.{State, state, columnAt, runs, noColumn, runningOf, bankRefusal, columnsStand, packetsStand, capacity, joined}
-use Rattle.bank.specs.laws.StandingLaws.{stands-passes}
-use Rattle.bank.specs.laws.StandingOn.{room-on, runs-on, stands-on}
+use Rattle.bank.specs.Banks.{State, state, columnAt, runs, noColumn, runningOf, bankRefusal, columnsValid, packetsValid, capacity, joined}
+use Rattle.bank.specs.laws.ValidityLaws.{valid-passes}
+use Rattle.bank.specs.laws.ValidityOn.{room-on, runs-on, valid-on}
 use Rattle.bank.specs.Steps.{accepted, answered}
 use Rattle.bank.specs.Performs.{perform}
 use Rattle.bank.specs.laws.RestSteps.{unchanged}
 use Rattle.bank.specs.laws.Kinds.{byNoColumn}
 use Rattle.bank.specs.Parts.{isTake, isMove, Tells, actorOf, withPart, PartOf}
-use Rattle.bank.specs.inner.Changes.{isRefusal, stored, changed, Lit}
-use Rattle.bank.specs.laws.ChangeLaws.{changed-refused, changed-done, lit-running, lit-on}
+use Rattle.bank.specs.inner.Changes.{isRefusal, stored, changed, RunningIs}
+use Rattle.bank.specs.laws.ChangeLaws.{changed-refused, changed-done, running-is-of, running-is-on}
 use Rattle.bank.specs.inner.Moves.{placeIn, Moving, openingRefusal, PartIs, RefusesAfter}
 use Rattle.bank.specs.laws.MoveLaws.{opening, opening-take, opening-refused, Opened, opened, taker}
 use Rattle.bank.specs.declared.bank.Bank.{Bank}
@@ -71,7 +71,7 @@ opening-there n columns x i count e takes =
 -- a good tree leaves nothing but 4
 pub four : (s : State) → treeRefusal (s .bank .tree) ≡ 0 → cond (eqb (bankRefusal s) 0) 0 4 ≡ bankRefusal s
 unfolding bankRefusal
-four s good = rw (eq-eqb (treeRefusal (s .bank .tree)) 0 good) (go (not (columnsStand (s .bank))) (ltb capacity (s .bank .count)) (not (packetsStand s)))
+four s good = rw (eq-eqb (treeRefusal (s .bank .tree)) 0 good) (go (not (columnsValid (s .bank))) (ltb capacity (s .bank .count)) (not (packetsValid s)))
   where
     go : (a b c : Bool) → let n : ℕ = first ((4, a) ∷ (4, b) ∷ (4, c) ∷ []) in cond (eqb n 0) 0 4 ≡ n
     go true b c = refl
@@ -116,13 +116,13 @@ module _ (v : Tested) (s : State) (x : Step) (i : ℕ) (c : Column) (tells : Tel
     part-opened = opened s x i (actor-moves s x i move is) (sym opening-is ∙ opens)
 
     pub stood : bankRefusal s ≡ 0
-    stood = stands-passes s (part-opened .stood)
+    stood = valid-passes s (part-opened .stood)
 
     running-is : v .running ≡ runningOf b
     running-is = tells .running-is (tells .refuses ∙ stood)
 
-    pub lit : Lit (v .running) b
-    lit = lit-running b running-is
+    pub who-runs : RunningIs (v .running) b
+    who-runs = running-is-of b running-is
 
     pub sixteen : b .tree .columns ≤ 16
     sixteen = tree-sixteen (b .tree) (part-opened .stood .tree)
@@ -173,8 +173,8 @@ module _ (v : Tested) (s : State) (x : Step) (i : ℕ) (c : Column) (tells : Tel
             ∙ ap (λ (j : ℕ). joined (b .tree) (set (b .columns) j (change .column)) (change .count)) here in
             let same : runningOf (next .bank) ≡ runningOf b = ap (λ (f : ℕ → Bool). selected f (b .tree .columns)) (λ y j. runs-same j y) in
             let refuses : n ≡ bankRefusal next =
-            after (next .bank) doors refl (lit-on b (next .bank) refl runs-same (v .running) lit) refl sixteen room
-            ∙ ap (λ (t : Bool). cond t 0 4) (stands-on s x next i actor stood accepts (part-opened .actor))
+            after (next .bank) doors refl (running-is-on b (next .bank) refl runs-same (v .running) who-runs) refl sixteen room
+            ∙ ap (λ (t : Bool). cond t 0 4) (valid-on s x next i actor stood accepts (part-opened .actor))
             ∙ four next (part-opened .stood .tree) in
             record {
               performed = ap₂ (λ (a : Answer) (d : Bank). answered a (state d heads doors)) (k .answer-is) with

@@ -14,8 +14,8 @@ use Rattle.column.specs.laws.Cases.{truth}
 use Rattle.column.specs.Sets.{has}
 use Rattle.column.specs.Refusals.{first, earlier}
 use Rattle.column.specs.laws.RefusalLaws.{passed, earlier-none}
-use Rattle.column.specs.Columns.{standing}
-use Rattle.column.specs.laws.StateLaws.{standing-sound}
+use Rattle.column.specs.Columns.{validityRefusal}
+use Rattle.column.specs.laws.StateLaws.{validity-refusal-sound}
 use Rattle.column.specs.Packets.{receiver}
 use Rattle.column.specs.Returns.{struck}
 use Rattle.column.specs.Steps as core
@@ -24,7 +24,7 @@ use Rattle.column.specs.declared.state.Column.{Column}
 use Rattle.column.specs.declared.packet.Packet.{Packet}
 use Rattle.bank.specs.Banks.{State, state, columnAt, runs, packetAt, capacity, noColumn, bankRefusal, actingRefusal}
 use Rattle.bank.specs.Networks.{withPacket, put, puts, removed, vanished}
-use Rattle.bank.specs.Steps.{Outcome, accepted, refused, after, unless, fitting, withColumn, settled, acted, delivered, takeRefusal, halted, haltConditions, haltRefusal}
+use Rattle.bank.specs.Steps.{Result, accepted, refused, after, unless, fitting, withColumn, settled, acted, delivered, takeRefusal, halted, haltConditions, haltRefusal}
 use Rattle.bank.specs.Returns.{backConditions, backRefusal, comeBack, returned}
 use Rattle.bank.specs.Pages.{writeRefusal}
 use Rattle.bank.specs.laws.ReturnLaws.{returning, place-mine, place-struck, place-unused}
@@ -76,10 +76,10 @@ puts-kept (p ∷ l) s =
 
 -- what no refusal rewrites, read off a state
 module _ {A : Type 0} (read : State → A) (s : State) where
-  abbrev Kept : Outcome State → Type 0
+  abbrev Kept : Result State → Type 0
   Kept o = read (after o) ≡ read s
 
-  kept-unless : (n : ℕ) (o : Outcome State) → Kept o → Kept (unless n s o)
+  kept-unless : (n : ℕ) (o : Result State) → Kept o → Kept (unless n s o)
   kept-unless n o h = go (eqb n 0)
     where
       go : (b : Bool) → Kept (cond b o (refused n s))
@@ -196,12 +196,12 @@ Acting s x j = (j < s .bank .tree .columns) × (ofHalted x ≡ false → runs (s
 
 module _ (s : State) (x : Step) (i : ℕ) where
   -- the core tests the column first, and among the step's own conditions that it runs
-  runs-by : (m : ℕ) → (m ≡ 0 → not (c s i .running) ≡ false) → earlier (standing (t s) i (c s i)) m ≡ 0
+  runs-by : (m : ℕ) → (m ≡ 0 → not (c s i .running) ≡ false) → earlier (validityRefusal (t s) i (c s i)) m ≡ 0
       → (j : ℕ) → eqb j i ≡ true → Acting s x j
   runs-by m five e j a =
-      let q = earlier-none (standing (t s) i (c s i)) m e in
+      let q = earlier-none (validityRefusal (t s) i (c s i)) m e in
       subst (Acting s x) (sym (eqb-true j i a))
-      (standing-sound (t s) i (c s i) (q .0) .below, λ _. not-false (c s i .running) (five (q .1)))
+      (validity-refusal-sound (t s) i (c s i) (q .0) .below, λ _. not-false (c s i .running) (five (q .1)))
 
 members-run : (s : State) (m : ℕ) → bankRefusal s ≡ 0 → first (haltConditions s m) ≡ 0 → (j : ℕ) → has m j ≡ true → Running s j
 unfolding haltRefusal
@@ -241,7 +241,7 @@ module _ (s : State) (x : Step) (j : ℕ) where
     where
       go : (b : Bool) → eqb (refusalOf s x) 0 ≡ b → columnAt (after (perform s x) .bank) j ≡ columnAt (s .bank) j
       go true e = others-kept s x j (⊎-elim (λ a. absurd (idle (acting-is s x (eqb-true (refusalOf s x) 0 e) j a))) (λ a. a) (truth (acts s x j)))
-      go false e = ap (λ (o : Outcome State). columnAt (after o .bank) j) (exact s x) ∙ rw e
+      go false e = ap (λ (o : Result State). columnAt (after o .bank) j) (exact s x) ∙ rw e
 
   -- number, doors, sets, those noted and goal stay as they were, until a column comes back, and the page until one is written
   pub halted-kept : ofHalted x ≡ false → runs (s .bank) j ≡ false → columnAt (after (perform s x) .bank) j ≡ columnAt (s .bank) j

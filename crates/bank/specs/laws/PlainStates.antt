@@ -13,7 +13,7 @@ use Rattle.column.specs.declared.state.Column.{Column}
 use Rattle.column.specs.declared.packet.Packet.{Packet}
 use Rattle.bank.specs.Banks.{State, state, columnAt, runs, noColumn, capacity}
 use Rattle.bank.specs.Networks.{withPacket, put, puts}
-use Rattle.bank.specs.Steps.{Outcome, accepted, refused, unless, withColumn, fitting, settled, rewriting}
+use Rattle.bank.specs.Steps.{Result, accepted, refused, unless, withColumn, fitting, settled, rewriting}
 use Rattle.bank.specs.Apart.{plainBank, plainState, plainOutcome}
 use Rattle.bank.specs.declared.bank.Bank.{Bank}
 
@@ -50,7 +50,7 @@ pub plain-cond : (b : Bool) (s s' : State) → plainState (cond b s s') ≡ cond
 plain-cond true s s' = refl
 plain-cond false s s' = refl
 
-pub plain-unless : (n : ℕ) (s : State) (o : Outcome State) → plainOutcome (unless n s o) ≡ unless n (plainState s) (plainOutcome o)
+pub plain-unless : (n : ℕ) (s : State) (o : Result State) → plainOutcome (unless n s o) ≡ unless n (plainState s) (plainOutcome o)
 plain-unless n s o = go (eqb n 0)
   where
     go : (b : Bool) → plainOutcome (cond b o (refused n s)) ≡ cond b (plainOutcome o) (refused n (plainState s))

@@ -12,14 +12,14 @@ use Rattle.column.specs.laws.Cases.{truth, and-left, and-right}
 use Rattle.column.specs.laws.SetLaws.{has-none}
 use Rattle.column.specs.Trees.{every, treeRefusal}
 use Rattle.column.specs.laws.TreeLaws.{every-at, every-all}
-use Rattle.column.specs.Columns.{fresh, standing, watched}
+use Rattle.column.specs.Columns.{fresh, validityRefusal, watched}
 use Rattle.column.specs.Steps.{sendConditions, ackConditions, allConditions, sendRefusal, ackRefusal, allRefusal, noteRefusal}
 use Rattle.column.specs.declared.tree.Tree.{Tree}
 use Rattle.column.specs.declared.state.Column.{Column}
 use Rattle.bank.specs.Banks.{State, state, columnAt, runs, freshBank, bankRefusal}
 use Rattle.bank.specs.Steps.{send, ack, all, note}
 use Rattle.bank.specs.Performs.{perform}
-use Rattle.bank.specs.laws.StandingLaws.{stands, stands-passes, fresh-at, fresh-stands}
+use Rattle.bank.specs.laws.ValidityLaws.{valid, valid-passes, fresh-at, fresh-valid}
 use Rattle.bank.specs.Rest.{isRefused, Refused, Running, AtRest, quiet, atRest}
 use Rattle.bank.specs.laws.RestSteps.{refuses, met, broken-refused, send-refused, ack-refused, all-refused, note-refused, any-note-refused}
 use Rattle.bank.specs.laws.DispatchLaws.{take-rests}
@@ -94,7 +94,7 @@ module _ (s : State) where
   -- where it stands
   pub rest-columns : s .bank .count ≡ 0 → bankRefusal s ≡ 0 → columnsRest (s .bank) ≡ atRest s
   rest-columns none good =
-      let st = stands s good in
+      let st = valid s good in
       ready-none (s .bank) (st .tree) ∙ ap isTake (sym (quick-turn s st)) ∙ take-rests s none
 
 -- ---- banks that are at rest
@@ -118,20 +118,20 @@ module _ (t : Tree) (i : ℕ) where
 
   fresh-send : refuses (sendRefusal t i c) ≡ true
   unfolding sendRefusal
-  fresh-send = met (standing t i c) (sendConditions t i c) tt (λ p. true≢false (p .1 .0))
+  fresh-send = met (validityRefusal t i c) (sendConditions t i c) tt (λ p. true≢false (p .1 .0))
 
   fresh-ack : refuses (ackRefusal t i c) ≡ true
   unfolding ackRefusal
-  fresh-ack = met (standing t i c) (ackConditions t i c) tt (λ p. true≢false (p .1 .0))
+  fresh-ack = met (validityRefusal t i c) (ackConditions t i c) tt (λ p. true≢false (p .1 .0))
 
   fresh-all : refuses (allRefusal t i c) ≡ true
   unfolding allRefusal
-  fresh-all = met (standing t i c) (allConditions t i c) tt (λ p. true≢false (sym (ap not (has-none (watched t c))) ∙ p .1 .1 .0))
+  fresh-all = met (validityRefusal t i c) (allConditions t i c) tt (λ p. true≢false (sym (ap not (has-none (watched t c))) ∙ p .1 .1 .0))
 
 pub fresh-rests : (t : Tree) → treeRefusal t ≡ 0 → (heads doors : List ℕ) → AtRest (state (freshBank t) heads doors)
 fresh-rests t e heads doors =
     let s = state (freshBank t) heads doors in
-    let good = stands-passes s (fresh-stands t e heads doors) in
+    let good = valid-passes s (fresh-valid t e heads doors) in
     let is = fresh-at t e in
     record {
       no-packet = refl;

@@ -11,7 +11,7 @@ use borrow.Author.Tests.{eq-eqb, ne-eqb, ltb-true, ltb-false, leb-false}
 use Rattle.column.specs.laws.Cases.{truth}
 use Rattle.column.specs.Refusals.{first, earlier}
 use Rattle.column.specs.laws.RefusalLaws.{Passed, numbered, passed, earlier-none, earlier-zero}
-use Rattle.column.specs.Columns.{standing}
+use Rattle.column.specs.Columns.{validityRefusal}
 use Rattle.column.specs.Steps as core
 use Rattle.column.specs.declared.state.Column.{Column}
 use Rattle.bank.specs.Banks.{State, columnAt, runs, capacity, bankRefusal}
@@ -99,7 +99,7 @@ module _ (s : State) (i : ℕ) where
         arith,
         h,
         leb-false (t .columns) j
-            (passed l tt (earlier-none (standing t i (columnAt (s .bank) i)) (first l) (earlier-none _ (first ((6, runs (s .bank) j) ∷ [])) e .0) .1) .0),
+            (passed l tt (earlier-none (validityRefusal t i (columnAt (s .bank) i)) (first l) (earlier-none _ (first ((6, runs (s .bank) j) ∷ [])) e .0) .1) .0),
       ))
 
   pub any-note-refused : ((j : ℕ) → j < s .bank .tree .columns → Refused (note s i j)) → (j : ℕ) → Refused (note s i j)

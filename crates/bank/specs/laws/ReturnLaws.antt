@@ -14,7 +14,7 @@ use Rattle.column.specs.laws.SetLaws.{has-none, without-none, selected-has}
 use Rattle.column.specs.Returns.{rejoined, struck}
 use Rattle.column.specs.declared.state.Column.{Column}
 use Rattle.bank.specs.Banks.{State, noColumn, columnAt, runs, runningOf, bankRefusal}
-use Rattle.bank.specs.laws.StandingLaws.{Stands, stands}
+use Rattle.bank.specs.laws.ValidityLaws.{Valid, valid}
 use Rattle.bank.specs.laws.SurveyLaws.{others-halted}
 use Rattle.bank.specs.laws.strips.Rewriting.{rewriting-at, rewriting-length}
 use Rattle.bank.specs.Rest.{AtRest, atRest}
@@ -49,8 +49,8 @@ module _ (s : State) (j : ℕ) where
   both-fourteen true quiet rest = refl
   both-fourteen false quiet rest = refl
 
-  standing-refusal : bankRefusal s ≡ 0 → first (returningConditions b (runningOf b) j) ≡ first (backConditions s j)
-  standing-refusal good =
+  validity-refusal-refusal : bankRefusal s ≡ 0 → first (returningConditions b (runningOf b) j) ≡ first (backConditions s j)
+  validity-refusal-refusal good =
       below-runs (leb (b .tree .columns) j) _ refl
       ∙ ap (λ (k : ℕ). cond (leb (b .tree .columns) j) 4 (cond (runs b j) 6 (cond (eqb j (b .tree .root)) 15 k)))
       (both-fourteen (eqb (b .count) 0) (columnsRest b) _
@@ -60,19 +60,19 @@ module _ (s : State) (j : ℕ) where
   pub returning-refusal : {n running : ℕ} → n ≡ bankRefusal s → (n ≡ 0 → running ≡ runningOf b)
       → returningRefusal n b running j ≡ backRefusal s j
   unfolding returningRefusal backRefusal
-  returning-refusal {n} {running} e lit = ap (λ (k : ℕ). returningRefusal k b running j) e ∙ go (eqb (bankRefusal s) 0) refl
+  returning-refusal {n} {running} e running-is = ap (λ (k : ℕ). returningRefusal k b running j) e ∙ go (eqb (bankRefusal s) 0) refl
     where
       go : (x : Bool) → eqb (bankRefusal s) 0 ≡ x
           → cond x (first (returningConditions b running j)) (bankRefusal s) ≡ cond x (first (backConditions s j)) (bankRefusal s)
       go true z =
           let good = eqb-true (bankRefusal s) 0 z in
-          ap (λ (r : ℕ). first (returningConditions b r j)) (lit (e ∙ good)) ∙ standing-refusal good
+          ap (λ (r : ℕ). first (returningConditions b r j)) (running-is (e ∙ good)) ∙ validity-refusal-refusal good
       go false z = refl
 
 -- ---- what is known where a return is accepted
 
 pub record Returning (s : State) (j : ℕ) : Type 0 where
-  pub stands : Stands s
+  pub valid : Valid s
   pub below : j < s .bank .tree .columns
   pub halted : runs (s .bank) j ≡ false
   pub not-root : j ≡ s .bank .tree .root → ⊥
@@ -85,7 +85,7 @@ returning s j e =
     let q = earlier-none (bankRefusal s) (first (backConditions s j)) e in
     let p = passed (backConditions s j) tt (q .1) in
     record {
-      stands = stands s (q .0);
+      valid = valid s (q .0);
       below = leb-false (s .bank .tree .columns) j (p .0);
       halted = p .1 .0;
       not-root = eqb-false j (s .bank .tree .root) (p .1 .1 .0);

@@ -15,8 +15,8 @@ use Rattle.column.specs.Trees.{treeRefusal, choose}
 use Rattle.column.specs.laws.ChoiceLaws.{choose-lt}
 use Rattle.column.specs.Refusals.{first}
 use Rattle.column.specs.laws.RefusalLaws.{passed, earlier-none}
-use Rattle.column.specs.Columns.{stateConditions, stateRefusal, standing}
-use Rattle.column.specs.laws.StateLaws.{acceptable, standing-tree, standing-sixteen, standing-send, standing-sound}
+use Rattle.column.specs.Columns.{stateConditions, stateRefusal, validityRefusal}
+use Rattle.column.specs.laws.StateLaws.{acceptable, validity-refusal-tree, validity-refusal-sixteen, validity-refusal-send, validity-refusal-sound}
 use Rattle.column.specs.Steps as core
 use Rattle.column.specs.declared.tree.Tree.{Tree}
 use Rattle.column.specs.declared.state.Column.{Column}
@@ -51,14 +51,14 @@ module _ (t : Tree) where
   pub aimed-unless : (n : ℕ) (c : Column) (r : core.Result) → (n ≡ 0 → Aimed t r) → Aimed t (core.unless n c r)
   aimed-unless n c r h = aimed-cond (eqb n 0) r (core.refused n c) (λ e. h (eqb-true n 0 e)) (λ e. tt)
 
-  module _ (i : ℕ) (c : Column) (good : standing t i c ≡ 0) where
+  module _ (i : ℕ) (c : Column) (good : validityRefusal t i c ≡ 0) where
     lowest-below : (eqb (c .owed) 0 ≡ false) → lowest (c .owed) < t .columns
     unfolding stateRefusal
     lowest-below e =
         let p = passed (stateConditions t i c) tt (earlier-none (treeRefusal t) (stateRefusal t i c) good .1) in
         let few = within-lt (c .owed) (t .columns) (not-false (within (c .owed) (t .columns)) (p .1 .1 .1 .0)) in
         let some : 0 < c .owed = omega (arith, eqb-false (c .owed) 0 e) in
-        standing-sound t i c good .owed-below (lowest (c .owed)) (lowest-member 16 (c .owed) (lt-of-lt-of-le few (pow-mono (standing-sixteen t i c good))) some)
+        validity-refusal-sound t i c good .owed-below (lowest (c .owed)) (lowest-member 16 (c .owed) (lt-of-lt-of-le few (pow-mono (validity-refusal-sixteen t i c good))) some)
 
     pub aimed-send : Aimed t (core.send t i c)
     unfolding core.sendRefusal core.sendEffect
@@ -66,15 +66,15 @@ module _ (t : Tree) where
         aimed-unless (core.sendRefusal t i c) c (core.sendEffect t i c)
         (λ z.
         let k = choose t (c .send) in
-        let p = passed (core.sendConditions t i c) tt (earlier-none (standing t i c) (first (core.sendConditions t i c)) z .1) in
+        let p = passed (core.sendConditions t i c) tt (earlier-none (validityRefusal t i c) (first (core.sendConditions t i c)) z .1) in
         let some : 0 < c .send = omega (arith, eqb-false (c .send) 0 (p .1 .0)) in
-        aimed-cond (eqb k i) _ _ (λ e. tt) (λ e. aimed-cond (has (c .noted) k) _ _ (λ e. tt) (λ e. choose-lt t (standing-tree t i c good) (c .send) (standing-send t i c good) some)))
+        aimed-cond (eqb k i) _ _ (λ e. tt) (λ e. aimed-cond (has (c .noted) k) _ _ (λ e. tt) (λ e. choose-lt t (validity-refusal-tree t i c good) (c .send) (validity-refusal-send t i c good) some)))
 
     pub aimed-ack : Aimed t (core.ack t i c)
     unfolding core.ackRefusal core.ackEffect
     aimed-ack =
         aimed-unless (core.ackRefusal t i c) c (core.ackEffect i c)
-        (λ z. lowest-below (passed (core.ackConditions t i c) tt (earlier-none (standing t i c) (first (core.ackConditions t i c)) z .1) .1 .0))
+        (λ z. lowest-below (passed (core.ackConditions t i c) tt (earlier-none (validityRefusal t i c) (first (core.ackConditions t i c)) z .1) .1 .0))
 
     aimed-effect : (p : Packet) → core.packetRefusal t p ≡ 0 → Aimed t (core.takeEffect t i c p)
     unfolding core.messageEffect core.receiveEffect core.acknowledgementEffect

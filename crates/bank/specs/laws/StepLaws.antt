@@ -24,34 +24,34 @@ use Rattle.column.specs.declared.tree.Tree.{Tree}
 use Rattle.column.specs.declared.state.Column.{Column}
 use Rattle.column.specs.declared.packet.Packet.{Packet}
 use Rattle.bank.specs.Banks.{State, state, runs, runningOf, packetAt, capacity, bankRefusal, actingRefusal}
-use Rattle.bank.specs.laws.StandingLaws.{stands, acting, every-same}
+use Rattle.bank.specs.laws.ValidityLaws.{valid, acting, every-same}
 use Rattle.bank.specs.laws.SurveyLaws.{covers-members}
 use Rattle.bank.specs.laws.ListSteps.{keeping-few}
 use Rattle.bank.specs.Networks.{withPacket, put, puts, only, elsewhere, vanished}
-use Rattle.bank.specs.Steps.{Outcome, accepted, refused, answered, outcome, unless, withColumn, fitting, settled, acted, takeRefusal}
+use Rattle.bank.specs.Steps.{Result, accepted, refused, answered, outcomeMeant, unless, withColumn, fitting, settled, acted, takeRefusal}
 use Rattle.bank.specs.Steps as strip
 use Rattle.bank.specs.inner.Changes.{takesOff}
 use Rattle.bank.specs.inner.Returning.{haltingRefusal}
 use Rattle.bank.specs.declared.bank.Bank.{Bank}
 use Rattle.bank.specs.declared.bank.Answer.{Answer}
 use Rattle.bank.specs.declared.bank.Answer.the-variants.{Done, Refused}
-use Rattle.bank.specs.declared.bank.Result.{Result}
+use Rattle.bank.specs.declared.bank.Outcome.{Outcome}
 
 -- ---- what is answered of a bank, said of the bank with words
 
-abbrev withWords : List ℕ → List ℕ → Outcome Bank → Outcome State
+abbrev withWords : List ℕ → List ℕ → Result Bank → Result State
 withWords heads doors (accepted b) = accepted (state b heads doors)
 withWords heads doors (refused n b) = refused n (state b heads doors)
 
-module _ (r : Result) (b : Bank) (heads doors : List ℕ) where
+module _ (r : Outcome) (b : Bank) (heads doors : List ℕ) where
   worded : (a : Answer) → answered a (state (r .bank) heads doors) ≡ withWords heads doors (answered a (r .bank))
   worded Done = refl
   worded (Refused n) = refl
 
-  pub accepted-words : answered (r .answer) (r .bank) ≡ accepted b → outcome r heads doors ≡ accepted (state b heads doors)
+  pub accepted-words : answered (r .answer) (r .bank) ≡ accepted b → outcomeMeant r heads doors ≡ accepted (state b heads doors)
   accepted-words e = worded (r .answer) ∙ ap (withWords heads doors) e
 
-  pub refused-words : (n : ℕ) → answered (r .answer) (r .bank) ≡ refused n b → outcome r heads doors ≡ refused n (state b heads doors)
+  pub refused-words : (n : ℕ) → answered (r .answer) (r .bank) ≡ refused n b → outcomeMeant r heads doors ≡ refused n (state b heads doors)
   refused-words n e = worded (r .answer) ∙ ap (withWords heads doors) e
 
 -- ---- a packet put, and row 9
@@ -111,9 +111,9 @@ module _ (s gone : State) (i : ℕ) (c : Column) where
 
 -- ---- a refusal m is answered, or there is none
 
-module _ (s : State) (effect : Outcome State) (m n : ℕ) where
-  pub unless-refused : (r : Result) → m ≡ n → (m ≡ 0 → ⊥) → answered (r .answer) (r .bank) ≡ refused m (s .bank)
-      → outcome r (s .heads) (s .doors) ≡ unless n s effect
+module _ (s : State) (effect : Result State) (m n : ℕ) where
+  pub unless-refused : (r : Outcome) → m ≡ n → (m ≡ 0 → ⊥) → answered (r .answer) (r .bank) ≡ refused m (s .bank)
+      → outcomeMeant r (s .heads) (s .doors) ≡ unless n s effect
   unless-refused r e z a =
       refused-words r (s .bank) (s .heads) (s .doors) m a ∙ rw (ne-eqb n 0 (λ w. z (e ∙ w))) (ap (λ k. refused k s) e)
 
@@ -127,12 +127,12 @@ module _ (s : State) (i n : ℕ) (e : n ≡ actingRefusal s i) where
       (omega (arith, a .1, tree-sixteen (s .bank .tree) (a .0 .tree)), a .0 .room)
 
   -- the steps that take no packet off
-  pub acted-refused : (result : core.Result) (r : Result) → (n ≡ 0 → ⊥) → answered (r .answer) (r .bank) ≡ refused n (s .bank)
-      → outcome r (s .heads) (s .doors) ≡ acted s i result
+  pub acted-refused : (result : core.Result) (r : Outcome) → (n ≡ 0 → ⊥) → answered (r .answer) (r .bank) ≡ refused n (s .bank)
+      → outcomeMeant r (s .heads) (s .doors) ≡ acted s i result
   unfolding acted
   acted-refused result r = unless-refused s (settled s s i result) n (actingRefusal s i) r e
 
-  pub acted-settled : (result : core.Result) {after : Outcome State} → n ≡ 0 → after ≡ settled s s i result → after ≡ acted s i result
+  pub acted-settled : (result : core.Result) {after : Result State} → n ≡ 0 → after ≡ settled s s i result → after ≡ acted s i result
   unfolding acted
   acted-settled result z a = a ∙ unless-goes s (settled s s i result) n (actingRefusal s i) e z
 
@@ -160,7 +160,7 @@ takes s place e =
     let late : List (ℕ × Bool) = (10, leb (s .bank .count) place) ∷ [] in
     let q = earlier-none (bankRefusal s) (first late) e in
     let l = leb-false (s .bank .count) place (passed late tt (q .1) .0) in
-    let w = stands s (q .0) in
+    let w = valid s (q .0) in
     let p = acceptable (s .bank .tree) (packetAt s place) (w .packets place l) in
     (omega (arith, p .receiver-below, tree-sixteen (s .bank .tree) (w .tree)), l, w .room)
 
@@ -179,7 +179,7 @@ module _ (s : State) (m : ℕ) where
   pub halting-refusal : {n running : ℕ} → n ≡ bankRefusal s → (n ≡ 0 → running ≡ runningOf (s .bank))
       → haltingRefusal n columns running m ≡ strip.haltRefusal s m
   unfolding strip.haltRefusal
-  halting-refusal {n} {running} e lit = ap (λ (k : ℕ). haltingRefusal k columns running m) e ∙ go (eqb (bankRefusal s) 0) refl
+  halting-refusal {n} {running} e running-is = ap (λ (k : ℕ). haltingRefusal k columns running m) e ∙ go (eqb (bankRefusal s) 0) refl
     where
       five : (w : Bool) → within m columns ≡ w
           → _≡_ {A = ℕ} (cond (not w) 4 (cond (not (eqb (join m (runningOf (s .bank))) (runningOf (s .bank)))) 5 0))
@@ -190,7 +190,7 @@ module _ (s : State) (m : ℕ) where
       go : (x : Bool) → eqb (bankRefusal s) 0 ≡ x
           → cond x (haltingRefusal 0 columns running m) (bankRefusal s) ≡ cond x (first (strip.haltConditions s m)) (bankRefusal s)
       go true z =
-          ap (λ (r : ℕ). haltingRefusal 0 columns r m) (lit (e ∙ eqb-true (bankRefusal s) 0 z)) ∙ five (within m columns) refl
+          ap (λ (r : ℕ). haltingRefusal 0 columns r m) (running-is (e ∙ eqb-true (bankRefusal s) 0 z)) ∙ five (within m columns) refl
       go false z = refl
 
 pub vanished-few : (s : State) (member : ℕ → Bool) → s .bank .count ≤ capacity → vanished s member .bank .count ≤ capacity

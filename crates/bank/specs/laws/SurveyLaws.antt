@@ -22,7 +22,7 @@ use Rattle.column.specs.declared.state.Column.{Column}
 use Rattle.bank.specs.Banks.{columnAt, runs, runningOf, haltedOf, RefusesBank}
 use Rattle.bank.specs.inner.Surveys.{placesOf, unseen, membersIn, membersOf, Sees, Saw, Passing, RefusesSeen}
 use Rattle.bank.specs.laws.SetsWordLaws.{crossed}
-use Rattle.bank.specs.laws.StandingLaws.{not-below}
+use Rattle.bank.specs.laws.ValidityLaws.{not-below}
 use Rattle.bank.specs.declared.bank.Bank.{Bank}
 use Rattle.bank.specs.declared.survey.Seen.{Seen}
 
@@ -59,11 +59,11 @@ column-table true true true true false false whole true = refl
 column-table true true true true false false whole false = refl
 
 -- row 4 of a column that is one, in the order in which it is gathered
-column-stands : (t : Tree) (i : ℕ) (c : Column) → i < t .columns
+column-valid : (t : Tree) (i : ℕ) (c : Column) → i < t .columns
     → eqb (stateRefusal t i c) 0
     ≡ (within (membersOf c) (t .columns) && (ltb (c .sender) (t .columns) && (not (has (c .owed) i) && (not (eqb i (t .root)) || c .whole))))
 unfolding stateRefusal
-column-stands t i c h =
+column-valid t i c h =
     let n = t .columns in
     rw (
       within-join (join (join (c .send) (c .awaited)) (c .owed)) (c .noted) n,
@@ -98,17 +98,17 @@ root-so b i = go (compare-cases i (b .tree .root))
 
 pub saw-none : (b : Bank) → Saw unseen b 0
 unfolding every selected
-saw-none b = record { stand-so = rw (lt-within 0 (b .tree .columns) (pow-pos (b .tree .columns)), le-leb 0 (b .tree .root) (omega arith)); running-so = refl }
+saw-none b = record { valid-so = rw (lt-within 0 (b .tree .columns) (pow-pos (b .tree .columns)), le-leb 0 (b .tree .root) (omega arith)); running-so = refl }
 
 pub saw-more : (b : Bank) (v w : Seen) (i : ℕ) → i < b .tree .columns → Saw v b i → Sees w v (b .tree .columns) i (columnAt b i) → Saw w b (i + 1)
 unfolding every selected
 saw-more b v w i h so sees =
     record {
-      stand-so =
+      valid-so =
           rw (sees .members-so, sees .sent-so, sees .own-so, not-or (has (v .own) 32) (has (c .owed) i), root-so b i, add-one i)
           (ap (λ (x : Bool). gathered && x) (ap (λ (x : Bool). (v .sent && below) && x) (crossed owing other part goal) ∙ crossed (v .sent) below (owing && part) (other && goal))
           ∙ crossed (within (membersIn (v .sets)) n) (within (membersOf c) n) (v .sent && (owing && part)) (below && (other && goal))
-          ∙ ap₂ (λ (x y : Bool). x && y) (so .stand-so) (sym (column-stands (b .tree) i c h)));
+          ∙ ap₂ (λ (x y : Bool). x && y) (so .valid-so) (sym (column-valid (b .tree) i c h)));
       running-so = rw (add-one i) (sees .running-so ∙ ap (λ (m : ℕ). cond (runs b i) (insert m i) m) (so .running-so));
     }
   where

@@ -11,7 +11,7 @@ use Rattle.column.specs.laws.Cases.{and-left, and-right}
 use Rattle.column.specs.Refusals.{given, refused}
 use Rattle.column.specs.Packets.{lowFirst, lowValue, wide, bytesIn, bytesOf, occupied, write, part, readIn, read}
 use Rattle.column.specs.laws.NumberLaws.{Bytes}
-use Rattle.column.specs.laws.PacketLaws.{read-write, write-read, wide-kinds, Stands}
+use Rattle.column.specs.laws.PacketLaws.{read-write, write-read, wide-kinds, Valid}
 use Rattle.column.specs.declared.packet.Packet.{Packet}
 use Rattle.column.specs.declared.packet.Packet.the-variants.{Message, Acknowledgement}
 
@@ -98,5 +98,5 @@ are-bytes [] e i = omega arith
 are-bytes (b ∷ s) e zero = ltb-true b 256 (and-left _ _ e)
 are-bytes (b ∷ s) e (suc i) = are-bytes s (and-right (ltb b 256) _ e) i
 
-pub message-again : Stands wide messageBytes (part message 15)
+pub message-again : Valid wide messageBytes (part message 15)
 message-again = write-read wide messageBytes (are-bytes messageBytes refl) (part message 15) message-read

@@ -8,7 +8,7 @@ use lib.Count.{trailingZeros}
 use lib.ListN.{replicate}
 use Rattle.column.specs.Sets.{selected}
 use Rattle.column.specs.Trees.{ascending, treeBy, treeInSequence, treeOf, every, climbsIn, treeRefusal}
-use Rattle.column.specs.Columns.{stateRefusal, standing, withRegisters}
+use Rattle.column.specs.Columns.{stateRefusal, validityRefusal, withRegisters}
 use Rattle.column.specs.Steps.{accepted, packetRefusal, orderRefusal, orderEffect, sendRefusal, sendEffect, send, takeRefusal, acknowledgementEffect, receiveEffect, messageEffect, ackRefusal, ackEffect, ack, allRefusal, allEffect, noteRefusal, noteEffect, haltRefusal, haltEffect}
 use Rattle.column.specs.declared.tree.Tree.{Tree}
 use Rattle.column.specs.declared.state.Column.{Column}
@@ -69,7 +69,7 @@ refusals =
     ∷ (sendRefusal three 2 (column false 0 0 0 8 false), 4)
     -- "a column owing itself"; to send to, await or note oneself is not 4
     ∷ (ackRefusal three 2 (column true 0 0 4 0 false), 4)
-    ∷ (standing three 2 (column true 4 4 0 4 false), 0)
+    ∷ (validityRefusal three 2 (column true 4 4 0 4 false), 0)
     -- "a root with a goal other than the whole bank", halted or not
     ∷ (haltRefusal three 0 other, 4)
     ∷ (haltRefusal three 0 haltedOther, 4)

@@ -23,7 +23,7 @@ use Rattle.column.specs.declared.tree.Tree.{Tree}
 pub record Earliest (t : Tree) (m c : ℕ) : Type 0 where
   pub place : ℕ
   pub counts : place < t .columns
-  pub stands : listedAt t place ≡ c
+  pub valid : listedAt t place ≡ c
   pub member : has m c ≡ true
   pub none-earlier : (k : ℕ) → k < place → has m (listedAt t k) ≡ false
 
@@ -53,7 +53,7 @@ module _ (t : Tree) (m : ℕ) where
       go : (suc at ≤ p → p < suc at + k → suc at + k ≤ t .columns → has m (listedAt t p) ≡ true
           → ((j : ℕ) → j < suc at → has m (listedAt t j) ≡ false) → Earliest t m (earliestFrom (t .first) m (suc at) k))
           → (b : Bool) → has m (listedAt t at) ≡ b → Earliest t m (cond b (listedAt t at) (earliestFrom (t .first) m (suc at) k))
-      go ih true q = record { place = at; counts = omega arith; stands = refl; member = q; none-earlier = none }
+      go ih true q = record { place = at; counts = omega arith; valid = refl; member = q; none-earlier = none }
       go ih false q = past (equal-cases at p)
         where
           past : (at ≡ p) ⊎ (at ≡ p → ⊥) → Earliest t m (earliestFrom (t .first) m (suc at) k)
@@ -99,7 +99,7 @@ module _ (t : Tree) (ok : treeRefusal t ≡ 0) where
     choose-member = choose-earliest .member
 
     pub choose-lt : choose t m < t .columns
-    choose-lt = let e = choose-earliest in omega (arith, e .stands, tree .listed-below (e .place) (e .counts))
+    choose-lt = let e = choose-earliest in omega (arith, e .valid, tree .listed-below (e .place) (e .counts))
 
   lowest-empty : lowest 0 ≡ 16
   unfolding trailingZeros
@@ -123,5 +123,5 @@ module _ (t : Tree) (ok : treeRefusal t ≡ 0) where
       go c p (inr (inr l)) =
           let low = lowest (suc m) in
           let small : suc m < 2 ^ 16 = lt-of-lt-of-le h (pow-mono (tree .sixteen)) in
-          let k : low < c .place = omega (arith, l, c .stands, p) in
+          let k : low < c .place = omega (arith, l, c .valid, p) in
           absurd (true≢false (sym (lowest-member 16 (suc m) small (omega arith)) ∙ ap (has (suc m)) (sym (at low (omega (arith, k, c .counts, tree .sixteen)))) ∙ c .none-earlier low k))

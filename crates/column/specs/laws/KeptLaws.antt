@@ -17,8 +17,8 @@ use Rattle.column.specs.Trees.{treeRefusal, choose, children}
 use Rattle.column.specs.laws.TreeLaws.{check-exact}
 use Rattle.column.specs.laws.ChildLaws.{children-lt}
 use Rattle.column.specs.laws.ChoiceLaws.{choose-lt}
-use Rattle.column.specs.Columns.{stateConditions, stateRefusal, standing, withSets}
-use Rattle.column.specs.laws.StateLaws.{acceptable, standing-tree, standing-sixteen}
+use Rattle.column.specs.Columns.{stateConditions, stateRefusal, validityRefusal, withSets}
+use Rattle.column.specs.laws.StateLaws.{acceptable, validity-refusal-tree, validity-refusal-sixteen}
 use Rattle.column.specs.Steps.{Result, accepted, refused, unless, packetRefusal, orderRefusal, orderEffect, sendConditions, sendRefusal, sendEffect, takeConditions, takeRefusal, acknowledgementEffect, acknowledgeLowest, receiveEffect, messageEffect, takeEffect, ackConditions, ackRefusal, ackEffect, allRefusal, allEffect, noteConditions, noteRefusal, noteEffect}
 use Rattle.column.specs.declared.tree.Tree.{Tree}
 use Rattle.column.specs.declared.state.Column.{Column}
@@ -92,7 +92,7 @@ module _ (t : Tree) (i : ℕ) (c : Column) where
 
 -- ---- the effects
 
-module _ (t : Tree) (i : ℕ) (c : Column) (good : standing t i c ≡ 0) where
+module _ (t : Tree) (i : ℕ) (c : Column) (good : validityRefusal t i c ≡ 0) where
   now : Fits t i c
   now = fits t i c (earlier-none (treeRefusal t) (stateRefusal t i c) good .1)
 
@@ -132,7 +132,7 @@ module _ (t : Tree) (i : ℕ) (c : Column) (good : standing t i c ≡ 0) where
       let f = now in
       let k = choose t (c .send) in
       let some : 0 < c .send = omega (arith, eqb-false (c .send) 0 (passed (sendConditions t i c) tt z .1 .0)) in
-      let low : k < t .columns = choose-lt t (standing-tree t i c good) (c .send) (f .send) some in
+      let low : k < t .columns = choose-lt t (validity-refusal-tree t i c good) (c .send) (f .send) some in
       let rest : Inside t (without (c .send) k) = without-lt (t .columns) (c .send) k (f .send) low in
       keeps-cond t i (eqb k i) _ _ (λ e. sets-kept _ _ _ rest (f .awaited) (f .owed) (f .others))
       (λ e.
@@ -146,7 +146,7 @@ module _ (t : Tree) (i : ℕ) (c : Column) (good : standing t i c ≡ 0) where
       let f = now in
       let k = lowest (c .owed) in
       let some : 0 < c .owed = omega (arith, eqb-false (c .owed) 0 e) in
-      let member = lowest-member 16 (c .owed) (lt-of-lt-of-le (f .owed) (pow-mono (standing-sixteen t i c good))) some in
+      let member = lowest-member 16 (c .owed) (lt-of-lt-of-le (f .owed) (pow-mono (validity-refusal-sixteen t i c good))) some in
       sets-kept _ _ _ (f .send) (f .awaited) (without-lt (t .columns) (c .owed) k (f .owed) (member-lt (t .columns) (c .owed) k (f .owed) member))
       (has-without (c .owed) k i ∙ ap (λ (b : Bool). b && not (eqb i k)) (f .others))
 
@@ -160,7 +160,7 @@ module _ (t : Tree) (i : ℕ) (c : Column) (good : standing t i c ≡ 0) where
       let f = now in
       fits-passes t i _ (record {
         below = f .below;
-        send = single-lt (check-exact t .0 (standing-tree t i c good) .root-below);
+        send = single-lt (check-exact t .0 (validity-refusal-tree t i c good) .root-below);
         awaited = f .awaited;
         owed = f .owed;
         noted = f .noted;
@@ -248,27 +248,27 @@ module _ (t : Tree) (i : ℕ) (c : Column) (good : standing t i c ≡ 0) where
 module _ (t : Tree) (i : ℕ) (c : Column) where
   pub order-keeps : (doors : ℕ) → orderRefusal t i c ≡ 0 → Keeps t i (orderEffect t i c doors)
   unfolding orderRefusal
-  order-keeps doors z = order-kept t i c (earlier-none (standing t i c) _ z .0) doors
+  order-keeps doors z = order-kept t i c (earlier-none (validityRefusal t i c) _ z .0) doors
 
   pub send-keeps : sendRefusal t i c ≡ 0 → Keeps t i (sendEffect t i c)
   unfolding sendRefusal
-  send-keeps z = let q = earlier-none (standing t i c) _ z in send-kept t i c (q .0) (q .1)
+  send-keeps z = let q = earlier-none (validityRefusal t i c) _ z in send-kept t i c (q .0) (q .1)
 
   pub take-keeps : (p : Packet) → takeRefusal t i c p ≡ 0 → Keeps t i (takeEffect t i c p)
   unfolding takeRefusal
   take-keeps p z =
-      let q = earlier-none (standing t i c) _ z in
+      let q = earlier-none (validityRefusal t i c) _ z in
       let own = earlier-none (packetRefusal t p) _ (q .1) in
       take-kept t i c (q .0) p (own .0) (own .1)
 
   pub ack-keeps : ackRefusal t i c ≡ 0 → Keeps t i (ackEffect i c)
   unfolding ackRefusal
-  ack-keeps z = let q = earlier-none (standing t i c) _ z in ack-kept t i c (q .0) (q .1)
+  ack-keeps z = let q = earlier-none (validityRefusal t i c) _ z in ack-kept t i c (q .0) (q .1)
 
   pub all-keeps : allRefusal t i c ≡ 0 → Keeps t i (allEffect t c)
   unfolding allRefusal
-  all-keeps z = all-kept t i c (earlier-none (standing t i c) _ z .0)
+  all-keeps z = all-kept t i c (earlier-none (validityRefusal t i c) _ z .0)
 
   pub note-keeps : (j : ℕ) → noteRefusal t i c j ≡ 0 → Keeps t i (noteEffect t c j)
   unfolding noteRefusal
-  note-keeps j z = let q = earlier-none (standing t i c) _ z in note-kept t i c (q .0) j (q .1)
+  note-keeps j z = let q = earlier-none (validityRefusal t i c) _ z in note-kept t i c (q .0) j (q .1)

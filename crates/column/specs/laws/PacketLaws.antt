@@ -87,7 +87,7 @@ module _ (w : Width) where
   -- ---- what is read is written back, in any width
 
   -- what a reading says of the bytes
-  pub record Stands (s : List ℕ) (q : Part) : Type 0 where
+  pub record Valid (s : List ℕ) (q : Part) : Type 0 where
     pub first : bytesIn w (q .packet) ≡ take (q .used) s
     pub among : q .used ≤ length s
     pub ends : goodEnds (q .packet) ≡ true
@@ -131,11 +131,11 @@ module _ (w : Width) where
         let e : 3 + (k + doorsSize) ≡ 3 + k + doorsSize = omega arith in
         ap₂ (λ k t. k ∷ getD s 1 0 ∷ getD s 2 0 ∷ t) (sym (r .kind-is)) rest ∙ three (k + doorsSize) (omega arith) ∙ ap (λ k. take k s) e
 
-    pub write-read : (q : Part) → readIn w s ≡ given q → Stands s q
+    pub write-read : (q : Part) → readIn w s ≡ given q → Valid s q
     unfolding readIn
     write-read q e = message (starts-as _ _ _ _ _ _ e)
       where
-        acknowledgement : (StartsAs s (acknowledgementSize w) (w .acknowledgement) (acknowledgementIn w s) q) ⊎ (refused 12 ≡ given q) → Stands s q
+        acknowledgement : (StartsAs s (acknowledgementSize w) (w .acknowledgement) (acknowledgementIn w s) q) ⊎ (refused 12 ≡ given q) → Valid s q
         acknowledgement (inl r) =
             rw (← r .same)
             (record { first = acknowledgement-bytes r; among = r .size-is; ends = r .ends; fits = record { number = number-fits; doors = omega arith } })
@@ -143,7 +143,7 @@ module _ (w : Width) where
 
         message : (StartsAs s (messageSize w) (w .message) (messageIn w s) q)
             ⊎ (startsAs s (acknowledgementSize w) (w .acknowledgement) (acknowledgementIn w s) (refused 12) ≡ given q)
-            → Stands s q
+            → Valid s q
         message (inl r) =
             rw (← r .same)
             (record { first = message-bytes r; among = r .size-is; ends = r .ends; fits = record { number = number-fits; doors = doors-fit } })

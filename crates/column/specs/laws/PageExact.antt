@@ -12,7 +12,7 @@ use Rattle.column.specs.laws.Cases.{equal-cases}
 use Rattle.column.specs.Refusals.{given, refused}
 use Rattle.column.specs.Sets.{has, single, join, minus, without}
 use Rattle.column.specs.laws.SetLaws.{has-none, has-single, has-join, has-without-self, has-without-other, without-lt, member-lt, members-lt, ones-without}
-use Rattle.column.specs.Columns.{standing, fresh, withRegisters}
+use Rattle.column.specs.Columns.{validityRefusal, fresh, withRegisters}
 use Rattle.column.specs.Steps as step
 use Rattle.column.specs.Pages.{byteOf, readRefusal, readByte, writeRefusal, written, write}
 use Rattle.column.specs.declared.tree.Tree.{Tree}
@@ -112,38 +112,38 @@ fresh-clear t i = (refl, refl)
 
 -- ---- which offsets are refused: of a column that stands, running or halted, in any tree
 
-module _ (t : Tree) (i : ℕ) (c : Column) (good : standing t i c ≡ 0) where
+module _ (t : Tree) (i : ℕ) (c : Column) (good : validityRefusal t i c ≡ 0) where
   -- "22 for an offset above 7"
   pub read-above : (offset : ℕ) → 7 < offset → readByte t i c offset ≡ refused 22
   unfolding readRefusal
-  read-above offset h = rw (eq-eqb (standing t i c) 0 good, le-leb 8 offset h)
+  read-above offset h = rw (eq-eqb (validityRefusal t i c) 0 good, le-leb 8 offset h)
 
   -- and for no other
   pub read-within : (offset : ℕ) → offset ≤ 7 → readByte t i c offset ≡ given (byteOf i c offset)
   unfolding readRefusal
-  read-within offset h = rw (eq-eqb (standing t i c) 0 good, lt-leb 8 offset (omega (arith, h)))
+  read-within offset h = rw (eq-eqb (validityRefusal t i c) 0 good, lt-leb 8 offset (omega (arith, h)))
 
   -- "or a write elsewhere"
   pub write-elsewhere : (offset value : ℕ) → (offset ≡ 5 → ⊥) → (offset ≡ 7 → ⊥) → write t i c offset value ≡ step.refused 22 c
   unfolding writeRefusal
-  write-elsewhere offset value h k = rw (eq-eqb (standing t i c) 0 good, ne-eqb offset 5 h, ne-eqb offset 7 k)
+  write-elsewhere offset value h k = rw (eq-eqb (validityRefusal t i c) 0 good, ne-eqb offset 5 h, ne-eqb offset 7 k)
 
   -- "Only 5 and 7 can be written", and always: "Byte 5 keeps all eight bits written", "a write there clears the pending bits that are 1 in it", and all
   -- else that the column holds is as it was
   pub write-mask : (value : ℕ) → write t i c 5 value ≡ step.accepted (withRegisters c value (c .pending)) [] false
   unfolding writeRefusal written
-  write-mask value = rw (eq-eqb (standing t i c) 0 good)
+  write-mask value = rw (eq-eqb (validityRefusal t i c) 0 good)
 
   pub write-clear : (value : ℕ) → write t i c 7 value ≡ step.accepted (withRegisters c (c .mask) (minus (c .pending) value)) [] false
   unfolding writeRefusal written
-  write-clear value = rw (eq-eqb (standing t i c) 0 good)
+  write-clear value = rw (eq-eqb (validityRefusal t i c) 0 good)
 
 -- "after 4": of a column that does not stand, the same whatever the offset
-module _ (t : Tree) (i : ℕ) (c : Column) (bad : standing t i c ≡ 0 → ⊥) where
-  pub read-after : (offset : ℕ) → readByte t i c offset ≡ refused (standing t i c)
+module _ (t : Tree) (i : ℕ) (c : Column) (bad : validityRefusal t i c ≡ 0 → ⊥) where
+  pub read-after : (offset : ℕ) → readByte t i c offset ≡ refused (validityRefusal t i c)
   unfolding readRefusal
-  read-after offset = rw (ne-eqb (standing t i c) 0 bad, ne-eqb (standing t i c) 0 bad)
+  read-after offset = rw (ne-eqb (validityRefusal t i c) 0 bad, ne-eqb (validityRefusal t i c) 0 bad)
 
-  pub write-after : (offset value : ℕ) → write t i c offset value ≡ step.refused (standing t i c) c
+  pub write-after : (offset value : ℕ) → write t i c offset value ≡ step.refused (validityRefusal t i c) c
   unfolding writeRefusal
-  write-after offset value = rw (ne-eqb (standing t i c) 0 bad, ne-eqb (standing t i c) 0 bad)
+  write-after offset value = rw (ne-eqb (validityRefusal t i c) 0 bad, ne-eqb (validityRefusal t i c) 0 bad)

@@ -11,8 +11,8 @@ use Rattle.column.specs.laws.RefusalLaws.{passed, earlier-none}
 use Rattle.column.specs.Sets.{has, insert, minus, lowestIn}
 use Rattle.column.specs.laws.SetLaws.{has-and, has-insert, has-minus, member-pos}
 use Rattle.column.specs.laws.Digits.{lowest-member}
-use Rattle.column.specs.Columns.{standing, recordReceived, haltNoted, tookOver, pendingWith, withSets, withRegisters, plain}
-use Rattle.column.specs.laws.StateLaws.{standing-sound}
+use Rattle.column.specs.Columns.{validityRefusal, recordReceived, haltNoted, tookOver, pendingWith, withSets, withRegisters, plain}
+use Rattle.column.specs.laws.StateLaws.{validity-refusal-sound}
 use Rattle.column.specs.Trees.{choose}
 use Rattle.column.specs.Steps.{Result, accepted, refused, unless, orderRefusal, orderEffect, order, sendRefusal, sendEffect, send, takeRefusal, acknowledgementEffect, receiveEffect, messageEffect, takeEffect, take, ackRefusal, ackEffect, ack, allConditions, allRefusal, allEffect, all, noteConditions, noteRefusal, noteEffect, note, haltRefusal, haltEffect, halt}
 use Rattle.column.specs.Pages.{maskOffset, clearOffset, written, lineUp}
@@ -158,21 +158,21 @@ module _ (t : Tree) (i : ℕ) (c : Column) where
       tells-cond c (eqb k i) _ _ (λ _. steady c _ _ _) (λ _. tells-cond c (has (c .noted) k) _ _ (λ _. steady c _ _ _) (λ _. steady c _ _ _)))
 
   -- a record is received where a higher number is, and its packet not left in its place
-  message-tells : (from number doors : ℕ) → standing t i c ≡ 0 → TellsOf c (messageEffect t i c from number doors)
+  message-tells : (from number doors : ℕ) → validityRefusal t i c ≡ 0 → TellsOf c (messageEffect t i c from number doors)
   unfolding messageEffect receiveEffect
   message-tells from number doors good =
       tells-cond c (eqb number (c .number)) _ _ (λ _. steady c _ _ _) (λ other.
       tells-cond c (ltb number (c .number)) _ _ (λ _. unmoved c) (λ _.
       tells-cond c (eqb (c .owed) 0) _ _
       (λ _. raised c recordReceived _ (omega arith) refl refl (ap not other) (itself c (c .noted))
-      (none-and (eqb i (t .root)) (not (c .whole)) (λ root. ap not (standing-sound t i c good .root-whole (eqb-true i (t .root) root)))))
+      (none-and (eqb i (t .root)) (not (c .whole)) (λ root. ap not (validity-refusal-sound t i c good .root-whole (eqb-true i (t .root) root)))))
       (λ _. steady c _ _ _)))
 
   pub take-tells : (p : Packet) → TellsOf c (take t i c p)
   unfolding takeRefusal acknowledgementEffect
-  take-tells p = tells-unless c (takeRefusal t i c p) _ (λ e. go p (earlier-none (standing t i c) _ e .0))
+  take-tells p = tells-unless c (takeRefusal t i c p) _ (λ e. go p (earlier-none (validityRefusal t i c) _ e .0))
     where
-      go : (p : Packet) → standing t i c ≡ 0 → TellsOf c (takeEffect t i c p)
+      go : (p : Packet) → validityRefusal t i c ≡ 0 → TellsOf c (takeEffect t i c p)
       go (Message from to number doors) good = message-tells from number doors good
       go (Acknowledgement from to number) good = tells-cond c (eqb number (c .number)) _ _ (λ _. steady c _ _ _) (λ _. unmoved c)
 
@@ -184,14 +184,14 @@ module _ (t : Tree) (i : ℕ) (c : Column) where
   pub all-tells : TellsOf c (all t i c)
   unfolding allRefusal allEffect
   all-tells = tells-unless c (allRefusal t i c) _ (λ e.
-      let z = passed (allConditions t i c) tt (earlier-none (standing t i c) _ e .1) in
+      let z = passed (allConditions t i c) tt (earlier-none (validityRefusal t i c) _ e .1) in
       raised c tookOver _ (omega arith) refl refl (itself c (c .number)) (itself c (c .noted)) (ap not (z .1 .1 .1 .0)))
 
   -- "bit 1 a halt noted"
   pub note-tells : (j : ℕ) → TellsOf c (note t i c j)
   unfolding noteRefusal noteEffect
   note-tells j = tells-unless c (noteRefusal t i c j) _ (λ e.
-      let z = passed (noteConditions t i c j) tt (earlier-none (standing t i c) _ e .1) in
+      let z = passed (noteConditions t i c j) tt (earlier-none (validityRefusal t i c) _ e .1) in
       raised c haltNoted _ (omega arith) refl refl (itself c (c .number)) (ap not (ne-eqb (insert (c .noted) j) (c .noted) (others (z .1 .1 .1 .0)))) (never (c .whole)))
     where
       others : has (c .noted) j ≡ false → insert (c .noted) j ≡ c .noted → ⊥

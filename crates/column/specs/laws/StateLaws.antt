@@ -18,7 +18,7 @@ use Rattle.column.specs.laws.TreeLaws.{tree-sixteen}
 use Rattle.column.specs.laws.Digits.{lowest-lt}
 use Rattle.column.specs.laws.ChoiceLaws.{choose-lt}
 use Rattle.column.specs.Packets.{isMessage, sender, receiver}
-use Rattle.column.specs.Columns.{stateConditions, stateRefusal, standing}
+use Rattle.column.specs.Columns.{stateConditions, stateRefusal, validityRefusal}
 use Rattle.column.specs.Steps.{packetConditions, packetRefusal, orderRefusal, takeRefusal, noteRefusal}
 use Rattle.column.specs.declared.tree.Tree.{Tree}
 use Rattle.column.specs.declared.state.Column.{Column}
@@ -146,50 +146,50 @@ acceptable-passes t p a =
 
 -- ---- the steps' own conditions of row 4
 
-module _ (t : Tree) (i : ℕ) (c : Column) (good : standing t i c ≡ 0) where
+module _ (t : Tree) (i : ℕ) (c : Column) (good : validityRefusal t i c ≡ 0) where
   -- "an order to a lone core that isn't the root"
   pub order-elsewhere : (i ≡ t .root → ⊥) → orderRefusal t i c ≡ 4
   unfolding orderRefusal
-  order-elsewhere n = rw (eq-eqb (standing t i c) 0 good, ne-eqb i (t .root) n)
+  order-elsewhere n = rw (eq-eqb (validityRefusal t i c) 0 good, ne-eqb i (t .root) n)
 
   -- "another addressee than the lone core it is given to"
   pub take-elsewhere : (p : Packet) → packetRefusal t p ≡ 0 → (receiver p ≡ i → ⊥) → takeRefusal t i c p ≡ 4
   unfolding takeRefusal
-  take-elsewhere p e n = rw (eq-eqb (standing t i c) 0 good, eq-eqb (packetRefusal t p) 0 e, ne-eqb (receiver p) i n)
+  take-elsewhere p e n = rw (eq-eqb (validityRefusal t i c) 0 good, eq-eqb (packetRefusal t p) 0 e, ne-eqb (receiver p) i n)
 
   -- "column not below columns (both are tested in note)"
   pub note-beyond : (j : ℕ) → t .columns ≤ j → noteRefusal t i c j ≡ 4
   unfolding noteRefusal
-  note-beyond j h = rw (eq-eqb (standing t i c) 0 good, le-leb (t .columns) j h)
+  note-beyond j h = rw (eq-eqb (validityRefusal t i c) 0 good, le-leb (t .columns) j h)
 
-  pub standing-tree : treeRefusal t ≡ 0
-  standing-tree = earlier-none (treeRefusal t) (stateRefusal t i c) good .0
+  pub validity-refusal-tree : treeRefusal t ≡ 0
+  validity-refusal-tree = earlier-none (treeRefusal t) (stateRefusal t i c) good .0
 
-  pub standing-sound : Sound t i c
-  standing-sound = sound t i c (earlier-none (treeRefusal t) (stateRefusal t i c) good .1)
+  pub validity-refusal-sound : Sound t i c
+  validity-refusal-sound = sound t i c (earlier-none (treeRefusal t) (stateRefusal t i c) good .1)
 
-  pub standing-sixteen : t .columns ≤ 16
-  standing-sixteen = tree-sixteen t standing-tree
+  pub validity-refusal-sixteen : t .columns ≤ 16
+  validity-refusal-sixteen = tree-sixteen t validity-refusal-tree
 
-  pub standing-column : i < 16
-  standing-column = omega (arith, standing-sixteen, standing-sound .below)
+  pub validity-refusal-column : i < 16
+  validity-refusal-column = omega (arith, validity-refusal-sixteen, validity-refusal-sound .below)
 
-  pub standing-send : c .send < 2 ^ t .columns
+  pub validity-refusal-send : c .send < 2 ^ t .columns
   unfolding stateRefusal
-  standing-send =
+  validity-refusal-send =
       let p = passed (stateConditions t i c) tt (earlier-none (treeRefusal t) (stateRefusal t i c) good .1) in
       within-lt (c .send) (t .columns) (not-false (within (c .send) (t .columns)) (p .1 .0))
 
   -- the one that a send serves
-  pub standing-choice : 0 < c .send → choose t (c .send) < 16
-  standing-choice some = omega (arith, standing-sixteen, choose-lt t standing-tree (c .send) standing-send some)
+  pub validity-refusal-choice : 0 < c .send → choose t (c .send) < 16
+  validity-refusal-choice some = omega (arith, validity-refusal-sixteen, choose-lt t validity-refusal-tree (c .send) validity-refusal-send some)
 
-  pub standing-owed : c .owed < 2 ^ t .columns
+  pub validity-refusal-owed : c .owed < 2 ^ t .columns
   unfolding stateRefusal
-  standing-owed =
+  validity-refusal-owed =
       let p = passed (stateConditions t i c) tt (earlier-none (treeRefusal t) (stateRefusal t i c) good .1) in
       within-lt (c .owed) (t .columns) (not-false (within (c .owed) (t .columns)) (p .1 .1 .1 .0))
 
   -- the one that an acknowledgement is for
-  pub standing-lowest : 0 < c .owed → lowest (c .owed) < 16
-  standing-lowest some = lowest-lt 16 (c .owed) (lt-of-lt-of-le standing-owed (pow-mono standing-sixteen)) some
+  pub validity-refusal-lowest : 0 < c .owed → lowest (c .owed) < 16
+  validity-refusal-lowest some = lowest-lt 16 (c .owed) (lt-of-lt-of-le validity-refusal-owed (pow-mono validity-refusal-sixteen)) some

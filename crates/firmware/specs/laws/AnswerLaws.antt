@@ -10,13 +10,13 @@ use lib.ListN.{length, take, drop}
 use borrow.Author.Tests.{eqb-true}
 use Rattle.column.specs.laws.RefusalLaws.{earlier-none}
 use Rattle.column.specs.Refusals.{Given, given, refused}
-use Rattle.column.specs.Columns.{standing, freshGiven}
+use Rattle.column.specs.Columns.{validityRefusal, freshGiven}
 use Rattle.column.specs.Packets.{numberOf, lowValue, narrow, wide, bytesIn, Part, Wrote, wrote, wroteNone, read, write}
 use Rattle.column.specs.laws.PacketLaws.{read-used, length-bytes, write-length}
 use Rattle.column.specs.laws.NumberLaws.{Bytes}
 use Rattle.column.specs.Frames.{framePackets, prefixed, followed, packetsIn, readFrame}
 use Rattle.column.specs.Conversions.{narrowHighest, aloneIn, widened, narrowed, convert}
-use Rattle.column.specs.laws.StateLaws.{standing-column}
+use Rattle.column.specs.laws.StateLaws.{validity-refusal-column}
 use Rattle.column.specs.Steps as core
 use Rattle.column.specs.declared.state.Column.{Column}
 use Rattle.column.specs.declared.packet.Packet.{Packet}
@@ -115,7 +115,7 @@ module _ (tree : List ℕ) (i : ℕ) (column old : List ℕ) (bytes : Bytes colu
 
   each : (b : Bool) → eqb n 0 ≡ b → Told (listLeft (cond b (placed old 0 (listText i c)) (record { answer = refused n; buffer = old }))) old
   unfolding placed
-  each true e = fit (standing-column (treeIn tree) i c (earlier-none (standing (treeIn tree) i c) _ (eqb-true n 0 e) .0)) (leb (0 + length (listText i c)) (length old))
+  each true e = fit (validity-refusal-column (treeIn tree) i c (earlier-none (validityRefusal (treeIn tree) i c) _ (eqb-true n 0 e) .0)) (leb (0 + length (listText i c)) (length old))
   each false e = inr (n, refl)
 
   pub list-told : Told (listCall tree i column old) old

@@ -13,7 +13,7 @@ use Rattle.column.specs.Packets.{Part, read, padded}
 use Rattle.column.specs.Pages as page
 use Rattle.column.specs.Steps as core
 use Rattle.column.specs.Sets.{minus}
-use Rattle.column.specs.Columns.{standing, withRegisters}
+use Rattle.column.specs.Columns.{validityRefusal, withRegisters}
 use Rattle.column.specs.laws.PageExact.{read-above, read-within, write-elsewhere, write-mask, write-clear}
 use Rattle.column.specs.declared.tree.Tree.{Tree}
 use Rattle.column.specs.declared.state.Column.{Column}
@@ -93,7 +93,7 @@ pub joined-part : (old w : List ℕ) (at n : ℕ) → length w ≡ n → take at
 unfolding written
 joined-part old w at n e = rw (← e, drop-drop (length w) at old)
 
-module _ (tree : List ℕ) (i : ℕ) (column : List ℕ) (good : standing (treeIn tree) i (columnIn column) ≡ 0) where
+module _ (tree : List ℕ) (i : ℕ) (column : List ℕ) (good : validityRefusal (treeIn tree) i (columnIn column) ≡ 0) where
   abbrev here : Column
   here = columnIn column
 

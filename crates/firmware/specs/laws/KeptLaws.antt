@@ -15,11 +15,11 @@ use Rattle.column.specs.laws.SetLaws.{single-lt, join-lt, insert-lt, without-lt
 use Rattle.column.specs.laws.Digits.{lowest-lt}
 use Rattle.column.specs.Trees.{isChild, children, choose}
 use Rattle.column.specs.laws.TreeLaws.{tree-root}
-use Rattle.column.specs.Columns.{highest, standing, withSets, withRegisters}
+use Rattle.column.specs.Columns.{highest, validityRefusal, withSets, withRegisters}
 use Rattle.column.specs.Packets.{Part, wide, doorsSize, lowValue, read}
 use Rattle.column.specs.laws.PacketLaws.{Fits, write-read}
 use Rattle.column.specs.laws.NumberLaws.{Bytes, low-value-lt}
-use Rattle.column.specs.laws.StateLaws.{Masks, acceptable, standing-tree, standing-sixteen, standing-choice}
+use Rattle.column.specs.laws.StateLaws.{Masks, acceptable, validity-refusal-tree, validity-refusal-sixteen, validity-refusal-choice}
 use Rattle.column.specs.Pages.{maskOffset, clearOffset, writeRefusal, written, write}
 use Rattle.column.specs.Steps.{sendConditions, sendRefusal, sendEffect, ackConditions, ackRefusal, ackEffect, acknowledgeLowest, packetRefusal, takeConditions, takeRefusal, messageEffect, receiveEffect, acknowledgementEffect, orderConditions, orderRefusal, orderEffect, allConditions, allRefusal, allEffect, noteConditions, noteRefusal, noteEffect, haltRefusal, haltEffect}
 use Rattle.column.specs.Steps as core
@@ -63,8 +63,8 @@ module _ (t : Tree) (i : ℕ) (c : Column) (f : ColumnFits c) where
   sets-fit : (s a o : ℕ) → s < 2 ^ 16 → a < 2 ^ 16 → o < 2 ^ 16 → ColumnFits (withSets c s a o)
   sets-fit s a o hs ha ho = record { doors = f .doors; number = f .number; send = hs; awaited = ha; owed = ho; noted = f .noted; sender = f .sender }
 
-  children-fit : standing t i c ≡ 0 → (k : ℕ) → children t k < 2 ^ 16
-  children-fit good k = selected-lt (isChild t k) (t .columns) 16 (standing-sixteen t i c good)
+  children-fit : validityRefusal t i c ≡ 0 → (k : ℕ) → children t k < 2 ^ 16
+  children-fit good k = selected-lt (isChild t k) (t .columns) 16 (validity-refusal-sixteen t i c good)
 
   lowest-fits : 0 < c .owed → (left : Bool) → ColumnFits (after c (acknowledgeLowest i c left))
   lowest-fits some left =
@@ -72,9 +72,9 @@ module _ (t : Tree) (i : ℕ) (c : Column) (f : ColumnFits c) where
 
   order-fits : (doors : ℕ) → doors < 256 ^ doorsSize → ColumnFits (after c (core.order t i c doors))
   unfolding orderRefusal orderEffect
-  order-fits doors h = unless-fits c (orderRefusal t i c) (orderEffect t i c doors) f (λ z. go (earlier-none (standing t i c) (first (orderConditions t i c)) z))
+  order-fits doors h = unless-fits c (orderRefusal t i c) (orderEffect t i c doors) f (λ z. go (earlier-none (validityRefusal t i c) (first (orderConditions t i c)) z))
     where
-      go : (standing t i c ≡ 0) × (first (orderConditions t i c) ≡ 0) → ColumnFits (after c (orderEffect t i c doors))
+      go : (validityRefusal t i c ≡ 0) × (first (orderConditions t i c) ≡ 0) → ColumnFits (after c (orderEffect t i c doors))
       go e =
           let more = eqb-false (c .number) highest (passed (orderConditions t i c) tt (e .1) .1 .1 .1 .1 .0) in
           record {
@@ -89,12 +89,12 @@ module _ (t : Tree) (i : ℕ) (c : Column) (f : ColumnFits c) where
 
   send-fits : ColumnFits (after c (core.send t i c))
   unfolding sendRefusal sendEffect
-  send-fits = unless-fits c (sendRefusal t i c) (sendEffect t i c) f (λ z. go (earlier-none (standing t i c) (first (sendConditions t i c)) z))
+  send-fits = unless-fits c (sendRefusal t i c) (sendEffect t i c) f (λ z. go (earlier-none (validityRefusal t i c) (first (sendConditions t i c)) z))
     where
-      go : (standing t i c ≡ 0) × (first (sendConditions t i c) ≡ 0) → ColumnFits (after c (sendEffect t i c))
+      go : (validityRefusal t i c ≡ 0) × (first (sendConditions t i c) ≡ 0) → ColumnFits (after c (sendEffect t i c))
       go e =
           let k = choose t (c .send) in
-          let below = standing-choice t i c (e .0) (some-of (c .send) (passed (sendConditions t i c) tt (e .1) .1 .0)) in
+          let below = validity-refusal-choice t i c (e .0) (some-of (c .send) (passed (sendConditions t i c) tt (e .1) .1 .0)) in
           let rest : without (c .send) k < 2 ^ 16 = without-lt 16 (c .send) k (f .send) below in
           cond-fits c (eqb k i) _ _ (sets-fit _ _ _ rest (f .awaited) (f .owed))
           (cond-fits c (has (c .noted) k) _ _ (sets-fit _ _ _ (join-lt 16 _ _ rest (children-fit (e .0) k)) (f .awaited) (f .owed))
@@ -103,19 +103,19 @@ module _ (t : Tree) (i : ℕ) (c : Column) (f : ColumnFits c) where
   take-fits : (p : Packet) → Fits wide p → ColumnFits (after c (core.take t i c p))
   unfolding takeRefusal messageEffect receiveEffect acknowledgementEffect
   take-fits (Acknowledgement from to number) g =
-      unless-fits c (takeRefusal t i c (Acknowledgement from to number)) (acknowledgementEffect c from number) f (λ z. go (earlier-none (standing t i c) _ z))
+      unless-fits c (takeRefusal t i c (Acknowledgement from to number)) (acknowledgementEffect c from number) f (λ z. go (earlier-none (validityRefusal t i c) _ z))
     where
-      go : (standing t i c ≡ 0) × (earlier (packetRefusal t (Acknowledgement from to number)) (first (takeConditions t i c (Acknowledgement from to number))) ≡ 0)
+      go : (validityRefusal t i c ≡ 0) × (earlier (packetRefusal t (Acknowledgement from to number)) (first (takeConditions t i c (Acknowledgement from to number))) ≡ 0)
           → ColumnFits (after c (acknowledgementEffect c from number))
       go e =
           let a = acceptable t (Acknowledgement from to number) (earlier-none (packetRefusal t (Acknowledgement from to number)) _ (e .1) .0) in
           cond-fits c (eqb number (c .number)) _ _
-          (sets-fit _ _ _ (f .send) (without-lt 16 (c .awaited) from (f .awaited) (omega (arith, a .sender-below, standing-sixteen t i c (e .0)))) (f .owed))
+          (sets-fit _ _ _ (f .send) (without-lt 16 (c .awaited) from (f .awaited) (omega (arith, a .sender-below, validity-refusal-sixteen t i c (e .0)))) (f .owed))
           f
   take-fits (Message from to number doors) g =
-      unless-fits c (takeRefusal t i c (Message from to number doors)) (messageEffect t i c from number doors) f (λ z. go (earlier-none (standing t i c) _ z))
+      unless-fits c (takeRefusal t i c (Message from to number doors)) (messageEffect t i c from number doors) f (λ z. go (earlier-none (validityRefusal t i c) _ z))
     where
-      higher : standing t i c ≡ 0 → from < 16 → (b : Bool) → eqb (c .owed) 0 ≡ b
+      higher : validityRefusal t i c ≡ 0 → from < 16 → (b : Bool) → eqb (c .owed) 0 ≡ b
           → ColumnFits (after c (cond b (receiveEffect t i c from number doors) (acknowledgeLowest i c true)))
       higher good h true e = record {
         doors = g .doors;
@@ -128,30 +128,30 @@ module _ (t : Tree) (i : ℕ) (c : Column) (f : ColumnFits c) where
       }
       higher good h false e = lowest-fits (some-of (c .owed) e) true
 
-      go : (standing t i c ≡ 0) × (earlier (packetRefusal t (Message from to number doors)) (first (takeConditions t i c (Message from to number doors))) ≡ 0)
+      go : (validityRefusal t i c ≡ 0) × (earlier (packetRefusal t (Message from to number doors)) (first (takeConditions t i c (Message from to number doors))) ≡ 0)
           → ColumnFits (after c (messageEffect t i c from number doors))
       go e =
           let a = acceptable t (Message from to number doors) (earlier-none (packetRefusal t (Message from to number doors)) _ (e .1) .0) in
-          let below : from < 16 = omega (arith, a .sender-below, standing-sixteen t i c (e .0)) in
+          let below : from < 16 = omega (arith, a .sender-below, validity-refusal-sixteen t i c (e .0)) in
           cond-fits c (eqb number (c .number)) _ _ (sets-fit _ _ _ (f .send) (f .awaited) (insert-lt 16 (c .owed) from (f .owed) below))
           (cond-fits c (ltb number (c .number)) _ _ f (higher (e .0) below (eqb (c .owed) 0) refl))
 
   ack-fits : ColumnFits (after c (core.ack t i c))
   unfolding ackRefusal ackEffect
-  ack-fits = unless-fits c (ackRefusal t i c) (ackEffect i c) f (λ z. go (earlier-none (standing t i c) (first (ackConditions t i c)) z))
+  ack-fits = unless-fits c (ackRefusal t i c) (ackEffect i c) f (λ z. go (earlier-none (validityRefusal t i c) (first (ackConditions t i c)) z))
     where
-      go : (standing t i c ≡ 0) × (first (ackConditions t i c) ≡ 0) → ColumnFits (after c (ackEffect i c))
+      go : (validityRefusal t i c ≡ 0) × (first (ackConditions t i c) ≡ 0) → ColumnFits (after c (ackEffect i c))
       go e = lowest-fits (some-of (c .owed) (passed (ackConditions t i c) tt (e .1) .1 .0)) false
 
   all-fits : ColumnFits (after c (core.all t i c))
   unfolding allRefusal allEffect
-  all-fits = unless-fits c (allRefusal t i c) (allEffect t c) f (λ z. go (earlier-none (standing t i c) (first (allConditions t i c)) z))
+  all-fits = unless-fits c (allRefusal t i c) (allEffect t c) f (λ z. go (earlier-none (validityRefusal t i c) (first (allConditions t i c)) z))
     where
-      go : (standing t i c ≡ 0) × (first (allConditions t i c) ≡ 0) → ColumnFits (after c (allEffect t c))
+      go : (validityRefusal t i c ≡ 0) × (first (allConditions t i c) ≡ 0) → ColumnFits (after c (allEffect t c))
       go e = record {
         doors = f .doors;
         number = f .number;
-        send = single-lt (tree-root t (standing-tree t i c (e .0)));
+        send = single-lt (tree-root t (validity-refusal-tree t i c (e .0)));
         awaited = f .awaited;
         owed = f .owed;
         noted = f .noted;
@@ -160,12 +160,12 @@ module _ (t : Tree) (i : ℕ) (c : Column) (f : ColumnFits c) where
 
   note-fits : (j : ℕ) → ColumnFits (after c (core.note t i c j))
   unfolding noteRefusal noteEffect
-  note-fits j = unless-fits c (noteRefusal t i c j) (noteEffect t c j) f (λ z. go (earlier-none (standing t i c) (first (noteConditions t i c j)) z))
+  note-fits j = unless-fits c (noteRefusal t i c j) (noteEffect t c j) f (λ z. go (earlier-none (validityRefusal t i c) (first (noteConditions t i c j)) z))
     where
-      go : (standing t i c ≡ 0) × (first (noteConditions t i c j) ≡ 0) → ColumnFits (after c (noteEffect t c j))
+      go : (validityRefusal t i c ≡ 0) × (first (noteConditions t i c j) ≡ 0) → ColumnFits (after c (noteEffect t c j))
       go e =
           let known = leb-false (t .columns) j (passed (noteConditions t i c j) tt (e .1) .0) in
-          let below : j < 16 = omega (arith, known, standing-sixteen t i c (e .0)) in
+          let below : j < 16 = omega (arith, known, validity-refusal-sixteen t i c (e .0)) in
           record {
             doors = f .doors;
             number = f .number;

@@ -14,11 +14,11 @@ use Rattle.column.specs.Sets.{has, lowest}
 use Rattle.column.specs.laws.Digits.{lowest-member}
 use Rattle.column.specs.Trees.{choose}
 use Rattle.column.specs.laws.ChoiceLaws.{choose-lt}
-use Rattle.column.specs.Columns.{standing}
+use Rattle.column.specs.Columns.{validityRefusal}
 use Rattle.column.specs.Packets.{goodEnds, bytesOf, padded}
 use Rattle.column.specs.laws.PacketLaws.{write-good, ends-good}
 use Rattle.column.specs.laws.NumberLaws.{Bytes}
-use Rattle.column.specs.laws.StateLaws.{Masks, acceptable, standing-tree, standing-sound, standing-sixteen, standing-column, standing-send}
+use Rattle.column.specs.laws.StateLaws.{Masks, acceptable, validity-refusal-tree, validity-refusal-sound, validity-refusal-sixteen, validity-refusal-column, validity-refusal-send}
 use Rattle.column.specs.Pages.{writeRefusal, written, write}
 use Rattle.column.specs.Steps.{sendConditions, sendRefusal, sendEffect, ackConditions, ackRefusal, ackEffect, acknowledgeLowest, packetRefusal, takeConditions, takeRefusal, messageEffect, receiveEffect, acknowledgementEffect, orderEffect, allEffect, noteEffect, haltEffect}
 use Rattle.column.specs.Steps as core
@@ -59,17 +59,17 @@ some-of zero e = absurd (eqb-false 0 0 e refl)
 some-of (suc n) e = omega arith
 
 module _ (t : Tree) (i : ℕ) (c : Column) where
-  lowest-writable : standing t i c ≡ 0 → c .owed < 2 ^ 16 → 0 < c .owed → (left : Bool) → Writable (acknowledgeLowest i c left)
+  lowest-writable : validityRefusal t i c ≡ 0 → c .owed < 2 ^ 16 → 0 < c .owed → (left : Bool) → Writable (acknowledgeLowest i c left)
   lowest-writable good h some left =
-      let s = standing-sound t i c good in
+      let s = validity-refusal-sound t i c good in
       let k = lowest (c .owed) in
       let m = lowest-member 16 (c .owed) h some in
-      ends-good (Acknowledgement i k (c .number)) (standing-column t i c good) (omega (arith, s .owed-below k m, standing-sixteen t i c good))
+      ends-good (Acknowledgement i k (c .number)) (validity-refusal-column t i c good) (omega (arith, s .owed-below k m, validity-refusal-sixteen t i c good))
       (λ e. true≢false (sym m ∙ ap (has (c .owed)) (sym e) ∙ s .owes-others))
 
   pub send-writable : Writable (core.send t i c)
   unfolding sendRefusal sendEffect
-  send-writable = unless-writable (sendRefusal t i c) c (sendEffect t i c) (λ z. go (earlier-none (standing t i c) (first (sendConditions t i c)) z))
+  send-writable = unless-writable (sendRefusal t i c) c (sendEffect t i c) (λ z. go (earlier-none (validityRefusal t i c) (first (sendConditions t i c)) z))
     where
       each : (k n d : ℕ) (x y z : Column) (a b : Bool) → i < 16 → k < 16 → eqb k i ≡ a
           → Writable (cond a (core.accepted x [] false) (cond b (core.accepted y [] false) (core.accepted z (Message i k n d ∷ []) false)))
@@ -77,18 +77,18 @@ module _ (t : Tree) (i : ℕ) (c : Column) where
       each k n d x y z false true h l e = tt
       each k n d x y z false false h l e = ends-good (Message i k n d) h l (λ q. eqb-false k i e (sym q))
 
-      go : (standing t i c ≡ 0) × (first (sendConditions t i c) ≡ 0) → Writable (sendEffect t i c)
+      go : (validityRefusal t i c ≡ 0) × (first (sendConditions t i c) ≡ 0) → Writable (sendEffect t i c)
       go e =
           let some = some-of (c .send) (passed (sendConditions t i c) tt (e .1) .1 .0) in
-          let below = choose-lt t (standing-tree t i c (e .0)) (c .send) (standing-send t i c (e .0)) some in
+          let below = choose-lt t (validity-refusal-tree t i c (e .0)) (c .send) (validity-refusal-send t i c (e .0)) some in
           each (choose t (c .send)) (c .number) (c .doors) _ _ _ (eqb (choose t (c .send)) i) (has (c .noted) (choose t (c .send)))
-          (standing-column t i c (e .0)) (omega (arith, below, standing-sixteen t i c (e .0))) refl
+          (validity-refusal-column t i c (e .0)) (omega (arith, below, validity-refusal-sixteen t i c (e .0))) refl
 
   pub ack-writable : Masks c → Writable (core.ack t i c)
   unfolding ackRefusal ackEffect
-  ack-writable m = unless-writable (ackRefusal t i c) c (ackEffect i c) (λ z. go (earlier-none (standing t i c) (first (ackConditions t i c)) z))
+  ack-writable m = unless-writable (ackRefusal t i c) c (ackEffect i c) (λ z. go (earlier-none (validityRefusal t i c) (first (ackConditions t i c)) z))
     where
-      go : (standing t i c ≡ 0) × (first (ackConditions t i c) ≡ 0) → Writable (ackEffect i c)
+      go : (validityRefusal t i c ≡ 0) × (first (ackConditions t i c) ≡ 0) → Writable (ackEffect i c)
       go e = lowest-writable (e .0) (m .owed) (some-of (c .owed) (passed (ackConditions t i c) tt (e .1) .1 .0)) false
 
   pub take-writable : Masks c → (p : Packet) → Writable (core.take t i c p)
@@ -100,16 +100,16 @@ module _ (t : Tree) (i : ℕ) (c : Column) where
       each x y true = tt
       each x y false = tt
   take-writable m (Message from to number doors) =
-      unless-writable (takeRefusal t i c (Message from to number doors)) c (messageEffect t i c from number doors) (λ z. go (earlier-none (standing t i c) _ z))
+      unless-writable (takeRefusal t i c (Message from to number doors)) c (messageEffect t i c from number doors) (λ z. go (earlier-none (validityRefusal t i c) _ z))
     where
-      each : (x y : Column) (a b d : Bool) → standing t i c ≡ 0 → eqb (c .owed) 0 ≡ d → goodEnds (Acknowledgement i from number) ≡ true
+      each : (x y : Column) (a b d : Bool) → validityRefusal t i c ≡ 0 → eqb (c .owed) 0 ≡ d → goodEnds (Acknowledgement i from number) ≡ true
           → Writable (cond a (core.accepted x [] false) (cond b (core.accepted c (Acknowledgement i from number ∷ []) false) (cond d (core.accepted y [] false) (acknowledgeLowest i c true))))
       each x y true b d good e g = tt
       each x y false true d good e g = g
       each x y false false true good e g = tt
       each x y false false false good e g = lowest-writable good (m .owed) (some-of (c .owed) e) true
 
-      go : (standing t i c ≡ 0) × (earlier (packetRefusal t (Message from to number doors)) (first (takeConditions t i c (Message from to number doors))) ≡ 0)
+      go : (validityRefusal t i c ≡ 0) × (earlier (packetRefusal t (Message from to number doors)) (first (takeConditions t i c (Message from to number doors))) ≡ 0)
           → Writable (messageEffect t i c from number doors)
       go e =
           let p = Message from to number doors in
@@ -117,7 +117,7 @@ module _ (t : Tree) (i : ℕ) (c : Column) where
           let a = acceptable t p (rest .0) in
           let own : to ≡ i = eqb-true to i (not-false (eqb to i) (passed (takeConditions t i c p) tt (rest .1) .0)) in
           each _ _ (eqb number (c .number)) (ltb number (c .number)) (eqb (c .owed) 0) (e .0) refl
-          (ends-good (Acknowledgement i from number) (standing-column t i c (e .0)) (omega (arith, a .sender-below, standing-sixteen t i c (e .0))) (λ q. a .apart (sym q ∙ sym own)))
+          (ends-good (Acknowledgement i from number) (validity-refusal-column t i c (e .0)) (omega (arith, a .sender-below, validity-refusal-sixteen t i c (e .0))) (λ q. a .apart (sym q ∙ sym own)))
 
   -- the other steps put nothing
   pub order-writable : (doors : ℕ) → Writable (core.order t i c doors)

@@ -107,7 +107,7 @@ none-some e = let z : _≡_ {A = ℕ} 0 1 = cc in omega arith
 -- the first line of a text, and the lines after it
 record First (most owner : ℕ) (s : List ℕ) (e : Entry) (l : List Entry) : Type 0 where
   inside : length (e .text) ≤ length s
-  stands : take (length (e .text)) s ≡ e .text
+  valid : take (length (e .text)) s ≡ e .text
   after : entriesIn most owner (drop (length (e .text)) s) ≡ given l
 
 first-line : (most owner : ℕ) (s : List ℕ) (e : Entry) (l : List Entry) → length s ≤ most → entriesIn most owner s ≡ given (e ∷ l) → First most owner s e l
@@ -124,7 +124,7 @@ first-line (suc most) owner (b ∷ s) e l h f = go (cut (b ∷ s)) refl f
         let later : rest ≡ drop (length (text ++ (newline ∷ []))) (b ∷ s) = z .1 ∙ ap (λ (i : ℕ). drop i (b ∷ s)) n in
         subst (λ (y : Entry). First (suc most) owner (b ∷ s) y l) d (record {
           inside = omega (arith, n, z .0);
-          stands = ap (λ (i : ℕ). take i (b ∷ s)) (sym n) ∙ cut-text (b ∷ s) text rest q;
+          valid = ap (λ (i : ℕ). take i (b ∷ s)) (sym n) ∙ cut-text (b ∷ s) text rest q;
           after = ap (entriesIn (suc most) owner) (sym later) ∙ entries-enough (suc most) most owner rest (omega (arith, z .0, h)) (omega (arith, z .0, h)) ∙ g;
         })
 
@@ -173,7 +173,7 @@ went {a} {s} {keys} {sizes} {i} {at} w h = go (w .left) (w .lines) (w .words) (w
           };
           first-then = λ b theirs. ap (λ (r : Given (List Entry)). missingBy a b theirs (entriesGiven r)) f
               ∙ ap₂ (λ (j : ℕ) (t : List ℕ). cond (missedKey a b theirs j) t [] ++ missingBy a b theirs l) (sym (ks .0))
-              (sym (z .stands) ∙ ap (λ (j : ℕ). take j (drop at s)) size)
+              (sym (z .valid) ∙ ap (λ (j : ℕ). take j (drop at s)) size)
               ∙ ap (λ (r : Given (List Entry)). cond (missedKey a b theirs (getD keys i 0)) (take (at + getD sizes i 0 - at) (drop at s)) [] ++ missingBy a b theirs (entriesGiven r)) (sym later);
         }
 

@@ -18,15 +18,15 @@ use Rattle.column.specs.declared.tree.Tree.{Tree}
 use Rattle.column.specs.declared.state.Column.{Column}
 use Rattle.bank.specs.Banks.{State, state, columnAt, capacity, freshBank, bankRefusal}
 use Rattle.bank.specs.Networks.{puts}
-use Rattle.bank.specs.laws.StandingLaws.{fresh-at, fresh-stands, acting-passes}
-use Rattle.bank.specs.laws.ChangeLaws.{stands-at}
-use Rattle.bank.specs.Steps.{Outcome, accepted, refused, after, answered, outcome, unless, fresh, fitting, settled, acted, order, halt}
+use Rattle.bank.specs.laws.ValidityLaws.{fresh-at, fresh-valid, acting-passes}
+use Rattle.bank.specs.laws.ChangeLaws.{valid-at}
+use Rattle.bank.specs.Steps.{Result, accepted, refused, after, answered, outcomeMeant, unless, fresh, fitting, settled, acted, order, halt}
 use Rattle.bank.specs.Performs.{perform}
 use Rattle.bank.specs.Dispatch.{turn, onward, dispatch, dispatchOutcome, Dispatches}
 use Rattle.bank.specs.laws.Places.{tree-kept}
 use Rattle.bank.specs.declared.bank.Answer.{Answer}
 use Rattle.bank.specs.declared.bank.Answer.the-variants.{Done, Refused}
-use Rattle.bank.specs.declared.bank.Result.{Result}
+use Rattle.bank.specs.declared.bank.Outcome.{Outcome}
 use Rattle.bank.specs.declared.dispatch.Dispatched.{Dispatched}
 use Rattle.bank.specs.declared.bank.Step.the-variants.{Order, Halt}
 use Rattle.losses.specs.Losses.{mostColumns, lossesConditions, lossesRefusal, ordered, begun, toRest, ended, oneIf, counted, countedOf, refusedLosses, lossesOf}
@@ -45,18 +45,18 @@ counted-most f (suc n) = omega (arith, counted-most f n, one-most (f n))
 
 -- ---- what a call leaves
 
-after-answered : {A : Type 0} (x : Answer) (a : A) {o : Outcome A} → answered x a ≡ o → a ≡ after o
+after-answered : {A : Type 0} (x : Answer) (a : A) {o : Result A} → answered x a ≡ o → a ≡ after o
 after-answered Done a e = ap after e
 after-answered (Refused n) a e = ap after e
 
-pub step-left : (r : Result) {heads doors : List ℕ} {o : Outcome State} → outcome r heads doors ≡ o → state (r .bank) heads doors ≡ after o
+pub step-left : (r : Outcome) {heads doors : List ℕ} {o : Result State} → outcomeMeant r heads doors ≡ o → state (r .bank) heads doors ≡ after o
 step-left r e = after-answered (r .answer) _ e
 
-pub dispatch-left : {r : Dispatched} {heads doors : List ℕ} {limit : ℕ} {s : State} {o : Outcome State}
+pub dispatch-left : {r : Dispatched} {heads doors : List ℕ} {limit : ℕ} {s : State} {o : Result State}
     → Dispatches r heads doors limit s o → state (r .bank) heads doors ≡ after o
 dispatch-left {r} d = after-answered (r .answer) _ (d .outcome-is)
 
-pub fresh-left : (r : Result) (t : Tree) → treeRefusal t ≡ 0 → answered (r .answer) (r .bank) ≡ fresh t → r .bank ≡ freshBank t
+pub fresh-left : (r : Outcome) (t : Tree) → treeRefusal t ≡ 0 → answered (r .answer) (r .bank) ≡ fresh t → r .bank ≡ freshBank t
 unfolding fresh
 fresh-left r t good e = after-answered (r .answer) (r .bank) {o = accepted (freshBank t)} (e ∙ rw (eq-eqb (treeRefusal t) 0 good))
 
@@ -67,7 +67,7 @@ unfolding dispatch
 dispatch-tree zero s = refl
 dispatch-tree (suc k) s = go (perform s (turn s)) (tree-kept s (turn s)) (λ x. dispatch-tree k x)
   where
-    go : (o : Outcome State) → after o .bank .tree ≡ s .bank .tree → ((x : State) → dispatch k x .bank .tree ≡ x .bank .tree)
+    go : (o : Result State) → after o .bank .tree ≡ s .bank .tree → ((x : State) → dispatch k x .bank .tree ≡ x .bank .tree)
         → onward o s (λ next. dispatch k next) .bank .tree ≡ s .bank .tree
     go (accepted x) e ih = ih x ∙ e
     go (refused n x) e ih = refl
@@ -145,7 +145,7 @@ counts-few t steps = go (eqb (lossesRefusal t) 0) refl
 
 -- ---- "give order 1": the order to the fresh bank is accepted
 
-accepted-after : {o : Outcome State} {s : State} → o ≡ accepted s → o ≡ accepted (after o)
+accepted-after : {o : Result State} {s : State} → o ≡ accepted s → o ≡ accepted (after o)
 accepted-after e = e ∙ ap accepted (sym (ap after e))
 
 module _ (t : Tree) (good : treeRefusal t ≡ 0) where
@@ -162,7 +162,7 @@ module _ (t : Tree) (good : treeRefusal t ≡ 0) where
   unfolding core.orderRefusal
   root-passes =
       rw (
-        stands-at freshly (fresh-stands t good _ _) (t .root) root-below,
+        valid-at freshly (fresh-valid t good _ _) (t .root) root-below,
         fresh-at t good (t .root) root-below,
         eq-eqb (t .root) (t .root) refl,
         and-false (t .watch),
@@ -171,6 +171,6 @@ module _ (t : Tree) (good : treeRefusal t ≡ 0) where
   pub order-accepted : order freshly 0 ≡ accepted (ordered t)
   unfolding ordered acted fitting puts core.orderEffect
   order-accepted =
-      let first = acting-passes freshly (fresh-stands t good _ _) (t .root) root-below in
+      let first = acting-passes freshly (fresh-valid t good _ _) (t .root) root-below in
       accepted-after
       (ap₂ (λ (n m : ℕ). unless n freshly (settled freshly freshly (t .root) (core.unless m root (core.orderEffect t (t .root) root 0)))) first root-passes)

@@ -10,7 +10,7 @@ use Rattle.text.specs.Text.{Reading, read, unread, Writes, Puts, refusedText}
 use Rattle.text.specs.laws.DecimalLaws.{decimal-length, refused-length}
 use Rattle.text.specs.laws.WritingLaws.{puts-all}
 use Rattle.text.specs.Pieces.{cut}
-use Rattle.bank.specs.Steps.{Outcome}
+use Rattle.bank.specs.Steps.{Result}
 use Rattle.table.specs.Tables.{Placed, readTable, limit}
 use Rattle.losses.specs.Losses.{lossesRefusal, lossesOf}
 use Rattle.losses.specs.laws.LossesLaws.{AtMost, counts-few}
@@ -68,6 +68,6 @@ pub losses-long : (input : List ℕ) → limit < length input → lossesText inp
 unfolding lossesText
 losses-long input h = rw (lt-ltb limit (length input) h)
 
-pub losses-read : (input : List ℕ) (o : Outcome Placed) → length input ≤ limit → o ≡ readTable input → lossesText input ≡ tableText input o
+pub losses-read : (input : List ℕ) (o : Result Placed) → length input ≤ limit → o ≡ readTable input → lossesText input ≡ tableText input o
 unfolding lossesText
 losses-read input o h e = rw (le-ltb limit (length input) h) (ap (tableText input) (sym e))

@@ -19,7 +19,7 @@ use Rattle.bank.specs.Words.{packetOf}
 use Rattle.bank.specs.Networks.{closedUp, put, puts, withPacket}
 use Rattle.bank.specs.Banks.{State, state, columnAt, packetAt, capacity, places, freshPlace, freshBank, bankRefusal}
 use Rattle.bank.specs.Steps as bank
-use Rattle.bank.specs.Steps.{Outcome, accepted, after, withColumn, fitting, acted, delivered}
+use Rattle.bank.specs.Steps.{Result, accepted, after, withColumn, fitting, acted, delivered}
 use Rattle.bank.specs.Performs.{perform}
 use Rattle.bank.specs.Rest.{AtRest}
 use Rattle.bank.specs.laws.RestLaws.{fresh-rests}
@@ -70,7 +70,7 @@ pub data Case : Type 0 where
   lower-number : Case
 
 -- the number and the doors of column i after a step
-abbrev recordOf : Outcome State → ℕ → ℕ × ℕ
+abbrev recordOf : Result State → ℕ → ℕ × ℕ
 recordOf o i = (columnAt (after o .bank) i .number, columnAt (after o .bank) i .doors)
 
 -- what must come out

@@ -11,7 +11,7 @@ use lib.Seq.{drop-drop}
 use borrow.Author.Tests.{le-leb, lt-leb}
 use Rattle.text.specs.Text.{newline, refusedText}
 use Rattle.text.specs.Pieces.{Cut, ended, unended, withFirst, cut}
-use Rattle.bank.specs.Steps.{Outcome, accepted, refused}
+use Rattle.bank.specs.Steps.{Result, accepted, refused}
 use Rattle.table.specs.Tables.{Placed, readTable, limit}
 use Rattle.script.specs.Scripts.{restText, cutText, linesText, judgedText, scriptText}
 use Rattle.script.specs.Advances.{Progress, progress, tableAdvance, firstAdvance, lineAdvance, laterAdvance, advance, start}
@@ -106,7 +106,7 @@ module _ (input : List ℕ) where
 
 -- ---- the whole script
 
-table-prints : (input : List ℕ) (o : Outcome Placed)
+table-prints : (input : List ℕ) (o : Result Placed)
     → let q = tableAdvance start o in q .text ++ textsBy (suc (length input)) input q ≡ judgedText input o
 unfolding tableAdvance judgedText
 table-prints input (accepted t) =

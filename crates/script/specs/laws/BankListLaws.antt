@@ -8,7 +8,7 @@ use Rattle.column.specs.Refusals.{first}
 use Rattle.column.specs.laws.RefusalLaws.{earlier-none}
 use Rattle.column.specs.laws.TreeLaws.{tree-sixteen}
 use Rattle.bank.specs.Banks.{State, runs, actingRefusal}
-use Rattle.bank.specs.laws.StandingLaws.{acting}
+use Rattle.bank.specs.laws.ValidityLaws.{acting}
 use Rattle.script.specs.BankLists.{listRefusal}
 
 -- a column that acts is one of sixteen

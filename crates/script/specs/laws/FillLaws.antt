@@ -14,7 +14,7 @@ use Rattle.text.specs.Pieces.{Cut, ended, unended, cut}
 use Rattle.text.specs.Text.{refusedText, Writes}
 use Rattle.text.specs.laws.WritingLaws.{writes-within, writes-more}
 use Rattle.bank.specs.Banks.{State, state}
-use Rattle.bank.specs.Steps.{Outcome, accepted, refused}
+use Rattle.bank.specs.Steps.{Result, accepted, refused}
 use Rattle.bank.specs.declared.bank.Bank.{Bank}
 use Rattle.table.specs.Tables.{Placed, readTable, limit}
 use Rattle.script.specs.Scripts.{restText, answered}
@@ -38,7 +38,7 @@ module _ (input : List ℕ) where
   line-falls p (ended line rest) h = omega arith
   line-falls p unended h = omega arith
 
-  table-falls : (p : Progress) (o : Outcome Placed) → textsLeft input (tableAdvance p o) ≤ length input + 1
+  table-falls : (p : Progress) (o : Result Placed) → textsLeft input (tableAdvance p o) ≤ length input + 1
   unfolding tableAdvance
   table-falls p (accepted t) = omega arith
   table-falls p (refused n t) = omega arith
@@ -214,7 +214,7 @@ module _ (input : List ℕ) (p : Progress) where
   unfolding firstAdvance tableAdvance
   table-begun = go (ltb limit (length input)) (readTable input)
     where
-      go : (b : Bool) (o : Outcome Placed)
+      go : (b : Bool) (o : Result Placed)
           → cond b (progress (p .state) (p .position) true true (refusedText 13)) (tableAdvance (saying [] p) o) .begun ≡ true
       go true o = refl
       go false (accepted t) = refl

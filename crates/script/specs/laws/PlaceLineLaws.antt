@@ -10,7 +10,7 @@ use Rattle.column.specs.declared.state.Column.{Column}
 use Rattle.text.specs.Text.{refusedText, Writes}
 use Rattle.list.specs.Closing.{listText}
 use Rattle.bank.specs.Banks.{State, columnAt, runs, bankRefusal}
-use Rattle.bank.specs.laws.StandingLaws.{stands}
+use Rattle.bank.specs.laws.ValidityLaws.{valid}
 use Rattle.script.specs.Scripts.{listedText}
 
 -- ---- which text it is
@@ -30,7 +30,7 @@ module _ (s : State) (i : ℕ) where
 
     module _ (below : i < s .bank .tree .columns) where
       here : i % 16 ≡ i
-      here = omega (arith, below, tree-sixteen (s .bank .tree) (stands s good .tree))
+      here = omega (arith, below, tree-sixteen (s .bank .tree) (valid s good .tree))
 
       module _ (c : Column) (place : columnAt (s .bank) (i % 16) ≡ c) where
         at-place : columnAt (s .bank) i ≡ c

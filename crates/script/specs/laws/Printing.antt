@@ -11,7 +11,7 @@ use borrow.Author.Tests.{ltb-true, ltb-false}
 use Rattle.column.specs.laws.Cases.{truth}
 use Rattle.text.specs.Pieces.{Cut, ended, unended, cut}
 use Rattle.text.specs.Text.{refusedText}
-use Rattle.bank.specs.Steps.{Outcome, accepted, refused}
+use Rattle.bank.specs.Steps.{Result, accepted, refused}
 use Rattle.table.specs.Tables.{Placed, readTable, limit}
 use Rattle.script.specs.Scripts.{restText, scriptText}
 use Rattle.script.specs.Advances.{Progress, progress, tableAdvance, firstAdvance, lineAdvance, laterAdvance, advance, room, saying, onward, filled, mostTexts, fill, start, filledBy, printedBy}
@@ -26,7 +26,7 @@ module _ (input : List ℕ) where
   line-said text p (ended line rest) = refl
   line-said text p unended = refl
 
-  table-said : (text : List ℕ) (p : Progress) (o : Outcome Placed) → tableAdvance (saying text p) o ≡ tableAdvance p o
+  table-said : (text : List ℕ) (p : Progress) (o : Result Placed) → tableAdvance (saying text p) o ≡ tableAdvance p o
   unfolding tableAdvance
   table-said text p (accepted t) = refl
   table-said text p (refused n t) = refl

@@ -18,11 +18,11 @@ use Rattle.text.specs.Pieces.{Cut, ended, unended, cut}
 use Rattle.text.specs.laws.Cutting.{Found, line-ended, line-unended, line-length}
 use Rattle.bank.specs.Banks.{State, state, freshBank, noBank}
 use Rattle.bank.specs.Steps as steps
-use Rattle.bank.specs.Steps.{Outcome, after}
+use Rattle.bank.specs.Steps.{Result, after}
 use Rattle.bank.specs.Dispatch.{dispatched, dispatchOutcome, Dispatches}
 use Rattle.bank.specs.declared.dispatch.Dispatched.{Dispatched}
 use Rattle.bank.specs.declared.bank.Bank.{Bank}
-use Rattle.bank.specs.declared.bank.Result.{Result}
+use Rattle.bank.specs.declared.bank.Outcome.{Outcome}
 use Rattle.bank.specs.declared.bank.Answer.{Answer}
 use Rattle.bank.specs.declared.bank.Answer.the-variants.{Done, Refused}
 use Rattle.table.specs.Tables.{Table, tableOf, treeIn, countListed, countedConditions, tableRefusal, Placed, placedAt, noTree, judged, readTable, limit}
@@ -58,7 +58,7 @@ after-answered (Refused n) a = refl
 
 -- ---- what a line leaves
 
-pub step-answers : {r at : ℕ} {heads doors new old : List ℕ} (d : Result) (o : Outcome State) → steps.outcome d heads doors ≡ o
+pub step-answers : {r at : ℕ} {heads doors new old : List ℕ} (d : Outcome) (o : Result State) → steps.outcomeMeant d heads doors ≡ o
     → WritesStep r new old at (d .answer) → Answers (printed (stepText o) (after o)) (d .bank) heads doors r new old at
 step-answers {heads} {doors} d o e w =
     let s = state (d .bank) heads doors in
@@ -78,7 +78,7 @@ module _ (input : List ℕ) (p : Progress) where
   unfolding firstAdvance
   first-long h = rw (lt-ltb limit (length input) h)
 
-  pub first-read : (o : Outcome Placed) → length input ≤ limit → o ≡ readTable input → firstAdvance input p ≡ tableAdvance p o
+  pub first-read : (o : Result Placed) → length input ≤ limit → o ≡ readTable input → firstAdvance input p ≡ tableAdvance p o
   unfolding firstAdvance
   first-read o h e = rw (le-ltb limit (length input) h) (ap (tableAdvance p) (sym e))
 
@@ -139,7 +139,7 @@ accepted-tree input t e = go (tableOf input) e
         let z : _≡_ {A = ℕ} 0 1 = cc in
         absurd (omega arith)
 
-pub fresh-bank : (input : List ℕ) (t : Placed) (r : Result) → steps.accepted t ≡ readTable input
+pub fresh-bank : (input : List ℕ) (t : Placed) (r : Outcome) → steps.accepted t ≡ readTable input
     → steps.answered (r .answer) (r .bank) ≡ steps.fresh (t .tree) → r .bank ≡ freshBank (t .tree)
 unfolding steps.fresh
 fresh-bank input t r e made =

@@ -8,18 +8,18 @@ use lib.ListN.{replicate}
 use Rattle.column.specs.Trees.{every, climbsIn, ascending, treeBy, treeInSequence, treeOf, treeRefusal}
 use Rattle.text.specs.Text.{bytes, allDigits, valueFrom, leadingZero, numeral, startsWith, afterKey}
 use Rattle.text.specs.Pieces.{withFirst, cut, longer, pieces, withNumber, numerals, numeralIn, numbersIn, thirdLine, secondLine, firstLine}
-use Rattle.bank.specs.Steps.{Outcome, accepted, refused}
+use Rattle.bank.specs.Steps.{Result, accepted, refused}
 use Rattle.table.specs.Tables.{listedLine, sequenceIn, sequenceLine, watchLine, withWatch, furtherIn, joined, tableIn, tableRefusal, Placed, placedAt, noTree, judged, readTable}
 
 -- a text, and what it answers
 pub record Row : Type 0 where
   pub text : String
-  pub answer : Outcome Placed
+  pub answer : Result Placed
 
-abbrev row : String → Outcome Placed → Row
+abbrev row : String → Result Placed → Row
 row text answer = record { text = text; answer = answer }
 
-abbrev no : ℕ → Outcome Placed
+abbrev no : ℕ → Result Placed
 no n = refused n noTree
 
 abbrev rows : List Row

@@ -7,7 +7,7 @@ use Rattle.column.specs.Trees.{ascending, treeBy}
 use Rattle.column.specs.declared.tree.Tree.{Tree}
 use Rattle.text.specs.Text.{Reading, read, unread, columnsKey, rootKey, upKey}
 use Rattle.text.specs.Pieces.{numbers, keyed}
-use Rattle.bank.specs.Steps.{Outcome, accepted, refused}
+use Rattle.bank.specs.Steps.{Result, accepted, refused}
 use Rattle.table.specs.Tables.{Sequence, unlisted, listed, SequenceLine, WatchLine, Further, countedRefusal, Placed, placedAt, noTree, furtherLines, joined, judged}
 use Rattle.table.specs.inner.NumberLists.{listOf}
 use Rattle.table.specs.declared.number_list.NumberList.{NumberList}
@@ -77,7 +77,7 @@ furtherFrom at (read f) = read (heldFurther (sequenceHeld (f .sequence) at) (rec
 furtherFrom at unread = unread
 
 -- a tree with the counts of its parents and of its sequence
-unfoldable pub treeJudged : Tree → ℕ → ℕ → ℕ → Outcome Placed
+unfoldable pub treeJudged : Tree → ℕ → ℕ → ℕ → Result Placed
 treeJudged t parents sequence end =
     cond (eqb (countedRefusal t parents sequence) 0) (accepted (placedAt t end)) (refused (countedRefusal t parents sequence) noTree)
 
@@ -85,13 +85,13 @@ abbrev pub countHeld : HeldFurther → ℕ → ℕ
 countHeld q columns = cond (q .named) (q .list .count) columns
 
 -- what parents and the lines after them make of the two lines before them
-unfoldable pub heldJudged : ℕ → ℕ → Reading NumberList → Reading HeldFurther → Outcome Placed
+unfoldable pub heldJudged : ℕ → ℕ → Reading NumberList → Reading HeldFurther → Result Placed
 heldJudged columns root (read p) (read q) =
     treeJudged (treeBy columns root (p .numbers) (q .list .numbers) (q .watch)) (p .count) (countHeld q columns) (q .end)
 heldJudged columns root (read p) unread = refused 1 noTree
 heldJudged columns root unread q = refused 1 noTree
 
 -- three lines, and what follows them from a place on
-abbrev pub linesJudged : List ℕ → List ℕ → List ℕ → List ℕ → ℕ → Outcome Placed
+abbrev pub linesJudged : List ℕ → List ℕ → List ℕ → List ℕ → ℕ → Result Placed
 linesJudged one two three rest at =
     judged (joined (keyed columnsKey 2 one) (keyed rootKey 2 two) (numbers upKey three) (furtherLines rest) at)

@@ -100,6 +100,14 @@ writes-more {m} {r} {new} {mid} {old} {at} v w room first next = record {
       ∙ written-more old at v w (omega (arith, room, length-append v w));
 }
 
+-- one byte more, stored after what was written
+pub writes-byte : {r : ℕ} {new old : List ℕ} {at : ℕ} (w : List ℕ) (b : ℕ) → at + length w < length old → Writes r new old at w
+    → Writes (r + 1) (set new r b) old at (w ++ (b ∷ []))
+writes-byte {r} {new} {old} {at} w b room h =
+    let kept : length new ≡ length old = ap length (h .left) ∙ written-length old at w (omega (arith, room)) in
+    let within : r < length new = omega (arith, room, kept, h .place) in
+    writes-more w (b ∷ []) (omega (arith, room, length-append w (b ∷ []))) h (record { place = refl; left = written-one new r b within })
+
 -- ---- writers that stop where the room ends
 
 -- the first n, and the first of as many of these as there are

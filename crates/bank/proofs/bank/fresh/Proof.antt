@@ -10,7 +10,7 @@ use Rattle.column.specs.Trees.{treeRefusal}
 use Rattle.column.specs.laws.TreeLaws.{tree-sixteen}
 use Rattle.column.specs.declared.state.Column.{Column}
 use Rattle.bank.specs.Banks.{noColumn, places, freshPlace}
-use Rattle.bank.specs.laws.StandingLaws.{places-set, partlyFresh, fresh-place, fresh-whole}
+use Rattle.bank.specs.laws.ValidityLaws.{places-set, partlyFresh, fresh-place, fresh-whole}
 use Rattle.bank.specs.Steps.{accepted, fresh}
 use Rattle.bank.specs.declared.bank.Bank.{Bank}
 use Rattle.bank.proofs.bank.fresh.Statement.{statement}

@@ -39,7 +39,7 @@ returns c =
     let some : a .count ≡ 0 → ⊥ = λ z. omega (arith, z, s .pre .1 takes) in
     turn-taken (a .heads .now) (a .doors .now) handed ok (a .x) quick is takes some (k .take-effect .result)
     (k .take-effect .ensures ∙ ap (boundedTake (a .t) (a .i) (a .c)) (q .packet .ensures))
-    (c .settle-taken .ensures b (a .i) (handed .count-is) (handed .lit))
+    (c .settle-taken .ensures b (a .i) (handed .count-is) (handed .running-is))
 
 effect-of-requires : tie.Need-effect-of-requires
 effect-of-requires c κs = search needs
@@ -55,7 +55,7 @@ returns-2 c =
     let s = e .before .before in
     let a = s .args in
     turn-own (a .heads .now) (a .doors .now) handed ok (a .x) quick is (sym (e .before .is-take .ensures) ∙ e .if1 .left) (o .effect-of .result) (o .effect-of .ensures)
-    (c .settle .ensures b (a .i) (handed .count-is) (handed .lit))
+    (c .settle .ensures b (a .i) (handed .count-is) (handed .running-is))
 
 pub take-turn-spec : {M : Type 1} → statement M
 take-turn-spec =

@@ -10,12 +10,12 @@ use Rattle.column.specs.laws.Cases.{and-left, and-right}
 use Rattle.column.specs.Sets.{minus, whole}
 use Rattle.column.specs.laws.TreeLaws.{tree-sixteen}
 use Rattle.column.specs.declared.tree.Tree.{Tree}
-use Rattle.bank.specs.laws.StandingLaws.{stands}
+use Rattle.bank.specs.laws.ValidityLaws.{valid}
 use Rattle.bank.specs.laws.SurveyLaws.{others-halted}
 use Rattle.bank.specs.Banks.{State, state, haltedOf, bankRefusal}
 use Rattle.bank.specs.Performs.{perform}
-use Rattle.bank.specs.inner.Changes.{stored, changed, Lit}
-use Rattle.bank.specs.laws.ChangeLaws.{changed-refused, changed-done, lit-running, lit-on, halted-on}
+use Rattle.bank.specs.inner.Changes.{stored, changed, RunningIs}
+use Rattle.bank.specs.laws.ChangeLaws.{changed-refused, changed-done, running-is-of, running-is-on, halted-on}
 use Rattle.bank.specs.Parts.{isTake}
 use Rattle.bank.specs.inner.Turning.{readyOf, quickTurn}
 use Rattle.bank.specs.laws.turns.LowestReady.{ready-some, ready-turn}
@@ -28,13 +28,13 @@ use Rattle.bank.proofs.dispatch.take_turns.Tie as tie
 abbrev Inv-loop : tie.InvT-loop
 Inv-loop running limit heads₀ doors₀ d₀ t dark ready₀ steps₀ heads doors d ready steps =
     Going limit steps (state d₀ heads₀ doors₀) (state d heads doors)
-    × ((bankRefusal (state d heads doors) ≡ 0) × ((d .tree ≡ t) × (Lit running d × ((dark ≡ haltedOf d) × (ready ≡ readyOf d)))))
+    × ((bankRefusal (state d heads doors) ≡ 0) × ((d .tree ≡ t) × (RunningIs running d × ((dark ≡ haltedOf d) × (ready ≡ readyOf d)))))
 
 abbrev μ-loop : tie.MeasureT-loop
 μ-loop running limit heads₀ doors₀ d₀ t dark ready₀ steps₀ heads doors d ready steps = limit - steps
 
 halted-requires : tie.Need-halted-requires Inv-loop μ-loop
-halted-requires c κs = tree-sixteen _ (stands _ (c .before .pre .0) .tree)
+halted-requires c κs = tree-sixteen _ (valid _ (c .before .pre .0) .tree)
 
 dark-is : (c : tie.After-halted Inv-loop μ-loop) → c .halted .result ≡ haltedOf (c .before .before .args .b)
 dark-is c =
@@ -42,12 +42,12 @@ dark-is c =
     c .halted .ensures ∙ ap (minus (whole (s .args .b .tree .columns))) (s .pre .1) ∙ others-halted (s .args .b)
 
 ready-columns-requires : tie.Need-ready-columns-requires Inv-loop μ-loop
-ready-columns-requires c κs = (tree-sixteen _ (stands _ (c .before .before .pre .0) .tree), dark-is c)
+ready-columns-requires c κs = (tree-sixteen _ (valid _ (c .before .before .pre .0) .tree), dark-is c)
 
 loop-holds : tie.Need-loop-holds Inv-loop μ-loop
 loop-holds c =
     let s = c .before .before .before in
-    (going-start _ _, (s .pre .0, (refl, (lit-running (s .args .b) (s .pre .1), (dark-is (c .before), c .ready-columns .ensures)))))
+    (going-start _ _, (s .pre .0, (refl, (running-is-of (s .args .b) (s .pre .1), (dark-is (c .before), c .ready-columns .ensures)))))
 
 lowest-requires : tie.Need-lowest-requires Inv-loop μ-loop
 lowest-requires c κs = search needs
@@ -71,7 +71,7 @@ before c = let m = at c .loop in state (m .d) (m .heads) (m .doors)
 quick : (c : tie.After-step-of Inv-loop μ-loop) → c .step-of .result ≡ quickTurn (before c .bank)
 quick c =
     let m = at c .loop in
-    ready-turn (m .d) (stands _ (m .inv .1 .0) .tree) (m .inv .1 .1 .0) (m .inv .1 .1 .1 .1 .0) (m .inv .1 .1 .1 .1 .1) (c .before .before .lowest .ensures) (c .step-of .ensures)
+    ready-turn (m .d) (valid _ (m .inv .1 .0) .tree) (m .inv .1 .1 .0) (m .inv .1 .1 .1 .1 .0) (m .inv .1 .1 .1 .1 .1) (c .before .before .lowest .ensures) (c .step-of .ensures)
 
 -- a turn begins before the limit, and the step is no take where no packet is under way
 going : (c : tie.In-loop Inv-loop μ-loop) → let l = c .before in l .loop .steps < l .before .before .before .before .args .limit
@@ -80,7 +80,7 @@ going c = ltb-true _ _ (and-left _ _ (c .loop-test .taken))
 some : (c : tie.After-step-of Inv-loop μ-loop) → (isTake (c .step-of .result) && eqb (at c .loop .d .count) 0) ≡ false
 some c =
     let m = at c .loop in
-    ready-some (m .d) (stands _ (m .inv .1 .0) .tree) (m .inv .1 .1 .1 .1 .1) (c .step-of .result) (quick c)
+    ready-some (m .d) (valid _ (m .inv .1 .0) .tree) (m .inv .1 .1 .1 .1 .1) (c .step-of .result) (quick c)
     (and-right (ltb (m .steps) (at c .before .before .before .before .args .limit)) (not (eqb (m .ready) 0) || not (eqb (m .d .count) 0)) (c .before .before .before .loop-test .taken))
 
 element-copy-out-acting : tie.Need-element-copy-out-acting Inv-loop μ-loop
@@ -95,7 +95,7 @@ small c =
     let n = c .before .before in
     let m = at n .loop in
     let below = turn-below (before n) (m .inv .1 .0) (n .step-of .result) (quick n) (some n) in
-    omega (arith, c .acting .ensures, below, tree-sixteen (m .d .tree) (stands _ (m .inv .1 .0) .tree))
+    omega (arith, c .acting .ensures, below, tree-sixteen (m .d .tree) (valid _ (m .inv .1 .0) .tree))
 
 mul-take-turn : tie.Need-mul-take-turn Inv-loop μ-loop
 mul-take-turn c = search (needs, small c)
@@ -109,7 +109,7 @@ take-turn-requires c κs =
     let m = at n .loop in
     let held : isTake (n .step-of .result) ≡ true → m .d .count ≡ 0 → ⊥ =
     λ takes. eqb-false (m .d .count) 0 (ap (λ (b : Bool). b && eqb (m .d .count) 0) (sym takes) ∙ some n) in
-    (stands _ (m .inv .1 .0) .room, λ takes. omega (arith, held takes))
+    (valid _ (m .inv .1 .0) .room, λ takes. omega (arith, held takes))
 
 is-refusal-requires : tie.Need-is-refusal-requires Inv-loop μ-loop
 is-refusal-requires c κs = search needs
@@ -131,7 +131,7 @@ told p =
     let n = chosen p in
     let m = at n .loop in
     p .take-turn .ensures (m .d)
-    (record { tree-is = m .inv .1 .1 .0; lit = m .inv .1 .1 .1 .0; column-is = refl; count-is = refl })
+    (record { tree-is = m .inv .1 .1 .0; running-is = m .inv .1 .1 .1 .0; column-is = refl; count-is = refl })
     (m .inv .1 .0) (quick n) (p .before .before .before .before .acting .ensures)
 
 returns : tie.Need-returns Inv-loop μ-loop
@@ -173,23 +173,23 @@ add-steps c =
     let s = at (chosen (c .before .before .before)) .before .before .before .before in
     search (needs, turned (c .before) .on .within, s .fits .limit)
 
-newest-stands-requires : tie.Need-newest-stands-requires Inv-loop μ-loop
-newest-stands-requires c κs =
+newest-valid-requires : tie.Need-newest-valid-requires Inv-loop μ-loop
+newest-valid-requires c κs =
     let q = c .before .before in
     let w = turned q .within in
     (subst (λ (t : Tree). t .columns ≤ 16) (at (chosen (q .before .before)) .loop .inv .1 .1 .0) (w .0), w .1)
 
 -- whether the bank stands, as it is tested
-tested : (c : tie.After-newest-stands Inv-loop μ-loop)
+tested : (c : tie.After-newest-valid Inv-loop μ-loop)
     → let p = c .before .before .before .before .before in
-    c .newest-stands .result ≡ eqb (bankRefusal (after p)) 0
+    c .newest-valid .result ≡ eqb (bankRefusal (after p)) 0
 tested c =
     let q = c .before .before .before in
     let p = q .before .before in
     let inv = at (chosen p) .loop .inv .1 .1 in
     let w = turned q in
-    c .newest-stands .ensures (after p .bank) (after p .doors) (ap (λ (t : Tree). t .columns) (inv .0)) (ap (λ (t : Tree). t .root) (inv .0)) (ap (λ (t : Tree). t .watch) (inv .0))
-    (lit-on (before (chosen p) .bank) (after p .bank) refl (w .same) _ (inv .1 .0)) refl
+    c .newest-valid .ensures (after p .bank) (after p .doors) (ap (λ (t : Tree). t .columns) (inv .0)) (ap (λ (t : Tree). t .root) (inv .0)) (ap (λ (t : Tree). t .watch) (inv .0))
+    (running-is-on (before (chosen p) .bank) (after p .bank) refl (w .same) _ (inv .1 .0)) refl
     ∙ w .test
 
 ended-requires-2 : tie.Need-ended-requires-2 Inv-loop μ-loop
@@ -209,14 +209,14 @@ turn e = e .before .before .before .before
 ready-after-requires : tie.Need-ready-after-requires Inv-loop μ-loop
 ready-after-requires c κs = small (turn c .before .before .before .before .before .before)
 
-dark-on : (e : tie.Else2 Inv-loop μ-loop) → let p = turn e .before .before in
+halted-set-on : (e : tie.Else2 Inv-loop μ-loop) → let p = turn e .before .before in
     at (chosen p) .before .before .halted .result ≡ haltedOf (after p .bank)
-dark-on e =
+halted-set-on e =
     let p = turn e .before .before in
     at (chosen p) .loop .inv .1 .1 .1 .1 .0 ∙ sym (halted-on (before (chosen p) .bank) (after p .bank) refl (turned (turn e) .same))
 
 ready-columns-requires-2 : tie.Need-ready-columns-requires-2 Inv-loop μ-loop
-ready-columns-requires-2 c κs = let e = c .before .before in (turned (turn e) .within .0, dark-on e)
+ready-columns-requires-2 c κs = let e = c .before .before in (turned (turn e) .within .0, halted-set-on e)
 
 -- the invariant, once the set is known
 kept : (e : tie.Else2 Inv-loop μ-loop) (ready : ℕ) → let p = turn e .before .before in
@@ -230,7 +230,7 @@ kept e ready is =
     let inv = at (chosen p) .loop .inv .1 .1 in
     let w = turned (turn e) in
     let stood = eqb-true _ 0 (sym (tested (e .before)) ∙ not-false _ (e .if2 .left)) in
-    (w .on, (stood, (inv .0, (lit-on (before (chosen p) .bank) (after p .bank) refl (w .same) _ (inv .1 .0), (dark-on e, is)))))
+    (w .on, (stood, (inv .0, (running-is-on (before (chosen p) .bank) (after p .bank) refl (w .same) _ (inv .1 .0), (halted-set-on e, is)))))
 
 loop-less : tie.Need-loop-less Inv-loop μ-loop
 loop-less c = omega (arith, turned (turn (c .before .before .before)) .on .within)
@@ -283,7 +283,7 @@ take-turns-spec =
     mul-c
     element-set-from-c
     add-steps
-    newest-stands-requires
+    newest-valid-requires
     ended-requires-2
     returns-2
     ready-after-requires

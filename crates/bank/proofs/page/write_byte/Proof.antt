@@ -7,7 +7,7 @@ use Rattle.column.specs.laws.RefusalLaws.{earlier-none}
 use Rattle.column.specs.laws.TreeLaws.{tree-sixteen}
 use Rattle.column.specs.declared.state.Column.{Column}
 use Rattle.bank.specs.Banks.{State, state, actingRefusal}
-use Rattle.bank.specs.laws.StandingLaws.{acting}
+use Rattle.bank.specs.laws.ValidityLaws.{acting}
 use Rattle.bank.specs.laws.StepLaws.{unless-refused, unless-goes, accepted-words}
 use Rattle.bank.specs.Steps.{accepted, withPlace}
 use Rattle.bank.specs.Pages.{writeRefusal}

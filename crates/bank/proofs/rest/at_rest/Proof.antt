@@ -4,7 +4,7 @@ use borrow.Author.Tests.{ne-eqb}
 use Rattle.column.specs.laws.TreeLaws.{tree-sixteen}
 use Rattle.bank.specs.Banks.{State, state, bankRefusal}
 use Rattle.bank.specs.Rest.{atRest}
-use Rattle.bank.specs.laws.StandingLaws.{stands}
+use Rattle.bank.specs.laws.ValidityLaws.{valid}
 use Rattle.bank.specs.laws.RestLaws.{broken-rests, rest-columns}
 use Rattle.bank.proofs.rest.at_rest.Statement.{statement}
 use Rattle.bank.proofs.rest.at_rest.Tie as tie
@@ -35,7 +35,7 @@ good c = sym (refusal (c .before .before)) ∙ c .if2 .left
 columns-rest-requires : tie.Need-columns-rest-requires
 columns-rest-requires c κs =
     let k = c .before .before in
-    (tree-sixteen (given k .bank .tree) (stands (given k) (good c) .tree), k .survey .ensures .running-is (c .if2 .left))
+    (tree-sixteen (given k .bank .tree) (valid (given k) (good c) .tree), k .survey .ensures .running-is (c .if2 .left))
 
 returns-3 : tie.Need-returns-3
 returns-3 c =

@@ -9,7 +9,7 @@ use Rattle.column.specs.laws.Digits.{lowest-lt}
 use Rattle.column.specs.laws.TreeLaws.{check-exact, tree-sixteen}
 use Rattle.column.specs.declared.state.Column.{Column}
 use Rattle.bank.specs.Banks.{State, state, columnAt, runs, runningOf}
-use Rattle.bank.specs.laws.StandingLaws.{stands, stands-passes}
+use Rattle.bank.specs.laws.ValidityLaws.{valid, valid-passes}
 use Rattle.bank.specs.laws.StepLaws.{unless-refused, unless-goes, accepted-words}
 use Rattle.bank.specs.Steps.{accepted, withPlace}
 use Rattle.bank.specs.Returns.{backRefusal, withStruck, returned}
@@ -29,7 +29,7 @@ back-refusal-requires : tie.Need-back-refusal-requires
 back-refusal-requires c κs z =
     let s = given (c .before) [] in
     let v = c .survey .ensures in
-    (tree-sixteen (s .bank .tree) (stands s (sym (v .refuses []) ∙ z) .tree), v .running-is z)
+    (tree-sixteen (s .bank .tree) (valid s (sym (v .refuses []) ∙ z) .tree), v .running-is z)
 
 refused-requires : tie.Need-refused-requires
 refused-requires c κs = search needs
@@ -53,22 +53,22 @@ known : (c : tie.Else1) → Returning (given (start c) []) (start c .args .j)
 known c = returning (given (start c) []) (start c .args .j) (sym (refusal (c .before) []) ∙ c .if1 .left)
 
 sixteen : (c : tie.Else1) → start c .args .b .tree .columns ≤ 16
-sixteen c = tree-sixteen _ (known c .stands .tree)
+sixteen c = tree-sixteen _ (known c .valid .tree)
 
 small : (c : tie.Else1) → start c .args .j < 16
 small c = omega (arith, known c .below, sixteen c)
 
-lit : (c : tie.Else1) → c .before .before .survey .result .running ≡ runningOf (start c .args .b)
-lit c =
+running-is : (c : tie.Else1) → c .before .before .survey .result .running ≡ runningOf (start c .args .b)
+running-is c =
     let v = c .before .before .survey .ensures in
-    v .running-is (v .refuses [] ∙ stands-passes (given (start c) []) (known c .stands))
+    v .running-is (v .refuses [] ∙ valid-passes (given (start c) []) (known c .valid))
 
 low : (c : tie.After-lowest) → c .lowest .result < 16
 low c =
     let e = c .before .before in
     let b = start e .args .b in
     let some : runningOf b ≡ 0 → ⊥ = known e .some-run in
-    omega (arith, c .lowest .ensures ∙ ap lowest (lit e), lowest-lt 16 (runningOf b) (selected-lt (runs b) (b .tree .columns) 16 (sixteen e)) (omega (arith, some)))
+    omega (arith, c .lowest .ensures ∙ ap lowest (running-is e), lowest-lt 16 (runningOf b) (selected-lt (runs b) (b .tree .columns) 16 (sixteen e)) (omega (arith, some)))
 
 strike-noted-requires : tie.Need-strike-noted-requires
 strike-noted-requires c κs = sixteen c
@@ -121,7 +121,7 @@ returns-2 c =
     (r .come-back .ensures ∙ ap (λ (k : ℕ). rejoining (struck .tree) running (columnAt struck (a .j)) (columnAt struck k) (a .j)) (l .lowest .ensures))
     ∙ ap (λ (x : Bank). withPlace x (a .j) (rejoining (x .tree) running (columnAt x (a .j)) (columnAt x (lowest running)) (a .j))) (n .strike-noted .ensures)
     ∙ ap (λ (y : Column). withPlace (withStruck (a .b) (a .j)) (a .j) y)
-    (rejoining-struck (a .b) (a .j) (lit e) (check-exact (a .b .tree) .0 (known e .stands .tree) .root-below)))
+    (rejoining-struck (a .b) (a .j) (running-is e) (check-exact (a .b .tree) .0 (known e .valid .tree) .root-below)))
     ∙ unless-goes (given (start e) doors) _ _ _ (refusal (e .before) doors) (e .if1 .left)
 
 pub bring-back-spec : {M : Type 1} → statement M

@@ -29,7 +29,7 @@ deliver-requires c κs = search needs
 
 returns : tie.Need-returns
 returns c =
-    λ b i n lit steady aimed.
+    λ b i n running-is steady aimed.
     let k = c .before in
     let s = k .before .before in
     let a = s .args in
@@ -37,22 +37,22 @@ returns c =
 
 returns-2 : tie.Need-returns-2
 returns-2 c =
-    λ b i n lit steady aimed.
+    λ b i n running-is steady aimed.
     let k = c .before in
     let a = k .before .before .before .args in
     rw (k .before .a3 .given .1) (refused-at b i (a .heads .now) (a .doors .now) (c .unchanged .ensures))
 
 returns-3 : tie.Need-returns-3
 returns-3 c =
-    λ b i n lit steady aimed.
+    λ b i n running-is steady aimed.
     let a = c .before .before .before .before .args in
     ⊎-elim
     (λ x.
     settled-put b i (a .heads .now) (a .doors .now) (a .o .column) (a .count) n (a .o .answer) _ (inl (x .1 .given .1 ∙ ap core-is.Put (sym (x .3)))) steady aimed
-    (λ s l. c .deliver .ensures b i n lit s l))
+    (λ s l. c .deliver .ensures b i n running-is s l))
     (λ x.
     settled-put b i (a .heads .now) (a .doors .now) (a .o .column) (a .count) n (a .o .answer) _ (inr (x .1 .given .1 ∙ ap core-is.Left (sym (x .3)))) steady aimed
-    (λ s l. c .deliver .ensures b i n lit s l))
+    (λ s l. c .deliver .ensures b i n running-is s l))
     (c .before .before .before .match .came)
 
 pub settle-spec : {M : Type 1} → statement M

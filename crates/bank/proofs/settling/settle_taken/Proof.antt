@@ -7,7 +7,7 @@ use Rattle.bank.specs.Networks.{removed, counting}
 use Rattle.bank.specs.laws.StepLaws.{settled-stays}
 use Rattle.bank.specs.laws.ChangeLaws.{changed-off, removed-words}
 use Prim.Native.Nat.{_-_, ℕ, _<_}
-use Rattle.column.specs.Steps.{meant}
+use Rattle.column.specs.Steps.{outcomeMeant}
 use Rattle.bank.specs.Steps.{settled}
 use Rattle.bank.proofs.settling.settle_taken.Statement.{statement}
 use Rattle.bank.proofs.settling.settle_taken.Tie as tie
@@ -20,12 +20,12 @@ settle-requires c κs = search needs
 
 returns : tie.Need-returns
 returns c =
-    λ b i n lit steady aimed.
+    λ b i n running-is steady aimed.
     let t = c .before .before .before in
     let k = t .before in
     let a = k .before .args in
     let s = state b (a .heads .now) (a .doors .now) in
-    c .settle .ensures b i n lit steady aimed
+    c .settle .ensures b i n running-is steady aimed
     ∙ settled-stays s (removed s (a .place)) i (a .o .column) (a .o .answer) (sym (k .takes-off .ensures) ∙ not-true _ (t .if1 .taken))
 
 remove-requires : tie.Need-remove-requires
@@ -39,7 +39,7 @@ settle-requires-2 c κs = search needs
 
 returns-2 : tie.Need-returns-2
 returns-2 c =
-    λ b i n lit steady aimed.
+    λ b i n running-is steady aimed.
     let m = c .before .before .before in
     let e = m .before .before .before in
     let k = e .before in
@@ -47,8 +47,8 @@ returns-2 c =
     let a = s .args in
     let room : b .count - 1 < 512 = omega (arith, n, s .pre .0, s .pre .1) in
     changed-off b i (a .heads .now) (a .doors .now) (a .place) (a .o .column) room (a .o .answer) (sym (k .takes-off .ensures) ∙ not-false _ (e .if1 .left)) (c .settle2 .result) _ _
-    (c .settle2 .ensures (counting b (b .count - 1)) i (ap (λ (k : ℕ). k - 1) n) lit steady aimed
-    ∙ ap (λ (x : State). settled x x i (meant (a .o))) (removed-words b i (a .heads .now) (a .doors .now) (a .place) (a .o .column) room n (m .remove .ensures)))
+    (c .settle2 .ensures (counting b (b .count - 1)) i (ap (λ (k : ℕ). k - 1) n) running-is steady aimed
+    ∙ ap (λ (x : State). settled x x i (outcomeMeant (a .o))) (removed-words b i (a .heads .now) (a .doors .now) (a .place) (a .o .column) room n (m .remove .ensures)))
 
 pub settle-taken-spec : {M : Type 1} → statement M
 settle-taken-spec =

@@ -6,10 +6,10 @@ use Prim.Native.Nat.{ℕ, _<_, _≤_, _-_}
 use Rattle.column.specs.laws.TreeLaws.{tree-sixteen}
 use Rattle.bank.specs.Banks.{State, state, runningOf, RefusesBank}
 use Rattle.bank.specs.inner.Surveys.{Passing}
-use Rattle.bank.specs.laws.StandingLaws.{stands-passes}
+use Rattle.bank.specs.laws.ValidityLaws.{valid-passes}
 use Rattle.bank.specs.laws.SurveyLaws.{passing-start, passing-on, passing-tells}
 use Rattle.bank.specs.inner.Changes.{changed}
-use Rattle.bank.specs.laws.ChangeLaws.{lit-running, changed-refused, changed-done}
+use Rattle.bank.specs.laws.ChangeLaws.{running-is-of, changed-refused, changed-done}
 use Rattle.bank.specs.inner.Moves.{openingRefusal}
 use Rattle.bank.specs.laws.MoveLaws.{opening, Opened, opened, opening-refused}
 use Rattle.bank.specs.Performs.{perform}
@@ -130,7 +130,7 @@ told f =
     let k = e .before in
     let b = start k .args .b in
     let w = known e in
-    f .change .ensures (b .columns) refl (lit-running b (told-seen (k .before) .1 (sixteen e))) (stands-passes (given k) (w .stood)) (w .below) (w .actor)
+    f .change .ensures (b .columns) refl (running-is-of b (told-seen (k .before) .1 (sixteen e))) (valid-passes (given k) (w .stood)) (w .below) (w .actor)
 
 returns : tie.Need-returns Inv-loop μ-loop
 returns c =

@@ -8,7 +8,7 @@ use Rattle.column.specs.Sets.{has}
 use Rattle.column.specs.laws.TreeLaws.{tree-sixteen}
 use Rattle.bank.specs.Banks.{State, state, runningOf, bankRefusal, RefusesBank}
 use Rattle.bank.specs.inner.Surveys.{Passing}
-use Rattle.bank.specs.laws.StandingLaws.{stands}
+use Rattle.bank.specs.laws.ValidityLaws.{valid}
 use Rattle.bank.specs.laws.SurveyLaws.{passing-start, passing-on, passing-tells}
 use Rattle.bank.specs.laws.StepLaws.{unless-refused, unless-goes, halting-refusal}
 use Rattle.bank.specs.Steps.{accepted, haltRefusal, halted, withStopped}
@@ -82,7 +82,7 @@ bank-refused : (c : tie.After-seen-refusal Inv-loop μ-loop) → c .seen-refusal
 bank-refused c = told-seen c .0 (start c .args .doors .now)
 
 sixteen : (c : tie.After-seen-refusal Inv-loop μ-loop) → c .seen-refusal .result ≡ 0 → start c .args .b .tree .columns ≤ 16
-sixteen c z = tree-sixteen (start c .args .b .tree) (stands (given c) (sym (bank-refused c) ∙ z) .tree)
+sixteen c z = tree-sixteen (start c .args .b .tree) (valid (given c) (sym (bank-refused c) ∙ z) .tree)
 
 halt-refusal-requires : tie.Need-halt-refusal-requires Inv-loop μ-loop
 halt-refusal-requires c κs = sixteen c

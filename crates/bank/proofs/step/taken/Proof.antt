@@ -6,7 +6,7 @@ use Rattle.column.specs.Unchecked.{takeUnchecked}
 use Rattle.column.specs.declared.tree.Tree.{Tree}
 use Rattle.column.specs.declared.state.Column.{Column}
 use Rattle.bank.specs.Banks.{state, columnAt}
-use Rattle.bank.specs.laws.StandingLaws.{stands}
+use Rattle.bank.specs.laws.ValidityLaws.{valid}
 use Rattle.bank.specs.laws.ChangeLaws.{taken-done}
 use Rattle.bank.proofs.step.taken.Statement.{statement}
 use Rattle.bank.proofs.step.taken.Tie as tie
@@ -40,12 +40,12 @@ returns c =
     let s = q .before .before .before in
     let a = s .args in
     let there : a .place < b .count = omega (arith, s .pre .0, handed .count-is) in
-    taken-done (state b (a .heads .now) (a .doors .now)) (stands _ ok) (a .place) there (a .i) is (k .take .result)
+    taken-done (state b (a .heads .now) (a .doors .now)) (valid _ ok) (a .place) there (a .i) is (k .take .result)
     (k .take .ensures
     ∙ ap (λ (t : Tree). takeUnchecked t (a .i) (a .c) (q .packet .result)) (sym (handed .tree-is))
     ∙ ap (λ (c : Column). takeUnchecked (b .tree) (a .i) c (q .packet .result)) (sym (handed .column-is))
     ∙ ap (takeUnchecked (b .tree) (a .i) (columnAt b (a .i))) (q .packet .ensures))
-    (c .settle-taken .ensures b (a .i) (handed .count-is) (handed .lit))
+    (c .settle-taken .ensures b (a .i) (handed .count-is) (handed .running-is))
 
 pub taken-spec : {M : Type 1} → statement M
 taken-spec =

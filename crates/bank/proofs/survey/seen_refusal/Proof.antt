@@ -11,9 +11,9 @@ use Rattle.column.specs.Sets.{has, within}
 use Rattle.column.specs.Trees.{every, treeRefusal}
 use Rattle.column.specs.laws.TreeLaws.{check-exact, tree-sixteen, tree-root}
 use Rattle.column.specs.declared.state.Column.{Column}
-use Rattle.bank.specs.Banks.{state, columnAt, columnsStand, packetsStand, capacity, bankRefusal, joined}
-use Rattle.bank.specs.inner.Surveys.{headStands, tells, Saw}
-use Rattle.bank.specs.laws.StandingLaws.{heads-stand}
+use Rattle.bank.specs.Banks.{state, columnAt, columnsValid, packetsValid, capacity, bankRefusal, joined}
+use Rattle.bank.specs.inner.Surveys.{headValid, tells, Saw}
+use Rattle.bank.specs.laws.ValidityLaws.{heads-valid}
 use Rattle.bank.specs.declared.bank.Bank.{Bank}
 use Rattle.bank.proofs.survey.seen_refusal.Statement.{statement}
 use Rattle.bank.proofs.survey.seen_refusal.Tie as tie
@@ -45,7 +45,7 @@ columns-tell : (c : tie.After-within) (columns : List Column) → let k = c .bef
     let s = start k in
     let v = s .args .v in
     Sees s columns → Goal s columns
-    → (c .within .result && (v .sent && (not (has (v .own) 32) && s .args .whole))) ≡ columnsStand (given s columns)
+    → (c .within .result && (v .sent && (not (has (v .own) 32) && s .args .whole))) ≡ columnsValid (given s columns)
 columns-tell c columns so goal =
     let k = c .before .before .before in
     let s = start k in
@@ -57,10 +57,10 @@ columns-tell c columns so goal =
     ap (λ (x : Bool). x && (v .sent && (not (has (v .own) 32) && s .args .whole)))
     (c .within .ensures ∙ ap (λ (x : ℕ). within x n) (c .before .members-in .ensures))
     ∙ ap (λ (x : Bool). tells v n x) (goal (low k .0) ∙ sym (ap (λ (x : Bool). x || goal-is) past))
-    ∙ so (sixteen k) .stand-so
+    ∙ so (sixteen k) .valid-so
 
 columns-are : (c : tie.Else2) (columns : List Column) → let s = start (c .before .before .before .before .before) in
-    Sees s columns → Goal s columns → columnsStand (given s columns) ≡ true
+    Sees s columns → Goal s columns → columnsValid (given s columns) ≡ true
 columns-are c columns so goal = sym (columns-tell (c .before .before) columns so goal) ∙ not-false _ (c .if2 .left)
 
 tree-refusal-requires : tie.Need-tree-refusal-requires
@@ -94,14 +94,14 @@ returns-3 c =
     let a = start k .args in
     λ columns so goal doors. rw (eq-eqb (treeRefusal (a .t)) 0 (tree-is k), columns-are e columns so goal, lt-ltb capacity (a .count) (c .if3 .taken))
 
-heads-stand-requires : tie.Need-heads-stand-requires
-heads-stand-requires c κs =
+heads-valid-requires : tie.Need-heads-valid-requires
+heads-valid-requires c κs =
     let k = c .before .before .before .before .before .before in
     (sixteen k, (low k .0, c .if3 .left))
 
 -- what the heads say of the packets is what is left to test
-past-count : (c : tie.After-heads-stand) (columns : List Column) (doors : List ℕ) → let s = start (c .before .before .before .before .before .before .before) in
-    Sees s columns → Goal s columns → bankRefusal (state (given s columns) (s .args .heads .now) doors) ≡ first ((4, not (c .heads-stand .result)) ∷ [])
+past-count : (c : tie.After-heads-valid) (columns : List Column) (doors : List ℕ) → let s = start (c .before .before .before .before .before .before .before) in
+    Sees s columns → Goal s columns → bankRefusal (state (given s columns) (s .args .heads .now) doors) ≡ first ((4, not (c .heads-valid .result)) ∷ [])
 unfolding bankRefusal
 past-count c columns doors so goal =
     let e3 = c .before in
@@ -110,10 +110,10 @@ past-count c columns doors so goal =
     let s = start k in
     let a = s .args in
     let b = given s columns in
-    let packets : c .heads-stand .result ≡ packetsStand (state b (a .heads .now) doors) =
-    c .heads-stand .ensures
-    ∙ ap (λ (m : ℕ). every (λ (k : ℕ). headStands (a .t .columns) (a .t .root) (a .t .watch) m (getD (a .heads .now) k 0)) (a .count)) (so (sixteen k) .running-so)
-    ∙ heads-stand b (a .heads .now) doors in
+    let packets : c .heads-valid .result ≡ packetsValid (state b (a .heads .now) doors) =
+    c .heads-valid .ensures
+    ∙ ap (λ (m : ℕ). every (λ (k : ℕ). headValid (a .t .columns) (a .t .root) (a .t .watch) m (getD (a .heads .now) k 0)) (a .count)) (so (sixteen k) .running-so)
+    ∙ heads-valid b (a .heads .now) doors in
     rw (eq-eqb (treeRefusal (a .t)) 0 (tree-is k), columns-are e columns so goal, le-ltb capacity (a .count) (e3 .if3 .left), sym packets)
 
 returns-4 : tie.Need-returns-4
@@ -132,6 +132,6 @@ seen-refusal-spec =
     within-requires
     returns-2
     returns-3
-    heads-stand-requires
+    heads-valid-requires
     returns-4
     returns-5)

@@ -6,7 +6,7 @@ use native.Mathlib.Omega.{arith}
 use Rattle.column.specs.laws.TreeLaws.{tree-sixteen}
 use Rattle.bank.specs.Banks.{state, runningOf, RefusesBank}
 use Rattle.bank.specs.inner.Surveys.{Passing}
-use Rattle.bank.specs.laws.StandingLaws.{stands}
+use Rattle.bank.specs.laws.ValidityLaws.{valid}
 use Rattle.bank.specs.laws.SurveyLaws.{passing-start, passing-on, passing-tells}
 use Rattle.bank.proofs.survey.survey.Statement.{statement}
 use Rattle.bank.proofs.survey.survey.Tie as tie
@@ -71,7 +71,7 @@ returns c =
     let t = told-seen c in
     record {
       refuses = t .0;
-      running-is = λ z. t .1 (tree-sixteen (a .t1 .tree) (stands (state (a .t1) (a .heads .now) []) (sym (t .0 []) ∙ z) .tree));
+      running-is = λ z. t .1 (tree-sixteen (a .t1 .tree) (valid (state (a .t1) (a .heads .now) []) (sym (t .0 []) ∙ z) .tree));
     }
 
 pub survey-spec : {M : Type 1} → statement M

@@ -12,7 +12,7 @@ use Rattle.bank.specs.inner.Changes.{changed}
 use Rattle.bank.specs.Performs.{perform}
 use Rattle.bank.specs.Parts.{isMove, Tells, actorOf}
 use Rattle.bank.specs.inner.Moves.{openingRefusal}
-use Rattle.bank.specs.laws.PartLaws.{opening-there, part-closed, part-opened, stood, lit, place-is, part-refused, part-accepted}
+use Rattle.bank.specs.laws.PartLaws.{opening-there, part-closed, part-opened, stood, who-runs, place-is, part-refused, part-accepted}
 use Rattle.bank.proofs.unchecked_for_script.step_on.Statement.{statement}
 use Rattle.bank.proofs.unchecked_for_script.step_on.Tie as tie
 
@@ -85,7 +85,7 @@ told f columns tells move is place =
     let s = given (start f) columns in
     let o = opens (opened f) in
     let w = part-opened (a .v) s (a .x) (a .i) (a .c) tells move is place o in
-    f .change .ensures columns (place-is (a .v) s (a .x) (a .i) (a .c) tells move is place o) (lit (a .v) s (a .x) (a .i) (a .c) tells move is place o)
+    f .change .ensures columns (place-is (a .v) s (a .x) (a .i) (a .c) tells move is place o) (who-runs (a .v) s (a .x) (a .i) (a .c) tells move is place o)
     (stood (a .v) s (a .x) (a .i) (a .c) tells move is place o) (w .below) (w .actor)
 
 returns-3 : tie.Need-returns-3

@@ -16,23 +16,23 @@ use Rattle.column.specs.Sets.{has, single, within}
 use Rattle.column.specs.laws.SetLaws.{within-lt, member-lt, has-single, lt-within, members-lt}
 use Rattle.column.specs.laws.TreeLaws.{every-at, every-all, every-fails}
 use Rattle.column.specs.Steps as core
-use Rattle.column.specs.Columns.{standing}
+use Rattle.column.specs.Columns.{validityRefusal}
 use Rattle.column.specs.declared.tree.Tree.{Tree}
 use Rattle.column.specs.declared.state.Column.{Column}
 use Rattle.bank.specs.Banks.{State, columnAt, runs, bankRefusal, Whole, actingRefusal}
 use Rattle.bank.specs.Networks.{only, vanished}
-use Rattle.bank.specs.laws.StandingLaws.{Stands, stands, acting-passes, stands-passes, acting}
+use Rattle.bank.specs.laws.ValidityLaws.{Valid, valid, acting-passes, valid-passes, acting}
 use Rattle.bank.specs.laws.StepLaws.{halted-settled}
-use Rattle.bank.specs.Steps.{accepted, unless, halted, settled, haltConditions, haltRefusal, halt, Outcome, refused, membersRun}
+use Rattle.bank.specs.Steps.{accepted, unless, halted, settled, haltConditions, haltRefusal, halt, Result, refused, membersRun}
 use Rattle.bank.specs.Strips.{haltOne, andThen, singles, among, Distinct, Singly}
-use Rattle.bank.specs.laws.strips.StripStates.{halted-twice, halted-none, halted-one, still-runs, halted-whole, halted-stands}
+use Rattle.bank.specs.laws.strips.StripStates.{halted-twice, halted-none, halted-one, still-runs, halted-whole, halted-valid}
 
-core-passes : (s : State) → Stands s → (i : ℕ) → i < s .bank .tree .columns → runs (s .bank) i ≡ true
+core-passes : (s : State) → Valid s → (i : ℕ) → i < s .bank .tree .columns → runs (s .bank) i ≡ true
     → core.haltRefusal (s .bank .tree) i (columnAt (s .bank) i) ≡ 0
 unfolding core.haltRefusal
 core-passes s st i h r = simp (st .tree, st .columns i h, r)
 
-pub one-accepted : (s : State) → Stands s → (i : ℕ) → i < s .bank .tree .columns → runs (s .bank) i ≡ true
+pub one-accepted : (s : State) → Valid s → (i : ℕ) → i < s .bank .tree .columns → runs (s .bank) i ≡ true
     → haltOne s i ≡ accepted (halted s (only i))
 one-accepted s st i h r =
     let c = columnAt (s .bank) i in
@@ -44,7 +44,7 @@ one-accepted s st i h r =
 abbrev Running : State → (ℕ → Bool) → Type 0
 Running s p = (j : ℕ) → p j ≡ true → (j < s .bank .tree .columns) × (runs (s .bank) j ≡ true)
 
-singly-list : (l : List ℕ) (s : State) → Whole s → Stands s → Running s (among l) → Distinct l
+singly-list : (l : List ℕ) (s : State) → Whole s → Valid s → Running s (among l) → Distinct l
     → singles s l ≡ accepted (halted s (among l))
 unfolding singles halted vanished
 singly-list [] s w st run d = ap accepted (sym (halted-none s w (st .room)))
@@ -52,7 +52,7 @@ singly-list (i ∷ l) s w st run d =
     let here = run i (ap (λ (b : Bool). b || among l i) (eq-eqb i i refl)) in
     let next = halted s (only i) in
     ap (λ o. andThen o (λ t. singles t l)) (one-accepted s st i (here .0) (here .1))
-    ∙ singly-list l next (halted-whole s (only i) w st) (halted-stands s (only i) w st) others (d .1)
+    ∙ singly-list l next (halted-whole s (only i) w st) (halted-valid s (only i) w st) others (d .1)
     ∙ ap accepted (halted-twice s w (only i) (among l))
   where
     others : Running (halted s (only i)) (among l)
@@ -68,14 +68,14 @@ singly-list (i ∷ l) s w st run d =
 -- ---- the step with a set
 
 module _ (s : State) (m : ℕ) (e : haltRefusal s m ≡ 0) where
-  pub halts : Stands s × (m < 2 ^ s .bank .tree .columns) × Running s (has m)
+  pub halts : Valid s × (m < 2 ^ s .bank .tree .columns) × Running s (has m)
   unfolding haltRefusal
   halts =
       let n = s .bank .tree .columns in
       let q = earlier-none (bankRefusal s) (first (haltConditions s m)) e in
       let c = passed (haltConditions s m) tt (q .1) in
       let lt = within-lt m n (not-false _ (c .0)) in (
-        stands s (q .0),
+        valid s (q .0),
         lt,
         λ j h.
             let b = member-lt n m j lt h in
@@ -142,7 +142,7 @@ members-listed s m e j = among-listed (has m) (s .bank .tree .columns) j ∙ go 
 module _ (s : State) where
   -- ---- what an accepted halt of one column shows
 
-  unless-accepted : (n : ℕ) (o : Outcome State) (s' : State) → unless n s o ≡ accepted s' → (n ≡ 0) × (o ≡ accepted s')
+  unless-accepted : (n : ℕ) (o : Result State) (s' : State) → unless n s o ≡ accepted s' → (n ≡ 0) × (o ≡ accepted s')
   unless-accepted n o s' = go (eqb n 0) refl
     where
       go : (b : Bool) → eqb n 0 ≡ b → cond b o (refused n s) ≡ accepted s' → (n ≡ 0) × (o ≡ accepted s')
@@ -160,9 +160,9 @@ module _ (s : State) where
   core-runs : (t : Tree) (i : ℕ) (c : Column) → core.haltRefusal t i c ≡ 0 → c .running ≡ true
   unfolding core.haltRefusal
   core-runs t i c e =
-      not-false _ (passed (core.haltConditions t i c) tt (earlier-none (standing t i c) (first (core.haltConditions t i c)) e .1) .0)
+      not-false _ (passed (core.haltConditions t i c) tt (earlier-none (validityRefusal t i c) (first (core.haltConditions t i c)) e .1) .0)
 
-  one-runs : (i : ℕ) (s' : State) → haltOne s i ≡ accepted s' → Stands s × (i < s .bank .tree .columns) × (runs (s .bank) i ≡ true)
+  one-runs : (i : ℕ) (s' : State) → haltOne s i ≡ accepted s' → Valid s × (i < s .bank .tree .columns) × (runs (s .bank) i ≡ true)
   one-runs i s' e =
       let c = columnAt (s .bank) i in
       let q = unless-accepted (actingRefusal s i) _ s' e in
@@ -179,16 +179,16 @@ module _ (s : State) where
       let r = k .2 i h in
       one-accepted s (k .0) i (r .0) (r .1)
 
-  passes-set : (m : ℕ) → Stands s → within m (s .bank .tree .columns) ≡ true → membersRun (s .bank) m ≡ true → haltRefusal s m ≡ 0
+  passes-set : (m : ℕ) → Valid s → within m (s .bank .tree .columns) ≡ true → membersRun (s .bank) m ≡ true → haltRefusal s m ≡ 0
   unfolding haltRefusal
-  passes-set m st w r = simp (stands-passes s st, w, r)
+  passes-set m st w r = simp (valid-passes s st, w, r)
 
   -- where each member is accepted from the start, and there is one, so is the set
   pub each-together : (m k : ℕ) → m < 2 ^ k → (i : ℕ) → has m i ≡ true
       → ((j : ℕ) → has m j ≡ true → (s' : State) × (haltOne s j ≡ accepted s')) → haltRefusal s m ≡ 0
   each-together m k l i h each =
       let n = s .bank .tree .columns in
-      let r : (j : ℕ) → has m j ≡ true → Stands s × (j < n) × (runs (s .bank) j ≡ true) = λ j q. one-runs j (each j q .0) (each j q .1) in
+      let r : (j : ℕ) → has m j ≡ true → Valid s × (j < n) × (runs (s .bank) j ≡ true) = λ j q. one-runs j (each j q .0) (each j q .1) in
       passes-set m (r i h .0) (lt-within m n (members-lt k n m l (λ j q. r j q .1)))
       (every-all (λ (j : ℕ). not (has m j) || runs (s .bank) j) n (λ j b. go j (has m j) refl (λ q. r j q .2)))
     where
@@ -205,7 +205,7 @@ module _ (s : State) where
     same-only : (j : ℕ) → has (single i) j ≡ only i j
     same-only j = has-single i j
 
-    running-one : Stands s → i < n → runs (s .bank) i ≡ true → halt s (single i) ≡ haltOne s i
+    running-one : Valid s → i < n → runs (s .bank) i ≡ true → halt s (single i) ≡ haltOne s i
     running-one st l r =
         let e : haltRefusal s (single i) ≡ 0 = passes-set (single i) st (lt-within (single i) n (pow-lt l))
         (every-all (λ (j : ℕ). not (has (single i) j) || runs (s .bank) j) n (λ j b. go j (equal-cases j i))) in
@@ -219,21 +219,21 @@ module _ (s : State) where
             last false = refl
         go j (inr z) = ap (λ (b : Bool). not b || runs (s .bank) j) (same-only j ∙ ne-eqb j i z)
 
-    stopped-one : Stands s → i < n → runs (s .bank) i ≡ false → halt s (single i) ≡ haltOne s i
+    stopped-one : Valid s → i < n → runs (s .bank) i ≡ false → halt s (single i) ≡ haltOne s i
     unfolding haltRefusal core.haltRefusal
     stopped-one st l r =
         let none : membersRun (s .bank) (single i) ≡ false = every-fails (λ (j : ℕ). not (has (single i) j) || runs (s .bank) j) n i
         (ap (λ (b : Bool). not b || runs (s .bank) i) (same-only i ∙ eq-eqb i i refl) ∙ r) l in
-        let together : halt s (single i) ≡ refused 5 s = simp (stands-passes s st, lt-within (single i) n (pow-lt l), none) in
-        let alone : haltOne s i ≡ refused 5 s = simp (stands-passes s st, lt-leb n i l, st .tree, st .columns i l, r) in
+        let together : halt s (single i) ≡ refused 5 s = simp (valid-passes s st, lt-within (single i) n (pow-lt l), none) in
+        let alone : haltOne s i ≡ refused 5 s = simp (valid-passes s st, lt-leb n i l, st .tree, st .columns i l, r) in
         together ∙ sym alone
 
-    absent-one : Stands s → n ≤ i → halt s (single i) ≡ haltOne s i
+    absent-one : Valid s → n ≤ i → halt s (single i) ≡ haltOne s i
     unfolding haltRefusal
     absent-one st l =
         let out : within (single i) n ≡ false = ⊎-elim (λ t. absurd (omega (arith, l, member-lt n (single i) i (within-lt (single i) n t) (same-only i ∙ eq-eqb i i refl)))) (λ f. f) (truth (within (single i) n)) in
-        let together : halt s (single i) ≡ refused 4 s = simp (stands-passes s st, out) in
-        let alone : haltOne s i ≡ refused 4 s = simp (stands-passes s st, le-leb n i l) in
+        let together : halt s (single i) ≡ refused 4 s = simp (valid-passes s st, out) in
+        let alone : haltOne s i ≡ refused 4 s = simp (valid-passes s st, le-leb n i l) in
         together ∙ sym alone
 
     bad-one : (bankRefusal s ≡ 0 → ⊥) → halt s (single i) ≡ haltOne s i
@@ -245,8 +245,8 @@ module _ (s : State) where
 
     -- "A list of one is the old step", whatever the bank
     pub one : halt s (single i) ≡ haltOne s i
-    one = ⊎-elim (λ z. good (stands s z)) bad-one (equal-cases (bankRefusal s) 0)
+    one = ⊎-elim (λ z. good (valid s z)) bad-one (equal-cases (bankRefusal s) 0)
       where
-        good : Stands s → halt s (single i) ≡ haltOne s i
+        good : Valid s → halt s (single i) ≡ haltOne s i
         good st = ⊎-elim (λ l. ⊎-elim (running-one st l) (stopped-one st l) (truth (runs (s .bank) i)))
             (λ q. absent-one st (⊎-elim (λ e. omega (arith, e)) (λ l. omega (arith, l)) q)) (compare-cases i n)

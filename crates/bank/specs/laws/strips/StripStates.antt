@@ -20,7 +20,7 @@ use Rattle.bank.specs.laws.ListSteps.{keeping-few, keeping-same, padded-
 use Rattle.bank.specs.laws.ListLaws.{padded-front, keeping-twice, keeping-all, padded-twice}
 use Rattle.bank.specs.Banks.{State, state, columnAt, runs, packetAt, Whole}
 use Rattle.bank.specs.laws.NetworkLaws.{vanished-whole}
-use Rattle.bank.specs.laws.StandingLaws.{Stands}
+use Rattle.bank.specs.laws.ValidityLaws.{Valid}
 use Rattle.bank.specs.Steps.{rewriting, halted, withColumn}
 use Rattle.bank.specs.laws.strips.Rewriting.{rewriting-twice, rewriting-none, rewriting-one, rewriting-at}
 
@@ -157,7 +157,7 @@ module _ (s : State) (p : ℕ → Bool) where
   same-state t i c true = refl
   same-state t i c false = refl
 
-  module _ (w : Whole s) (st : Stands s) where
+  module _ (w : Whole s) (st : Valid s) where
     pub halted-whole : Whole (halted s p)
     unfolding halted
     halted-whole =
@@ -209,9 +209,9 @@ module _ (s : State) (p : ℕ → Bool) where
     unfolding halted vanished
     same-tree = refl
 
-    pub halted-stands : Stands (halted s p)
+    pub halted-valid : Valid (halted s p)
     unfolding same-tree
-    halted-stands = record {
+    halted-valid = record {
       tree = ap treeRefusal same-tree ∙ st .tree;
       columns = λ i h.
           let c = columnAt (s .bank) i in

@@ -20,7 +20,7 @@ use Rattle.column.specs.laws.RefusalLaws.{passed}
 use Rattle.column.specs.declared.tree.Tree.{Tree}
 use Rattle.column.specs.declared.state.Column.{Column}
 use Rattle.bank.specs.Banks.{State, columnAt, runs, haltedOf, places}
-use Rattle.bank.specs.laws.StandingLaws.{Stands}
+use Rattle.bank.specs.laws.ValidityLaws.{Valid}
 use Rattle.bank.specs.Steps.{send, ack, all}
 use Rattle.bank.specs.Performs.{perform}
 use Rattle.bank.specs.Rest.{isRefused}
@@ -63,7 +63,7 @@ module _ (s : State) where
 
 -- ---- a column that runs
 
-module _ (s : State) (st : Stands s) (i : ℕ) (h : i < s .bank .tree .columns) (r : runs (s .bank) i ≡ true) where
+module _ (s : State) (st : Valid s) (i : ℕ) (h : i < s .bank .tree .columns) (r : runs (s .bank) i ≡ true) where
   abbrev b : Bank
   b = s .bank
 
@@ -134,7 +134,7 @@ module _ (s : State) (st : Stands s) (i : ℕ) (h : i < s .bank .tree .columns) 
 
 -- ---- the bank
 
-module _ (s : State) (st : Stands s) where
+module _ (s : State) (st : Valid s) where
   abbrev part : ℕ → List Step
   part i = cond (runs (s .bank) i) (offers (s .bank .tree .columns) i) []
 

@@ -17,7 +17,7 @@ use Rattle.column.specs.laws.SetLaws.{has-minus, selected-has, within-lt}
 use Rattle.column.specs.laws.Digits.{lowest-member}
 use Rattle.column.specs.laws.TreeLaws.{tree-sixteen}
 use Rattle.column.specs.laws.ChoiceLaws.{choose-lt}
-use Rattle.column.specs.Columns.{idle, standing, stateConditions, stateRefusal, watched, mayAcknowledge}
+use Rattle.column.specs.Columns.{idle, validityRefusal, stateConditions, stateRefusal, watched, mayAcknowledge}
 use Rattle.column.specs.laws.RefusalLaws.{passed}
 use Rattle.column.specs.laws.StateLaws.{Sound, sound}
 use Rattle.column.specs.Steps as core
@@ -25,7 +25,7 @@ use Rattle.column.specs.declared.tree.Tree.{Tree}
 use Rattle.column.specs.declared.state.Column.{Column}
 use Rattle.column.specs.declared.packet.Packet.the-variants.{Message}
 use Rattle.bank.specs.Banks.{State, columnAt, runs, haltedOf, capacity}
-use Rattle.bank.specs.laws.StandingLaws.{Stands, stands-passes}
+use Rattle.bank.specs.laws.ValidityLaws.{Valid, valid-passes}
 use Rattle.bank.specs.Steps.{accepted, send, ack, all, note}
 use Rattle.bank.specs.Performs.{perform}
 use Rattle.bank.specs.Rest.{isRefused}
@@ -38,7 +38,7 @@ use Rattle.bank.specs.declared.bank.Bank.{Bank}
 
 -- ---- a bank that stands refuses by the step's own number, and where a packet has no room
 
-module _ (s : State) (st : Stands s) (i : ℕ) (h : i < s .bank .tree .columns) (r : runs (s .bank) i ≡ true) where
+module _ (s : State) (st : Valid s) (i : ℕ) (h : i < s .bank .tree .columns) (r : runs (s .bank) i ≡ true) where
   abbrev b : Bank
   b = s .bank
 
@@ -54,7 +54,7 @@ module _ (s : State) (st : Stands s) (i : ℕ) (h : i < s .bank .tree .columns) 
   abbrev halted : ℕ
   halted = haltedOf b
 
-  ok : standing t i c ≡ 0
+  ok : validityRefusal t i c ≡ 0
   ok = rw (st .tree) (st .columns i h)
 
   members : Sound t i c
@@ -63,7 +63,7 @@ module _ (s : State) (st : Stands s) (i : ℕ) (h : i < s .bank .tree .columns) 
   exactly : (x : Step) → isRefused (perform s x) ≡ ((raised s x && full) || refuses (ownRefusal s x))
   exactly x =
       refused-exactly s x
-      ∙ ap (λ (n : ℕ). refuses (earlier n (earlier (ownRefusal s x) (first ((9, overfull s x) ∷ []))))) (stands-passes s st)
+      ∙ ap (λ (n : ℕ). refuses (earlier n (earlier (ownRefusal s x) (first ((9, overfull s x) ∷ []))))) (valid-passes s st)
       ∙ then-refuses (ownRefusal s x) 8 (overfull s x)
       ∙ ap (λ (f : Bool). (raised s x && f) || refuses (ownRefusal s x)) (count-full (truth (ltb (b .count) capacity)))
     where

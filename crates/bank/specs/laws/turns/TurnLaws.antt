@@ -11,7 +11,7 @@ use Rattle.column.specs.Refusals.{first}
 use Rattle.column.specs.laws.RefusalLaws.{passed, earlier-none}
 use Rattle.column.specs.Sets.{has, lowest, minus}
 use Rattle.column.specs.Packets.{receiver}
-use Rattle.column.specs.Columns.{standing}
+use Rattle.column.specs.Columns.{validityRefusal}
 use Rattle.column.specs.laws.StateLaws.{acceptable}
 use Rattle.column.specs.Steps as core
 use Rattle.column.specs.Unchecked.{boundedTake}
@@ -20,15 +20,15 @@ use Rattle.column.specs.declared.tree.Tree.{Tree}
 use Rattle.column.specs.declared.state.Column.{Column}
 use Rattle.column.specs.declared.outcome.Outcome as core-outcome
 use Rattle.bank.specs.Banks.{State, state, columnAt, runs, packetAt, bankRefusal}
-use Rattle.bank.specs.laws.StandingLaws.{stands}
+use Rattle.bank.specs.laws.ValidityLaws.{valid}
 use Rattle.bank.specs.laws.WordLaws.{receiver-of}
-use Rattle.bank.specs.Steps.{Outcome, refused, settled, delivered, noteRefusal}
+use Rattle.bank.specs.Steps.{Result, refused, settled, delivered, noteRefusal}
 use Rattle.bank.specs.Networks.{removed}
 use Rattle.bank.specs.laws.StepLaws.{note-halted}
 use Rattle.bank.specs.Performs.{perform}
-use Rattle.bank.specs.inner.Changes.{Steady, Aimed, Lit, Handed, coreStep}
+use Rattle.bank.specs.inner.Changes.{Steady, Aimed, RunningIs, Handed, coreStep}
 use Rattle.bank.specs.Parts.{isOwn, isTake}
-use Rattle.bank.specs.laws.ChangeLaws.{stands-at, own-done, taken-done}
+use Rattle.bank.specs.laws.ChangeLaws.{valid-at, own-done, taken-done}
 use Rattle.bank.specs.Rest.{isRefused}
 use Rattle.bank.specs.laws.RestSteps.{refused-exactly}
 use Rattle.bank.specs.Exact.{ownRefusal, refusalOf}
@@ -110,7 +110,7 @@ turn-below s ok x quick e = go (isTake x) refl
     go : (b : Bool) → isTake x ≡ b → actingIn x (getD (s .heads) 0 0) < s .bank .tree .columns
     go true takes =
         let held : 0 < s .bank .count = omega (arith, eqb-false (s .bank .count) 0 (ap (λ (y : Bool). y && eqb (s .bank .count) 0) (sym takes) ∙ e)) in
-        let to-below = acceptable (s .bank .tree) (packetAt s 0) (stands s ok .packets 0 held) .receiver-below in
+        let to-below = acceptable (s .bank .tree) (packetAt s 0) (valid s ok .packets 0 held) .receiver-below in
         let is = ap (λ (y : Step). actingIn y (getD (s .heads) 0 0)) (turning s x quick .oldest takes) in
         omega (arith, to-below, is, receiver-of (getD (s .heads) 0 0) (getD (s .doors) 0 0))
     go false none = turning s x quick .below none
@@ -129,7 +129,7 @@ own-turn (Back j) e z = absurd (true≢false e)
 own-turn (Write i offset value) e z = absurd (true≢false e)
 
 -- a step that the bank does not refuse is its effect
-module _ (s : State) (i : ℕ) (good : standing (s .bank .tree) i (columnAt (s .bank) i) ≡ 0) (running : ℕ) (lit : Lit running (s .bank)) where
+module _ (s : State) (i : ℕ) (good : validityRefusal (s .bank .tree) i (columnAt (s .bank) i) ≡ 0) (running : ℕ) (running-is : RunningIs running (s .bank)) where
   abbrev tree : Tree
   tree = s .bank .tree
 
@@ -140,9 +140,9 @@ module _ (s : State) (i : ℕ) (good : standing (s .bank .tree) i (columnAt (s .
   unfolding core.noteRefusal
   note-effect j z =
       let q = earlier-none (core.noteRefusal tree i column j) (first ((6, runs (s .bank) j) ∷ [])) z in
-      let own = earlier-none (standing tree i column) (first (core.noteConditions tree i column j)) (q .0) in
+      let own = earlier-none (validityRefusal tree i column) (first (core.noteConditions tree i column j)) (q .0) in
       let below = leb-false (tree .columns) j (passed (core.noteConditions tree i column j) tt (own .1) .0) in
-      note-bounded tree i column good j (q .0) ∙ note-halted tree i column j (has running j) (lit j below ∙ passed ((6, runs (s .bank) j) ∷ []) tt (q .1) .0)
+      note-bounded tree i column good j (q .0) ∙ note-halted tree i column j (has running j) (running-is j below ∙ passed ((6, runs (s .bank) j) ∷ []) tt (q .1) .0)
 
   effect-is : (x : Step) → byNoColumn x ≡ false → isOrder x ≡ false → isTake x ≡ false → acts s x i ≡ true → ownRefusal s x ≡ 0
       → turnEffect tree x i column ≡ coreStep tree running x i column
@@ -170,21 +170,21 @@ module _ {b : Bank} {t : Tree} {running i : ℕ} {c : Column} {count : ℕ} (hea
   -- the turn's step, where it is no take, is accepted
   none-refuses : isTake x ≡ false → ownRefusal s x ≡ 0
   none-refuses none =
-      let same = quick-turn s (stands s ok) ∙ sym quick in
+      let same = quick-turn s (valid s ok) ∙ sym quick in
       let goes = ap (λ (y : Step). isRefused (perform s y)) (sym same) ∙ turn-accepted s (ap isTake same ∙ none) in
       let z : refusalOf s x ≡ 0 = eqb-true (refusalOf s x) 0 (not-false (eqb (refusalOf s x) 0) (sym (refused-exactly s x) ∙ goes)) in
       earlier-none (ownRefusal s x) _ (earlier-none (bankRefusal s) _ z .1) .0
 
-  pub turn-own : isTake x ≡ false → (o : core-outcome.Outcome) → core.meant o ≡ turnEffect t x i c → {after : Outcome State}
-      → (Steady (columnAt b i) (core.meant o) → Aimed (b .tree) (core.meant o) → after ≡ settled s s i (core.meant o)) → after ≡ perform s x
+  pub turn-own : isTake x ≡ false → (o : core-outcome.Outcome) → core.outcomeMeant o ≡ turnEffect t x i c → {after : Result State}
+      → (Steady (columnAt b i) (core.outcomeMeant o) → Aimed (b .tree) (core.outcomeMeant o) → after ≡ settled s s i (core.outcomeMeant o)) → after ≡ perform s x
   turn-own none o e settles =
-      let stood = stands s ok in
+      let stood = valid s ok in
       let below : i < b .tree .columns = omega (arith, is, turns .below none) in
       let actor = ap (acts s x) is ∙ turns .actor in
-      let same : core.meant o ≡ coreStep (b .tree) running x i (columnAt b i) =
+      let same : core.outcomeMeant o ≡ coreStep (b .tree) running x i (columnAt b i) =
       e ∙ ap (λ (t : Tree). turnEffect t x i c) (sym (handed .tree-is)) ∙ ap (turnEffect (b .tree) x i) (sym (handed .column-is))
-      ∙ effect-is s i (stands-at s stood i below) running (handed .lit) x (turns .moves) (turns .given) none actor (none-refuses none) in
-      own-done s stood i below running (handed .lit) x (own-turn x (turns .moves) none) actor same settles
+      ∙ effect-is s i (valid-at s stood i below) running (handed .running-is) x (turns .moves) (turns .given) none actor (none-refuses none) in
+      own-done s stood i below running (handed .running-is) x (own-turn x (turns .moves) none) actor same settles
 
   module _ (takes : isTake x ≡ true) where
     pub turn-receiver : i ≡ receiver (packetAt s 0)
@@ -198,16 +198,16 @@ module _ {b : Bank} {t : Tree} {running i : ℕ} {c : Column} {count : ℕ} (hea
     unfolding perform
     turn-takes some = rw (turns .oldest takes, eq-eqb (bankRefusal s) 0 ok, lt-leb (b .count) 0 (omega (arith, handed .count-is, some)))
 
-    pub turn-taken : (count ≡ 0 → ⊥) → (o : core-outcome.Outcome) → core.meant o ≡ boundedTake t i c (packetAt s 0) → {after : Outcome State}
-        → (Steady (columnAt b i) (core.meant o) → Aimed (b .tree) (core.meant o) → after ≡ settled s (removed s 0) i (core.meant o)) → after ≡ perform s x
+    pub turn-taken : (count ≡ 0 → ⊥) → (o : core-outcome.Outcome) → core.outcomeMeant o ≡ boundedTake t i c (packetAt s 0) → {after : Result State}
+        → (Steady (columnAt b i) (core.outcomeMeant o) → Aimed (b .tree) (core.outcomeMeant o) → after ≡ settled s (removed s 0) i (core.outcomeMeant o)) → after ≡ perform s x
     unfolding core.takeRefusal
     turn-taken some o e settles =
         let p = packetAt s 0 in
         let held : 0 < b .count = omega (arith, handed .count-is, some) in
-        let stood = stands s ok in
+        let stood = valid s ok in
         let none : core.takeRefusal (b .tree) i (columnAt b i) p ≡ 0 =
         subst (λ (k : ℕ). core.takeRefusal (b .tree) k (columnAt b k) p ≡ 0) (sym turn-receiver) (core-takes s stood 0 held) in
-        let q = earlier-none (standing (b .tree) i (columnAt b i)) _ none in
+        let q = earlier-none (validityRefusal (b .tree) i (columnAt b i)) _ none in
         let own = earlier-none (core.packetRefusal (b .tree) p) (first (core.takeConditions (b .tree) i (columnAt b i) p)) (q .1) .1 in
         taken-done s stood 0 held i turn-receiver o
         (e ∙ ap (λ (t : Tree). boundedTake t i c p) (sym (handed .tree-is)) ∙ ap (λ (c : Column). boundedTake (b .tree) i c p) (sym (handed .column-is))

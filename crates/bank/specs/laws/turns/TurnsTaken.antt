@@ -11,15 +11,15 @@ use borrow.Author.Tests.{eqb-true, ltb-true, ltb-false}
 use Rattle.column.specs.laws.TreeLaws.{tree-sixteen}
 use Rattle.column.specs.declared.tree.Tree.{Tree}
 use Rattle.bank.specs.Banks.{State, state, columnAt, runs, runningOf, bankRefusal}
-use Rattle.bank.specs.inner.Surveys.{newestStands}
-use Rattle.bank.specs.laws.StandingLaws.{stands}
-use Rattle.bank.specs.laws.StandingOn.{room-on, tree-on, runs-on, actor-on, stands-on}
-use Rattle.bank.specs.Steps.{Outcome, accepted, refused, answered}
+use Rattle.bank.specs.inner.Surveys.{newestValid}
+use Rattle.bank.specs.laws.ValidityLaws.{valid}
+use Rattle.bank.specs.laws.ValidityOn.{room-on, tree-on, runs-on, actor-on, valid-on}
+use Rattle.bank.specs.Steps.{Result, accepted, refused, answered}
 use Rattle.bank.specs.Performs.{perform}
 use Rattle.bank.specs.laws.RestSteps.{unchanged, broken-refused}
 use Rattle.bank.specs.Rest.{isRefused}
 use Rattle.bank.specs.inner.Changes.{Handed, isRefusal}
-use Rattle.bank.specs.laws.ChangeLaws.{lit-running}
+use Rattle.bank.specs.laws.ChangeLaws.{running-is-of}
 use Rattle.bank.specs.inner.Moves.{acts}
 use Rattle.bank.specs.Dispatch.{turn, dispatched, dispatch, Dispatches}
 use Rattle.bank.specs.inner.Turning.{readyOf, quickTurn, actingIn, Ended}
@@ -34,13 +34,13 @@ use Rattle.bank.specs.declared.bank.Step.{Step}
 
 -- ---- a turn
 
-refused-with : (o : Outcome State) → isRefused o ≡ true → (n : ℕ) × (m : State) × (o ≡ refused n m)
+refused-with : (o : Result State) → isRefused o ≡ true → (n : ℕ) × (m : State) × (o ≡ refused n m)
 refused-with (accepted s) e = absurd (true≢false (sym e))
 refused-with (refused n s) e = (n, s, refl)
 
 module _ (s : State) (ok : bankRefusal s ≡ 0) (x : Step) (quick : x ≡ quickTurn (s .bank)) where
   own : perform s x ≡ perform s (turn s)
-  own = ap (perform s) (quick ∙ sym (quick-turn s (stands s ok)))
+  own = ap (perform s) (quick ∙ sym (quick-turn s (valid s ok)))
 
   module _ (k : ℕ) where
     stops : (n : ℕ) (s' : State) → refused n s' ≡ perform s x → (length (dispatched (suc k) s) ≡ 0) × (dispatch (suc k) s ≡ s')
@@ -75,7 +75,7 @@ pub record Turned (limit steps : ℕ) (s m m' : State) (i : ℕ) : Type 0 where
   pub within : (m' .bank .tree .columns ≤ 16) × (m' .bank .count ≤ 512)
   pub same : (j : ℕ) → runs (m' .bank) j ≡ runs (m .bank) j
   pub actor : (i < m .bank .tree .columns) × (runs (m .bank) i ≡ true)
-  pub test : newestStands m' ≡ eqb (bankRefusal m') 0
+  pub test : newestValid m' ≡ eqb (bankRefusal m') 0
 
 -- what the function answers then
 pub over : {r : Dispatched} {b : Bank} {heads doors : List ℕ} {limit steps : ℕ} {s : State} → Ended r b steps → Over limit steps s (state b heads doors)
@@ -144,7 +144,7 @@ module _ {limit steps : ℕ} {s m : State} (g : Going limit steps s m) where
           let z = acting-turn in
           let tree = tree-on m x m' _ (z .moves) ok done (z .actor) in
           let room = room-on m x m' _ (z .moves) ok done (z .actor) in
-          (subst (λ (t : Tree). t .columns ≤ 16) (sym tree) (tree-sixteen (m .bank .tree) (stands m ok .tree)), room)
+          (subst (λ (t : Tree). t .columns ≤ 16) (sym tree) (tree-sixteen (m .bank .tree) (valid m ok .tree)), room)
 
       pub turned : (i : ℕ) → i ≡ actingIn x (getD (m .heads) 0 0) → Turned limit steps s m m' i
       turned i is =
@@ -155,7 +155,7 @@ module _ {limit steps : ℕ} {s m : State} (g : Going limit steps s m) where
             within = within;
             same = runs-on m x m' _ (z .moves) ok done (z .actor);
             actor = actor-on m x m' i (z .moves) ok done acts-at;
-            test = stands-on m x m' i (z .moves) ok done acts-at;
+            test = valid-on m x m' i (z .moves) ok done acts-at;
           }
 
   -- the limit is reached, or nobody can do anything and no packet is there to take
@@ -174,8 +174,8 @@ module _ {limit steps : ℕ} {s m : State} (g : Going limit steps s m) where
           let x = quickTurn b in
           let i = actingIn x (getD (m .heads) 0 0) in
           let handed : Handed b (b .tree) (runningOf b) i (columnAt b i) (b .count) =
-          record { tree-is = refl; lit = lit-running b refl; column-is = refl; count-is = refl } in
-          let takes = sym (ready-none b (stands m ok .tree)) ∙ ap (λ (n : ℕ). eqb n 0) (sym is) ∙ z .0 in
+          record { tree-is = refl; running-is = running-is-of b refl; column-is = refl; count-is = refl } in
+          let takes = sym (ready-none b (valid m ok .tree)) ∙ ap (λ (n : ℕ). eqb n 0) (sym is) ∙ z .0 in
           going-stops ok l x refl (Refused 10) m (turn-none (m .heads) (m .doors) handed ok x refl refl takes (eqb-true (b .count) 0 (z .1))) refl
 
       go : (b : Bool) → ltb steps limit ≡ b → Over limit steps s m

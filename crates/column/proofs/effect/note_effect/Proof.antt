@@ -3,7 +3,7 @@ use mathlib.Core.Path.{_≡_, sym, _∙_}
 use mathlib.Core.Bool.{true}
 use mathlib.Core.Logic.{⊎-elim}
 use borrow.Author.Tests.{not-true, not-false}
-use Rattle.column.specs.Steps.{meant, noteEffect}
+use Rattle.column.specs.Steps.{outcomeMeant, noteEffect}
 use Rattle.column.specs.Unchecked.{bounded}
 use Rattle.column.specs.laws.UncheckedLaws.{Bounds, bounds, beyond-bounds, within-bounds}
 use Rattle.column.proofs.effect.note_effect.Statement.{statement}
@@ -45,7 +45,7 @@ done-requires : tie.Need-done-requires
 done-requires c κs = search needs
 
 noted : (c : tie.After-done) → let a = c .before .before .before .before .before .before .before .args in
-    meant (c .done .result) ≡ noteEffect (a .t) (a .c) (a .j)
+    outcomeMeant (c .done .result) ≡ noteEffect (a .t) (a .c) (a .j)
 unfolding noteEffect
 noted c =
     let k = c .before in

@@ -2,7 +2,7 @@ use borrow.Author.Needs.{needs}
 use mathlib.Core.Path.{_≡_, sym, ap, _∙_}
 use borrow.Author.Tests.{eq-eqb, ne-eqb, not-true, not-false}
 use Rattle.column.specs.Trees.{choose}
-use Rattle.column.specs.Steps.{meant, sendEffect}
+use Rattle.column.specs.Steps.{outcomeMeant, sendEffect}
 use Rattle.column.specs.Unchecked.{bounded, boundedSend}
 use Rattle.column.specs.laws.UncheckedLaws.{Bounds, bounds, beyond-bounds, within-bounds}
 use Rattle.column.proofs.effect.send_effect.Statement.{statement}
@@ -54,7 +54,7 @@ served : (w : tie.After-without) → w .before .before .before .choose .result �
 served w = w .before .before .before .choose .ensures
 
 passed-over : (c : tie.After-done) → let a = c .before .before .before .before .before .before .args in
-    meant (c .done .result) ≡ sendEffect (a .t) (a .i) (a .c)
+    outcomeMeant (c .done .result) ≡ sendEffect (a .t) (a .i) (a .c)
 unfolding sendEffect
 passed-over c =
     let w = c .before .before in
@@ -73,7 +73,7 @@ done-requires-2 : tie.Need-done-requires-2
 done-requires-2 c κs = search needs
 
 children-join : (c : tie.After-done2) → let a = c .before .before .before .before .before .before .before .before .before .before .args in
-    meant (c .done2 .result) ≡ sendEffect (a .t) (a .i) (a .c)
+    outcomeMeant (c .done2 .result) ≡ sendEffect (a .t) (a .i) (a .c)
 unfolding sendEffect
 children-join c =
     let s = c .before .before in
@@ -104,7 +104,7 @@ putting-requires : tie.Need-putting-requires
 putting-requires c κs = search needs
 
 message-put : (c : tie.After-putting) → let a = c .before .before .before .before .before .before .before .before .before .args in
-    meant (c .putting .result) ≡ sendEffect (a .t) (a .i) (a .c)
+    outcomeMeant (c .putting .result) ≡ sendEffect (a .t) (a .i) (a .c)
 unfolding sendEffect
 message-put c =
     let h = c .before .before .before in

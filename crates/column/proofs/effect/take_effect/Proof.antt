@@ -3,7 +3,7 @@ use mathlib.Core.Path.{_≡_, sym, ap, _∙_}
 use mathlib.Core.Bool.{true}
 use borrow.Author.Tests.{not-true, not-false}
 use Rattle.column.specs.Packets.{sender}
-use Rattle.column.specs.Steps.{meant, takeEffect}
+use Rattle.column.specs.Steps.{outcomeMeant, takeEffect}
 use Rattle.column.specs.Unchecked.{bounded, boundedTake}
 use Rattle.column.specs.laws.UncheckedLaws.{Bounds, bounds, beyond-bounds, within-bounds}
 use Rattle.column.proofs.effect.take_effect.Statement.{statement}
@@ -61,14 +61,14 @@ acknowledgement-effect-requires : tie.Need-acknowledgement-effect-requires
 acknowledgement-effect-requires c κs = below (c .before .before .before) .other
 
 message : (c : tie.After-message-effect) → let a = c .before .before .before .before .before .before .before .args in
-    meant (c .message-effect .result) ≡ takeEffect (a .t) (a .i) (a .c) (a .p)
+    outcomeMeant (c .message-effect .result) ≡ takeEffect (a .t) (a .i) (a .c) (a .p)
 message c = c .message-effect .ensures ∙ rw (c .before .before .before .before .before .before .sender .ensures, c .before .before .p .given .1)
 
 returns-2 : tie.Need-returns-2
 returns-2 c = message c ∙ effect (c .before .before .before .before)
 
 acknowledged : (c : tie.After-acknowledgement-effect) → let a = c .before .before .before .before .before .before .before .args in
-    meant (c .acknowledgement-effect .result) ≡ takeEffect (a .t) (a .i) (a .c) (a .p)
+    outcomeMeant (c .acknowledgement-effect .result) ≡ takeEffect (a .t) (a .i) (a .c) (a .p)
 acknowledged c = c .acknowledgement-effect .ensures ∙ rw (c .before .before .before .before .before .before .sender .ensures, c .before .before .p2 .given .1)
 
 returns-3 : tie.Need-returns-3

@@ -73,10 +73,10 @@ returns-2 : tie.Need-returns-2 Inv-loop μ-loop
 returns-2 c = c .no-frame2 .ensures ∙ bad (c .before)
 
 -- the packet that stands where the loop is, and what it takes
-stands : (c : tie.After-known-told Inv-loop μ-loop)
+valid : (c : tie.After-known-told Inv-loop μ-loop)
     → let l = c .before .before .before .before .before .before .before in
     read (drop (l .loop .at) (l .before .before .args .frame .now)) ≡ given (part (c .before .packet .given .0 .0) (c .before .packet .given .0 .1 .0))
-stands c =
+valid c =
     let r = c .before .before .before in
     let l = r .before .before .before .before in
     sym (rw (c .before .packet .given .1) at (r .read .ensures) ∙ whole (l .before .before .args .frame .now) (l .loop .at))
@@ -87,7 +87,7 @@ sized : (c : tie.After-known-told Inv-loop μ-loop)
 sized c =
     let l = c .before .before .before .before .before .before .before in
     let s = l .before .before .args .frame .now in
-    let k = read-sized wide (drop (l .loop .at) s) (part (c .before .packet .given .0 .0) (c .before .packet .given .0 .1 .0)) (stands c) in
+    let k = read-sized wide (drop (l .loop .at) s) (part (c .before .packet .given .0 .0) (c .before .packet .given .0 .1 .0)) (valid c) in
     (omega (arith, k .0), omega (arith, k .1, length-drop (l .loop .at) s))
 
 enum-known-packet : tie.Need-enum-known-packet Inv-loop μ-loop
@@ -117,7 +117,7 @@ loop-again c =
     let p = c .before .packet .given .0 .0 in
     let used = c .before .packet .given .0 .1 .0 in
     let some : framePackets - count ≡ suc (framePackets - (count + 1)) = omega arith in
-    let more = laid-more (framePackets - (count + 1)) (l .loop .packets) count (drop at s) p used (simp length-drop (omega arith)) (stands c) in (
+    let more = laid-more (framePackets - (count + 1)) (l .loop .packets) count (drop at s) p used (simp length-drop (omega arith)) (valid c) in (
       omega (arith, sized c .1),
       (
         omega arith,

@@ -3,8 +3,8 @@ use mathlib.Core.Path.{sym, ap, _∙_, _≡_}
 use borrow.Author.Tests.{eq-eqb, ne-eqb, leb-false}
 use Rattle.column.specs.Refusals.{refused}
 use Rattle.column.specs.laws.RefusalLaws.{passed, earlier-none}
-use Rattle.column.specs.Columns.{standing}
-use Rattle.column.specs.laws.StateLaws.{standing-column}
+use Rattle.column.specs.Columns.{validityRefusal}
+use Rattle.column.specs.laws.StateLaws.{validity-refusal-column}
 use Rattle.column.specs.Pages.{pageSize, readConditions, readRefusal}
 use Rattle.column.proofs.page.read.Statement.{statement}
 use Rattle.column.proofs.page.read.Tie as tie
@@ -25,14 +25,14 @@ page-requires : tie.Need-page-requires
 unfolding readRefusal
 page-requires c κs =
     let a = c .before .before .args in
-    standing-column (a .t) (a .i) (a .c) (earlier-none (standing (a .t) (a .i) (a .c)) _ (none c) .0)
+    validity-refusal-column (a .t) (a .i) (a .c) (earlier-none (validityRefusal (a .t) (a .i) (a .c)) _ (none c) .0)
 
 array-read-byte : tie.Need-array-read-byte
 unfolding readRefusal
 array-read-byte c =
     let e = c .before in
     let a = e .before .before .args in
-    leb-false pageSize (a .offset) (passed (readConditions (a .offset)) tt (earlier-none (standing (a .t) (a .i) (a .c)) _ (none e) .1) .0)
+    leb-false pageSize (a .offset) (passed (readConditions (a .offset)) tt (earlier-none (validityRefusal (a .t) (a .i) (a .c)) _ (none e) .1) .0)
 
 returns-2 : tie.Need-returns-2
 returns-2 c = simp (eq-eqb _ _ (none (c .before)), c .page .ensures)

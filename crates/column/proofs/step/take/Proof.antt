@@ -3,14 +3,14 @@ use Prim.Native.Nat.{ℕ}
 use mathlib.Core.Path.{_≡_, sym, ap, _∙_}
 use Rattle.column.specs.Refusals.{first, earlier}
 use Rattle.column.specs.laws.RefusalLaws.{earlier-none, earlier-assoc}
-use Rattle.column.specs.Columns.{standing}
+use Rattle.column.specs.Columns.{validityRefusal}
 use Rattle.column.specs.Steps.{unless, packetRefusal, takeConditions, takeRefusal, takeEffect}
-use Rattle.column.specs.laws.UncheckedLaws.{standing-refused, take-unchecked}
+use Rattle.column.specs.laws.UncheckedLaws.{validity-refusal-refused, take-unchecked}
 use Rattle.column.proofs.step.take.Statement.{statement}
 use Rattle.column.proofs.step.take.Tie as tie
 
-standing-requires : tie.Need-standing-requires
-standing-requires c κs = search needs
+validity-refusal-requires : tie.Need-validity-refusal-requires
+validity-refusal-requires c κs = search needs
 
 packet-refusal-requires : tie.Need-packet-refusal-requires
 packet-refusal-requires c κs = search needs
@@ -23,19 +23,19 @@ refused-requires c κs = search needs
 
 tests : (c : tie.After-earlier)
     → let a = c .before .before .before .args in
-    c .earlier .result ≡ earlier (standing (a .t) (a .i) (a .c)) (packetRefusal (a .t) (a .p))
-tests c = rw (c .earlier .ensures, c .before .packet-refusal .ensures, c .before .before .standing .ensures)
+    c .earlier .result ≡ earlier (validityRefusal (a .t) (a .i) (a .c)) (packetRefusal (a .t) (a .p))
+tests c = rw (c .earlier .ensures, c .before .packet-refusal .ensures, c .before .before .validity-refusal .ensures)
 
 returns : tie.Need-returns
 unfolding takeRefusal
 returns c =
     let k = c .before .before in
     let a = k .before .before .before .args in
-    let n = standing (a .t) (a .i) (a .c) in
+    let n = validityRefusal (a .t) (a .i) (a .c) in
     let m = packetRefusal (a .t) (a .p) in
     let own = first (takeConditions (a .t) (a .i) (a .c) (a .p)) in
     let effect = takeEffect (a .t) (a .i) (a .c) (a .p) in
-    standing-refused _ (earlier n m) own (a .c) effect (c .refused .ensures) (tests k) (c .before .if1 .taken)
+    validity-refusal-refused _ (earlier n m) own (a .c) effect (c .refused .ensures) (tests k) (c .before .if1 .taken)
     ∙ ap (λ (x : ℕ). unless x (a .c) effect) (earlier-assoc n m own)
 
 take-requires : tie.Need-take-requires
@@ -45,10 +45,10 @@ returns-2 : tie.Need-returns-2
 returns-2 c =
     let e = c .before in
     let a = e .before .before .before .before .args in
-    let q = earlier-none (standing (a .t) (a .i) (a .c)) (packetRefusal (a .t) (a .p)) (sym (tests (e .before)) ∙ e .if1 .left) in
+    let q = earlier-none (validityRefusal (a .t) (a .i) (a .c)) (packetRefusal (a .t) (a .p)) (sym (tests (e .before)) ∙ e .if1 .left) in
     c .take .ensures ∙ take-unchecked (a .t) (a .i) (a .c) (q .0) (a .p) (q .1)
 
 pub take-spec : {M : Type 1} → statement M
 take-spec =
     tie.close
-    (tie.spec standing-requires packet-refusal-requires earlier-requires refused-requires returns take-requires returns-2)
+    (tie.spec validity-refusal-requires packet-refusal-requires earlier-requires refused-requires returns take-requires returns-2)

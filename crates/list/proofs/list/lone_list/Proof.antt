@@ -15,7 +15,7 @@ found : (c : tie.After-refuse-if) → let a = c .before .before .before .before 
     c .refuse-if .result ≡ loneRefusal (a .t) (a .i) (a .c)
 found c =
     let a = c .before .before .before .before .args in
-    c .refuse-if .ensures ∙ ap (λ (n : ℕ). earlier n (first ((5, not (a .c .running)) ∷ []))) (c .before .before .standing .ensures)
+    c .refuse-if .ensures ∙ ap (λ (n : ℕ). earlier n (first ((5, not (a .c .running)) ∷ []))) (c .before .before .validity-refusal .ensures)
 
 -- where it found none, none there is
 module _ (c : tie.Else1) where
@@ -25,8 +25,8 @@ module _ (c : tie.Else1) where
   good : loneRefusal (start .args .t) (start .args .i) (start .args .c) ≡ 0
   good = sym (found (c .before)) ∙ c .if1 .left
 
-standing-requires : tie.Need-standing-requires
-standing-requires c κs = search needs
+validity-refusal-requires : tie.Need-validity-refusal-requires
+validity-refusal-requires c κs = search needs
 
 refuse-if-requires : tie.Need-refuse-if-requires
 refuse-if-requires c κs = search needs
@@ -56,7 +56,7 @@ pub lone-list-spec : {M : Type 1} → statement M
 lone-list-spec =
     tie.close
     (tie.spec
-    standing-requires
+    validity-refusal-requires
     refuse-if-requires
     returns
     write-list-requires

@@ -1,87 +1,54 @@
-use Prim.Native.Nat.{_-_, _≤_, min}
-use mathlib.Core.Path.{_≡_, refl, sym, ap, _∙_}
-use native.Mathlib.Omega.{arith}
-use lib.ListN.{length, take, length-set, length-take}
 use borrow.Author.Needs.{needs}
-use Rattle.text.specs.laws.WritingLaws.{written-none, written-next, take-fewer}
-use Rattle.text.specs.Text.{written}
+use Prim.Native.Nat.{_-_, min}
+use mathlib.Core.Path.{_≡_, sym, _∙_}
+use native.Mathlib.Omega.{arith}
+use lib.ListN.{length, take}
+use Rattle.text.specs.laws.WritingLaws.{take-fewer}
 use Rattle.text.proofs.writing.put_all.Statement.{statement}
 use Rattle.text.proofs.writing.put_all.Tie as tie
 
-abbrev Inv-loop : tie.InvT-loop
-Inv-loop out₀ at bytes n i₀ out i =
-    (i ≤ n)
-    × (n ≡ min (length out₀ - at) (length bytes))
-    × (length out ≡ length out₀)
-    × (out ≡ written out₀ at (take i bytes))
+-- as many bytes as have room
+text : (f : tie.After-fitting) → let a = f .before .before .before .args in
+    take (f .fitting .result) (a .bytes .now) ≡ take (length (a .out .now) - a .at) (a .bytes .now)
+text f =
+    let a = f .before .before .before .args in
+    take-fewer (length (a .out .now) - a .at) (f .fitting .result) (a .bytes .now) (f .fitting .ensures)
 
-abbrev μ-loop : tie.MeasureT-loop
-μ-loop out₀ at bytes n i₀ out i = n - i
-
-fitting-requires : tie.Need-fitting-requires Inv-loop μ-loop
+fitting-requires : tie.Need-fitting-requires
 fitting-requires c κs = search needs
 
-loop-holds : tie.Need-loop-holds Inv-loop μ-loop
-loop-holds c =
-    let a = c .before .before .before .args in
-    (omega arith, c .fitting .ensures, refl, sym (written-none (a .out .now) (a .at)))
+copy-requires : tie.Need-copy-requires
+copy-requires c κs = search needs
 
-shared-slice-read-out : tie.Need-shared-slice-read-out Inv-loop μ-loop
-shared-slice-read-out c = search needs
+same-length : tie.Need-same-length
+same-length c = search needs
 
-add-out : tie.Need-add-out Inv-loop μ-loop
-add-out c = search needs
-
-slice-write-out : tie.Need-slice-write-out Inv-loop μ-loop
-slice-write-out c = search needs
-
-add-i : tie.Need-add-i Inv-loop μ-loop
-add-i c = search needs
-
-loop-less : tie.Need-loop-less Inv-loop μ-loop
-loop-less c = search needs
-
-loop-again : tie.Need-loop-again Inv-loop μ-loop
-loop-again c =
-    let l = c .before .before in
-    let a = l .before .before .before .before .args in
-    let v = l .loop .inv in (
-      omega arith,
-      v .1,
-      simp length-set (v .2),
-      rw (v .3) (written-next (a .out .now) (a .at) (a .bytes .now) (l .loop .i) (omega arith) (omega arith)),
-    )
-
-add-result : tie.Need-add-result Inv-loop μ-loop
-add-result c = search needs
-
-same-length : tie.Need-same-length Inv-loop μ-loop
-same-length c = c .before .loop .inv .2
-
-returns : tie.Need-returns Inv-loop μ-loop
+returns : tie.Need-returns
 returns c =
-    let l = c .before in
-    let a = l .before .before .before .before .args in
-    let fit = take-fewer (length (a .out .now) - a .at) (l .loop .i) (a .bytes .now) (omega arith) in
-    record {
-      place = omega (arith, length-take (length (a .out .now) - a .at) (a .bytes .now));
-      left = l .loop .inv .3 ∙ ap (λ w. written (a .out .now) (a .at) w) fit;
-    }
+    let k = c .before .before in
+    let t = k .before .before in
+    rw (← text (t .before), t .if1 .taken) (k .copy .ensures)
+
+copy-requires-2 : tie.Need-copy-requires-2
+copy-requires-2 c κs = search needs
+
+same-length-2 : tie.Need-same-length-2
+same-length-2 c = search needs
+
+returns-2 : tie.Need-returns-2
+returns-2 c =
+    let k = c .before .before in
+    let e = k .before .before in
+    rw (← text (e .before)) (k .copy2 .ensures)
 
 pub put-all-spec : {M : Type 1} → statement M
 put-all-spec =
     tie.close
     (tie.spec
-    Inv-loop
-    μ-loop
     fitting-requires
-    loop-holds
-    shared-slice-read-out
-    add-out
-    slice-write-out
-    add-i
-    loop-less
-    loop-again
-    add-result
+    copy-requires
     same-length
-    returns)
+    returns
+    copy-requires-2
+    same-length-2
+    returns-2)

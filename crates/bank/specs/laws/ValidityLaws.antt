@@ -26,8 +26,8 @@ use Rattle.column.specs.declared.tree.Tree.{Tree}
 use Rattle.column.specs.declared.state.Column.{Column}
 use Rattle.bank.specs.Words.{acknowledging, receiverIn, senderIn, packetOf}
 use Rattle.bank.specs.laws.WordLaws.{receiver-of, sender-of, kind-of}
-use Rattle.bank.specs.Banks.{State, state, columnAt, runs, packetAt, columnStands, packetStands, packetsStand, bankConditions, bankRefusal, actingRefusal, places, noColumn, freshPlace, freshColumns, freshBank}
-use Rattle.bank.specs.inner.Surveys.{headStands}
+use Rattle.bank.specs.Banks.{State, state, columnAt, runs, packetAt, columnValid, packetValid, packetsValid, bankConditions, bankRefusal, actingRefusal, places, noColumn, freshPlace, freshColumns, freshBank}
+use Rattle.bank.specs.inner.Surveys.{headValid}
 use Rattle.bank.specs.declared.bank.Bank.{Bank}
 
 -- tests that agree below n
@@ -37,7 +37,7 @@ every-same f g zero h = refl
 every-same f g (suc n) h = ap₂ _&&_ (every-same f g n (λ j l. h j (omega arith))) (h n (omega arith))
 
 -- what a bank must be for a step of it to be done
-pub record Stands (s : State) : Type 0 where
+pub record Valid (s : State) : Type 0 where
   pub tree : treeRefusal (s .bank .tree) ≡ 0
   -- "4 meets a .. set member not below columns, a column owing itself, a root with a goal other than the whole bank"
   pub columns : (i : ℕ) → i < s .bank .tree .columns → stateRefusal (s .bank .tree) i (columnAt (s .bank) i) ≡ 0
@@ -50,14 +50,14 @@ pub record Stands (s : State) : Type 0 where
 
 module _ (s : State) where
   abbrev packetTest : ℕ → Bool
-  packetTest k = packetStands (s .bank) (packetAt s k)
+  packetTest k = packetValid (s .bank) (packetAt s k)
 
-  pub stands : bankRefusal s ≡ 0 → Stands s
+  pub valid : bankRefusal s ≡ 0 → Valid s
   unfolding bankRefusal
-  stands e =
+  valid e =
       let q = earlier-none (treeRefusal (s .bank .tree)) (first (bankConditions s)) e in
       let p = passed (bankConditions s) tt (q .1) in
-      let column = every-at (columnStands (s .bank)) (s .bank .tree .columns) in
+      let column = every-at (columnValid (s .bank)) (s .bank .tree .columns) in
       let packet = every-at packetTest (s .bank .count) in
       record {
         tree = q .0;
@@ -67,11 +67,11 @@ module _ (s : State) where
         receivers = λ k h. and-right (eqb (packetRefusal (s .bank .tree) (packetAt s k)) 0) _ (packet k (not-false _ (p .1 .1 .0)) h);
       }
 
-  pub stands-passes : Stands s → bankRefusal s ≡ 0
+  pub valid-passes : Valid s → bankRefusal s ≡ 0
   unfolding bankRefusal
-  stands-passes w =
+  valid-passes w =
       rw (eq-eqb (treeRefusal (s .bank .tree)) 0 (w .tree)) (passes (bankConditions s) (
-        ap not (every-all (columnStands (s .bank)) (s .bank .tree .columns) (λ i h. eq-eqb _ 0 (w .columns i h))),
+        ap not (every-all (columnValid (s .bank)) (s .bank .tree .columns) (λ i h. eq-eqb _ 0 (w .columns i h))),
         (
           le-ltb 512 (s .bank .count) (w .room),
           (
@@ -81,13 +81,13 @@ module _ (s : State) where
         ),
       ))
 
-  pub acting : (i : ℕ) → actingRefusal s i ≡ 0 → Stands s × (i < s .bank .tree .columns)
+  pub acting : (i : ℕ) → actingRefusal s i ≡ 0 → Valid s × (i < s .bank .tree .columns)
   acting i e =
       let q = earlier-none (bankRefusal s) (first ((4, leb (s .bank .tree .columns) i) ∷ [])) e in
-      (stands (q .0), leb-false (s .bank .tree .columns) i (passed ((4, leb (s .bank .tree .columns) i) ∷ []) tt (q .1) .0))
+      (valid (q .0), leb-false (s .bank .tree .columns) i (passed ((4, leb (s .bank .tree .columns) i) ∷ []) tt (q .1) .0))
 
-  pub acting-passes : Stands s → (i : ℕ) → i < s .bank .tree .columns → actingRefusal s i ≡ 0
-  acting-passes w i h = rw (eq-eqb (bankRefusal s) 0 (stands-passes w), lt-leb (s .bank .tree .columns) i h)
+  pub acting-passes : Valid s → (i : ℕ) → i < s .bank .tree .columns → actingRefusal s i ≡ 0
+  acting-passes w i h = rw (eq-eqb (bankRefusal s) 0 (valid-passes w), lt-leb (s .bank .tree .columns) i h)
 
 -- ---- a packet by its head
 
@@ -111,34 +111,34 @@ table true true false true true false u = refl
 table true true false true false w u = refl
 table true true false false r w u = refl
 
-module _ (b : Bank) (running : ℕ) (lit : (j : ℕ) → j < b .tree .columns → has running j ≡ runs b j) where
+module _ (b : Bank) (running : ℕ) (running-is : (j : ℕ) → j < b .tree .columns → has running j ≡ runs b j) where
   abbrev n : ℕ
   n = b .tree .columns
 
   -- the set of columns that run, for a column below columns
   in-running : (to : ℕ) (rest : Bool) → (ltb to n && (rest && has running to)) ≡ (ltb to n && (rest && runs b to))
-  in-running to rest = go (ltb to n) (λ e. lit to (ltb-true to n e))
+  in-running to rest = go (ltb to n) (λ e. running-is to (ltb-true to n e))
     where
       go : (below : Bool) → (below ≡ true → has running to ≡ runs b to) → (below && (rest && has running to)) ≡ (below && (rest && runs b to))
       go true e = ap (_&&_ rest) (e refl)
       go false e = refl
 
   -- the doors are not looked at
-  pub head-stands : (head doors : ℕ) → headStands n (b .tree .root) (b .tree .watch) running head ≡ packetStands b (packetOf head doors)
-  unfolding headStands packetRefusal
-  head-stands head doors =
+  pub head-valid : (head doors : ℕ) → headValid n (b .tree .root) (b .tree .watch) running head ≡ packetValid b (packetOf head doors)
+  unfolding headValid packetRefusal
+  head-valid head doors =
       let to = receiverIn head in
       let from = senderIn head in
       in-running to ((ltb from n && not (eqb from to)) && (leb acknowledging head || (not (eqb to (b .tree .root)) || b .tree .watch)))
       ∙ rw (receiver-of head doors, sender-of head doors, kind-of head doors, not-below from n, not-below to n, not-below head acknowledging)
       (table (ltb to n) (ltb from n) (eqb from to) (ltb head acknowledging) (eqb to (b .tree .root)) (b .tree .watch) (runs b to))
 
-pub heads-stand : (b : Bank) (heads doors : List ℕ)
+pub heads-valid : (b : Bank) (heads doors : List ℕ)
     → let n = b .tree .columns in
-    every (λ k. headStands n (b .tree .root) (b .tree .watch) (selected (runs b) n) (getD heads k 0)) (b .count) ≡ packetsStand (state b heads doors)
-heads-stand b heads doors =
+    every (λ k. headValid n (b .tree .root) (b .tree .watch) (selected (runs b) n) (getD heads k 0)) (b .count) ≡ packetsValid (state b heads doors)
+heads-valid b heads doors =
     let n = b .tree .columns in
-    every-same _ _ (b .count) (λ k h. head-stands b (selected (runs b) n) (selected-has (runs b) n) (getD heads k 0) (getD doors k 0))
+    every-same _ _ (b .count) (λ k h. head-valid b (selected (runs b) n) (selected-has (runs b) n) (getD heads k 0) (getD doors k 0))
 
 -- ---- the values of a function at 0, 1, .., in order
 
@@ -239,8 +239,8 @@ module _ (t : Tree) (e : treeRefusal t ≡ 0) where
         sender-below = check-exact t .0 e .root-below;
       })
 
-  pub fresh-stands : (heads doors : List ℕ) → Stands (state (freshBank t) heads doors)
-  fresh-stands heads doors =
+  pub fresh-valid : (heads doors : List ℕ) → Valid (state (freshBank t) heads doors)
+  fresh-valid heads doors =
       record {
         tree = e;
         columns = λ i h. ap (stateRefusal t i) (fresh-at i h) ∙ fresh-sound i h;

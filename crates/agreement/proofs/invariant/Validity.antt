@@ -29,7 +29,7 @@ use Rattle.agreement.proofs.invariant.InvariantCarried.{each}
 use Rattle.agreement.proofs.invariant.Adjusting.{adjusted}
 
 -- what row 4 asks of column i
-pub record Stands (t : Tree) (i : ℕ) (c : Column) : Type 0 where
+pub record Valid (t : Tree) (i : ℕ) (c : Column) : Type 0 where
   pub send : c .send < 2 ^ t .columns
   pub awaited : c .awaited < 2 ^ t .columns
   pub owed : c .owed < 2 ^ t .columns
@@ -42,13 +42,13 @@ pub record Deliverable (t : Tree) (s : State) (p : Packet) : Type 0 where
   pub acceptable : Acceptable t p
   pub runs : Runs s (receiver p)
 
-pub record Standing (t : Tree) (s : State) : Type 0 where
-  pub each-stands : (i : ℕ) → i < t .columns → Stands t i (s .columns i)
+pub record Validity (t : Tree) (s : State) : Type 0 where
+  pub each-valid : (i : ℕ) → i < t .columns → Valid t i (s .columns i)
   pub packets : (p : Packet) → Holds (s .network) p → Deliverable t s p
 
 -- so row 4 refuses nothing
-pub stands-passes : (t : Tree) → IsTree t → (i : ℕ) (c : Column) → i < t .columns → Stands t i c → stateRefusal t i c ≡ 0
-stands-passes t tree i c h w = sound-passes t i c
+pub valid-passes : (t : Tree) → IsTree t → (i : ℕ) (c : Column) → i < t .columns → Valid t i c → stateRefusal t i c ≡ 0
+valid-passes t tree i c h w = sound-passes t i c
     (record { send = mask (w .send); awaited = mask (w .awaited); owed = mask (w .owed); noted = mask (w .noted) })
     (record {
       below = h;
@@ -64,14 +64,14 @@ stands-passes t tree i c h w = sound-passes t i c
     mask : {m : ℕ} → m < 2 ^ t .columns → m < 2 ^ 16
     mask l = omega (arith, pow-mono (tree .sixteen))
 
-pub fresh-standing : (t : Tree) {s : State} → t .root < t .columns → Fresh t s → Standing t s
-fresh-standing t {s} below f = record {
-  each-stands = λ i h. subst (Stands t i) (sym (f .columns-fresh i h)) (stands i);
+pub fresh-validity : (t : Tree) {s : State} → t .root < t .columns → Fresh t s → Validity t s
+fresh-validity t {s} below f = record {
+  each-valid = λ i h. subst (Valid t i) (sym (f .columns-fresh i h)) (valid i);
   packets = λ p m. absurd (holds-none (subst (λ (l : List Packet). Holds l p) (f .no-packet) m));
 }
   where
-    stands : (i : ℕ) → Stands t i (fresh t i)
-    stands i = record {
+    valid : (i : ℕ) → Valid t i (fresh t i)
+    valid i = record {
       send = pow-pos (t .columns);
       awaited = pow-pos (t .columns);
       owed = pow-pos (t .columns);
@@ -81,13 +81,13 @@ fresh-standing t {s} below f = record {
       sender = below;
     }
 
-module _ {t : Tree} {s : State} (tree : IsTree t) (inv : Invariant t s) (v : Standing t s) where
+module _ {t : Tree} {s : State} (tree : IsTree t) (inv : Invariant t s) (v : Validity t s) where
   -- a move: its column stands, each packet is an old one or deliverable, and nobody stops to whom a packet is under way
-  stand : {s' : State} {a : ℕ} {c : Column} {network : List Packet} {orders : List ℕ} → Becomes s s' a c network orders → Stands t a c →
+  validity-after : {s' : State} {a : ℕ} {c : Column} {network : List Packet} {orders : List ℕ} → Becomes s s' a c network orders → Valid t a c →
       ((p : Packet) → Holds network p → Holds (s .network) p ⊎ Deliverable t s p) →
-      ((p : Packet) → Holds network p → receiver p ≡ a → c .running ≡ true) → Standing t s'
-  stand {s'} {a} {c} {network} b w new runs = record {
-    each-stands = each b (λ (j : ℕ) (x : Column). j < t .columns → Stands t j x) (λ _. w) (λ j n h. v .each-stands j h);
+      ((p : Packet) → Holds network p → receiver p ≡ a → c .running ≡ true) → Validity t s'
+  validity-after {s'} {a} {c} {network} b w new runs = record {
+    each-valid = each b (λ (j : ℕ) (x : Column). j < t .columns → Valid t j x) (λ _. w) (λ j n h. v .each-valid j h);
     packets = λ p m.
         let m' : Holds network p = subst (λ (l : List Packet). Holds l p) (b .packets) m in
         let d : Deliverable t s p = ⊎-elim (λ o. v .packets p o) (λ z. z) (new p m') in
@@ -107,13 +107,13 @@ module _ {t : Tree} {s : State} (tree : IsTree t) (inv : Invariant t s) (v : Sta
       (λ z. inr (subst (Deliverable t s) (sym (z .0)) (record { acceptable = f (z .1); runs = z .1 }))) (post-cases s p l m)
 
   module _ (a : ℕ) (r : Runs s a) where
-    before : Stands t a (s .columns a)
-    before = v .each-stands a (inv .inside a r)
+    before : Valid t a (s .columns a)
+    before = v .each-valid a (inv .inside a r)
 
     -- the column's sets anew
-    stands : {send awaited owed noted : ℕ} → send < 2 ^ t .columns → awaited < 2 ^ t .columns → owed < 2 ^ t .columns →
-        noted < 2 ^ t .columns → (In owed a → ⊥) → Stands t a (adjusted (s .columns a) send awaited owed noted)
-    stands {owed = owed} hs ha ho hn n =
+    valid : {send awaited owed noted : ℕ} → send < 2 ^ t .columns → awaited < 2 ^ t .columns → owed < 2 ^ t .columns →
+        noted < 2 ^ t .columns → (In owed a → ⊥) → Valid t a (adjusted (s .columns a) send awaited owed noted)
+    valid {owed = owed} hs ha ho hn n =
         record { send = hs; awaited = ha; owed = ho; noted = hn; owes-others = absent owed a n; root-whole = before .root-whole; sender = before .sender }
 
     owes-not-self : In (s .columns a .owed) a → ⊥
@@ -127,9 +127,9 @@ module _ {t : Tree} {s : State} (tree : IsTree t) (inv : Invariant t s) (v : Sta
     with-children m x h = join-lt (t .columns) m (children t x) h (children-lt t x)
 
     -- only the owed change
-    owing-stands : (owed : ℕ) → owed < 2 ^ t .columns → (In owed a → ⊥) →
-        Stands t a (adjusted (s .columns a) (s .columns a .send) (s .columns a .awaited) owed (s .columns a .noted))
-    owing-stands owed h n = stands (before .send) (before .awaited) h (before .noted) n
+    owing-valid : (owed : ℕ) → owed < 2 ^ t .columns → (In owed a → ⊥) →
+        Valid t a (adjusted (s .columns a) (s .columns a .send) (s .columns a .awaited) owed (s .columns a .noted))
+    owing-valid owed h n = valid (before .send) (before .awaited) h (before .noted) n
 
     -- one who is owed is acknowledged
     answers : (x k : ℕ) → In (s .columns a .owed) x → Runs s x → Acceptable t (Acknowledgement a x k)
@@ -142,9 +142,9 @@ module _ {t : Tree} {s : State} (tree : IsTree t) (inv : Invariant t s) (v : Sta
 
     answered : {s' : State} (x : ℕ) → In (s .columns a .owed) x →
         Becomes s s' a (owing (s .columns a) (without (s .columns a .owed) x))
-        (post s (Acknowledgement a x (s .columns a .number)) (s .network)) (s .orders) → Standing t s'
-    answered x m b = stand b
-        (owing-stands (without (s .columns a .owed) x) (struck (s .columns a .owed) x (before .owed) m)
+        (post s (Acknowledgement a x (s .columns a .number)) (s .network)) (s .orders) → Validity t s'
+    answered x m b = validity-after b
+        (owing-valid (without (s .columns a .owed) x) (struck (s .columns a .owed) x (before .owed) m)
         (λ z. owes-not-self (without-in (s .columns a .owed) x z)))
         (posted (Acknowledgement a x (s .columns a .number)) (s .network) (answers x (s .columns a .number) m) (λ y z. z)) (λ _ _ _. r)
 
@@ -156,15 +156,15 @@ module _ {t : Tree} {s : State} (tree : IsTree t) (inv : Invariant t s) (v : Sta
 
   -- a column comes back
   returned : {s' : State} (j l noted : ℕ) {whole : Bool} → j < t .columns → j ≢ t .root → Runs s l → Remaining t s j noted →
-      Returns t s s' j (core.rejoined (s .columns j) (s .columns l) noted whole l) → s .network ≡ [] → Standing t s'
+      Returns t s s' j (core.rejoined (s .columns j) (s .columns l) noted whole l) → s .network ≡ [] → Validity t s'
   returned {s'} j l noted {whole} h nr r k b gone = record {
-    each-stands = λ i hi. ⊎-elim
-        (λ e. subst (λ (x : ℕ). Stands t x (s' .columns x)) (sym e) (subst (Stands t j) (sym (b .mine)) mine))
-        (λ n. subst (Stands t i) (sym (b .strikes i n hi)) (other i hi)) (equal-cases i j);
+    each-valid = λ i hi. ⊎-elim
+        (λ e. subst (λ (x : ℕ). Valid t x (s' .columns x)) (sym e) (subst (Valid t j) (sym (b .mine)) mine))
+        (λ n. subst (Valid t i) (sym (b .strikes i n hi)) (other i hi)) (equal-cases i j);
     packets = λ p m. absurd (holds-none (subst (λ (x : List Packet). Holds x p) (b .packets ∙ gone) m));
   }
     where
-      mine : Stands t j (core.rejoined (s .columns j) (s .columns l) noted whole l)
+      mine : Valid t j (core.rejoined (s .columns j) (s .columns l) noted whole l)
       mine = record {
         send = pow-pos (t .columns);
         awaited = pow-pos (t .columns);
@@ -175,9 +175,9 @@ module _ {t : Tree} {s : State} (tree : IsTree t) (inv : Invariant t s) (v : Sta
         sender = inv .inside l r;
       }
 
-      other : (i : ℕ) → i < t .columns → Stands t i (core.struck (s .columns i) j)
+      other : (i : ℕ) → i < t .columns → Valid t i (core.struck (s .columns i) j)
       other i hi =
-          let z = v .each-stands i hi in
+          let z = v .each-valid i hi in
           record {
             send = z .send;
             awaited = z .awaited;
@@ -188,10 +188,10 @@ module _ {t : Tree} {s : State} (tree : IsTree t) (inv : Invariant t s) (v : Sta
             sender = z .sender;
           }
 
-  pub standing-kept : {s' : State} {e : Event} → Move t s s' e → Standing t s'
-  standing-kept (order d r idle free b) =
+  pub validity-kept : {s' : State} {e : Event} → Move t s s' e → Validity t s'
+  validity-kept (order d r idle free b) =
       let w = before (t .root) r in
-      stand b
+      validity-after b
       (record {
         send = children-lt t (t .root);
         awaited = w .awaited;
@@ -202,20 +202,20 @@ module _ {t : Tree} {s : State} (tree : IsTree t) (inv : Invariant t s) (v : Sta
         sender = w .sender;
       })
       unmoved (λ _ _ _. r)
-  standing-kept (send-self a x r e m b) =
+  validity-kept (send-self a x r e m b) =
       let w = before a r in
-      stand b (stands a r (struck a r (s .columns a .send) x (w .send) m) (w .awaited) (w .owed) (w .noted) (owes-not-self a r)) unmoved (λ _ _ _. r)
-  standing-kept (send-noted a x r m n b) =
+      validity-after b (valid a r (struck a r (s .columns a .send) x (w .send) m) (w .awaited) (w .owed) (w .noted) (owes-not-self a r)) unmoved (λ _ _ _. r)
+  validity-kept (send-noted a x r m n b) =
       let w = before a r in
-      stand b
-      (stands a r (with-children a r (without (s .columns a .send) x) x (struck a r (s .columns a .send) x (w .send) m)) (w .awaited) (w .owed)
+      validity-after b
+      (valid a r (with-children a r (without (s .columns a .send) x) x (struck a r (s .columns a .send) x (w .send) m)) (w .awaited) (w .owed)
       (w .noted) (owes-not-self a r))
       unmoved (λ _ _ _. r)
-  standing-kept (send-message a x r e m n b) =
+  validity-kept (send-message a x r e m n b) =
       let w = before a r in
       let h : x < t .columns = member-lt (t .columns) (s .columns a .send) x (w .send) (m .holds) in
-      stand b
-      (stands a r (struck a r (s .columns a .send) x (w .send) m) (insert-lt (t .columns) (s .columns a .awaited) x (w .awaited) h) (w .owed)
+      validity-after b
+      (valid a r (struck a r (s .columns a .send) x (w .send) m) (insert-lt (t .columns) (s .columns a .awaited) x (w .awaited) h) (w .owed)
       (w .noted) (owes-not-self a r))
       (posted (Message a x (s .columns a .number) (s .columns a .doors)) (s .network)
       (λ _. record {
@@ -225,19 +225,19 @@ module _ {t : Tree} {s : State} (tree : IsTree t) (inv : Invariant t s) (v : Sta
         not-to-root = λ o _ z. n (subst (In (s .columns a .noted)) (sym z) (inv .locals a r .shuns o .root-sent (subst (In (s .columns a .send)) z m)));
       })
       (λ y k. k)) (λ _ _ _. r)
-  standing-kept (take-acknowledgement a q k r e taken b) =
+  validity-kept (take-acknowledgement a q k r e taken b) =
       let w = before a r in
-      stand b
-      (stands a r (w .send) (without-lt (t .columns) (s .columns a .awaited) q (w .awaited) (arrived taken .sender-below)) (w .owed)
+      validity-after b
+      (valid a r (w .send) (without-lt (t .columns) (s .columns a .awaited) q (w .awaited) (arrived taken .sender-below)) (w .owed)
       (w .noted) (owes-not-self a r))
       (taken-packets taken) (λ _ _ _. r)
-  standing-kept (take-stale a q k r e taken b) = stand b (before a r) (taken-packets taken) (λ _ _ _. r)
-  standing-kept (take-equal a q k d r e taken b) = stand b
-      (owing-stands a r (insert (s .columns a .owed) q)
+  validity-kept (take-stale a q k r e taken b) = validity-after b (before a r) (taken-packets taken) (λ _ _ _. r)
+  validity-kept (take-equal a q k d r e taken b) = validity-after b
+      (owing-valid a r (insert (s .columns a .owed) q)
       (insert-lt (t .columns) (s .columns a .owed) q (before a r .owed) (arrived taken .sender-below))
       (λ m. ⊎-elim (owes-not-self a r) (λ y. arrived taken .apart (sym y)) (insert-cases (s .columns a .owed) q m)))
       (taken-packets taken) (λ _ _ _. r)
-  standing-kept (take-lower a q k d {l} r lt taken b) = stand b (before a r)
+  validity-kept (take-lower a q k d {l} r lt taken b) = validity-after b (before a r)
       (posted (Acknowledgement a q k) l
       (λ _. record {
         sender-below = arrived taken .receiver-below;
@@ -246,8 +246,8 @@ module _ {t : Tree} {s : State} (tree : IsTree t) (inv : Invariant t s) (v : Sta
         not-to-root = λ _ y. absurd (true≢false (sym y));
       })
       (λ y m. taken-back taken m)) (λ _ _ _. r)
-  standing-kept (take-left a q k d x r lt taken m b) = answered a r x m b
-  standing-kept (take-higher a q k d r lt taken e b) = stand b
+  validity-kept (take-left a q k d x r lt taken m b) = answered a r x m b
+  validity-kept (take-higher a q k d r lt taken e b) = validity-after b
       (record {
         send = children-lt t a;
         awaited = pow-pos (t .columns);
@@ -258,10 +258,10 @@ module _ {t : Tree} {s : State} (tree : IsTree t) (inv : Invariant t s) (v : Sta
         sender = arrived taken .sender-below;
       })
       (taken-packets taken) (λ _ _ _. r)
-  standing-kept (acknowledge a x r m o b) = answered a r x m b
-  standing-kept (widen a r n m h idle b) =
+  validity-kept (acknowledge a x r m o b) = answered a r x m b
+  validity-kept (widen a r n m h idle b) =
       let w = before a r in
-      stand b
+      validity-after b
       (record {
         send = single-lt (tree .root-below);
         awaited = w .awaited;
@@ -272,20 +272,20 @@ module _ {t : Tree} {s : State} (tree : IsTree t) (inv : Invariant t s) (v : Sta
         sender = w .sender;
       })
       unmoved (λ _ _ _. r)
-  standing-kept (note-awaited a j r h n m b) =
+  validity-kept (note-awaited a j r h n m b) =
       let w = before a r in
-      stand b
-      (stands a r (with-children a r (s .columns a .send) j (w .send)) (struck a r (s .columns a .awaited) j (w .awaited) m) (w .owed)
+      validity-after b
+      (valid a r (with-children a r (s .columns a .send) j (w .send)) (struck a r (s .columns a .awaited) j (w .awaited) m) (w .owed)
       (insert-lt (t .columns) (s .columns a .noted) j (w .noted) h) (owes-not-self a r))
       unmoved (λ _ _ _. r)
-  standing-kept (note-other a j r h n m u b) =
+  validity-kept (note-other a j r h n m u b) =
       let w = before a r in
-      stand b
-      (stands a r (w .send) (w .awaited) (w .owed) (insert-lt (t .columns) (s .columns a .noted) j (w .noted) h) (owes-not-self a r))
+      validity-after b
+      (valid a r (w .send) (w .awaited) (w .owed) (insert-lt (t .columns) (s .columns a .noted) j (w .noted) h) (owes-not-self a r))
       unmoved (λ _ _ _. r)
-  standing-kept (halt a r b) =
+  validity-kept (halt a r b) =
       let w = before a r in
-      stand b
+      validity-after b
       (record {
         send = w .send;
         awaited = w .awaited;
@@ -296,4 +296,4 @@ module _ {t : Tree} {s : State} (tree : IsTree t) (inv : Invariant t s) (v : Sta
         sender = w .sender;
       })
       (λ p m. inl (others-back a (s .network) m)) (λ p m e. absurd (others-receiver a (s .network) m e))
-  standing-kept (back j l noted rest h n nr r k b) = returned j l noted h nr r k b (rest .no-packet)
+  validity-kept (back j l noted rest h n nr r k b) = returned j l noted h nr r k b (rest .no-packet)

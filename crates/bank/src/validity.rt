@@ -1,23 +1,23 @@
 // What every step tests first: the tree, then row 4 of every column and of every packet.
 use crate::bank::Bank;
-use crate::survey::ends_stand;
+use crate::survey::ends_valid;
 use crate::survey::survey;
 use crate::words::receiver_in;
 use column::members::has;
 use column::precedence::refuse_if;
 ghost use mathlib.Core.Path.{_≡_};
 ghost use Prim.Native.Nat.{_≤_};
-ghost use Rattle.bank.specs.inner.Surveys.{headStands};
+ghost use Rattle.bank.specs.inner.Surveys.{headValid};
 ghost use Rattle.bank.specs.Banks.{RefusesBank, RefusesActing};
 ghost use Rattle.bank.specs.inner.Changes.{TellsNewest};
 
 // Row 4 of a packet, by its head.
-fn head_stands(columns: usize, root: usize, watch: bool, running: u16, head: u64) -> bool
+fn head_valid(columns: usize, root: usize, watch: bool, running: u16, head: u64) -> bool
     requires { ⌜ columns ≤ 16 ⌝ }
-    ensures { λ r. ⌜ r ≡ headStands columns root watch running head ⌝ }
+    ensures { λ r. ⌜ r ≡ headValid columns root watch running head ⌝ }
 {
     let to = receiver_in(head);
-    ends_stand(columns, root, watch, head) & has(running, to)
+    ends_valid(columns, root, watch, head) & has(running, to)
 }
 
 // 2, 3 or 4 of the bank, which every step tests first, else 0. The doors that packets carry are not looked at.
@@ -37,7 +37,7 @@ pub fn acting_refusal(b: Bank, i: usize, heads: &[u64; 512]) -> u8
 }
 
 // Row 4 of the newest packet, where there is one: all of what a step can have broken.
-pub(crate) fn newest_stands(
+pub(crate) fn newest_valid(
     columns: usize,
     root: usize,
     watch: bool,
@@ -51,5 +51,5 @@ pub(crate) fn newest_stands(
     if count == 0 {
         return true;
     }
-    head_stands(columns, root, watch, running, heads[count - 1])
+    head_valid(columns, root, watch, running, heads[count - 1])
 }

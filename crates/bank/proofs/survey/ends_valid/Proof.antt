@@ -4,10 +4,10 @@ use Prim.Native.Nat.{ℕ}
 use mathlib.Core.Bool.{Bool, true, false, not, _&&_, _||_, true≢false}
 use mathlib.Core.Path.{_≡_, refl, sym}
 use lib.Dec.{eqb, leb, ltb}
-use Rattle.bank.specs.inner.Surveys.{endsStand}
+use Rattle.bank.specs.inner.Surveys.{endsValid}
 use Rattle.bank.specs.Words.{acknowledging, receiverIn, senderIn}
-use Rattle.bank.proofs.survey.ends_stand.Statement.{statement}
-use Rattle.bank.proofs.survey.ends_stand.Tie as tie
+use Rattle.bank.proofs.survey.ends_valid.Statement.{statement}
+use Rattle.bank.proofs.survey.ends_valid.Tie as tie
 
 sender-in-requires : tie.Need-sender-in-requires
 sender-in-requires c κs = search needs
@@ -16,14 +16,14 @@ receiver-in-requires : tie.Need-receiver-in-requires
 receiver-in-requires c κs = search needs
 
 returns : tie.Need-returns
-unfolding endsStand
+unfolding endsValid
 returns c =
     let r = c .before in
     let a = r .before .before .args in
     rw (le-ltb (receiverIn (a .head)) (a .columns) (rw (r .receiver-in .ensures) at (c .if1 .taken)))
 
 returns-2 : tie.Need-returns-2
-unfolding endsStand
+unfolding endsValid
 returns-2 c =
     let e = c .before in
     let r = e .before in
@@ -34,7 +34,7 @@ returns-2 c =
     )
 
 returns-3 : tie.Need-returns-3
-unfolding endsStand
+unfolding endsValid
 returns-3 c =
     let e2 = c .before in
     let e = e2 .before in
@@ -64,8 +64,8 @@ apart c =
 -- so that a message to the root is what is left to test
 left : (columns root : ℕ) (watch : Bool) (head : ℕ)
     → (ltb (receiverIn head) columns && (ltb (senderIn head) columns && not (eqb (senderIn head) (receiverIn head)))) ≡ true
-    → endsStand columns root watch head ≡ (leb acknowledging head || (not (eqb (receiverIn head) root) || watch))
-unfolding endsStand
+    → endsValid columns root watch head ≡ (leb acknowledging head || (not (eqb (receiverIn head) root) || watch))
+unfolding endsValid
 left columns root watch head e = go (ltb (receiverIn head) columns) (ltb (senderIn head) columns && not (eqb (senderIn head) (receiverIn head))) e
   where
     go : (a b : Bool) → (a && b) ≡ true → {x : Bool} → (a && (b && x)) ≡ x
@@ -115,7 +115,7 @@ returns-6 c =
     or-none true = refl
     or-none false = refl
 
-pub ends-stand-spec : {M : Type 1} → statement M
-ends-stand-spec =
+pub ends-valid-spec : {M : Type 1} → statement M
+ends-valid-spec =
     tie.close
     (tie.spec sender-in-requires receiver-in-requires returns returns-2 returns-3 returns-4 returns-5 returns-6)

@@ -23,11 +23,11 @@ use Rattle.bank.specs.inner.Changes.{Steady}
 use Rattle.bank.specs.laws.Steady.{steady-cond, steady-send, steady-take}
 use Rattle.bank.specs.Networks.{closedUp, withPacket, put, puts, removed}
 use Rattle.bank.specs.laws.ListLaws.{closed-up-before, closed-up-after, set-keeps}
-use Rattle.bank.specs.Banks.{State, columnAt, runs, packetAt, packetStands, capacity, noColumn, bankRefusal, actingRefusal}
-use Rattle.bank.specs.inner.Surveys.{newestStands}
+use Rattle.bank.specs.Banks.{State, columnAt, runs, packetAt, packetValid, capacity, noColumn, bankRefusal, actingRefusal}
+use Rattle.bank.specs.inner.Surveys.{newestValid}
 use Rattle.bank.specs.laws.ColumnOn.{column-on}
-use Rattle.bank.specs.laws.StandingLaws.{Stands, stands, stands-passes}
-use Rattle.bank.specs.Steps.{Outcome, accepted, refused, after, unless, withColumn, fitting, settled, acted, delivered, noteRefusal, takeRefusal}
+use Rattle.bank.specs.laws.ValidityLaws.{Valid, valid, valid-passes}
+use Rattle.bank.specs.Steps.{Result, accepted, refused, after, unless, withColumn, fitting, settled, acted, delivered, noteRefusal, takeRefusal}
 use Rattle.bank.specs.Performs.{perform}
 use Rattle.bank.specs.Exact.{refusalOf}
 use Rattle.bank.specs.Rest.{isRefused}
@@ -91,12 +91,12 @@ module _ (s u : State) (carried : Carried 0 s u) where
 -- ---- every step of one column
 
 -- what is known after a step, where it is accepted
-abbrev Known : State → Outcome State → Type 0
+abbrev Known : State → Result State → Type 0
 Known s (accepted u) = (u .bank .count ≤ capacity) × Carried 1 s u
 Known s (refused n u) = Unit {0}
 
 module _ (s : State) where
-  known-unless : (n : ℕ) (o : Outcome State) → Known s o → Known s (unless n s o)
+  known-unless : (n : ℕ) (o : Result State) → Known s o → Known s (unless n s o)
   known-unless n o h = go (eqb n 0)
     where
       go : (b : Bool) → Known s (cond b o (refused n s))
@@ -154,20 +154,20 @@ module _ (s : State) where
 
 -- ---- the test is enough, and no more than is needed
 
-packet-stands : (s : State) → Stands s → (k : ℕ) → k < s .bank .count → packetStands (s .bank) (packetAt s k) ≡ true
-packet-stands s w k h = ap₂ _&&_ (eq-eqb _ 0 (w .packets k h)) (w .receivers k h)
+packet-valid : (s : State) → Valid s → (k : ℕ) → k < s .bank .count → packetValid (s .bank) (packetAt s k) ≡ true
+packet-valid s w k h = ap₂ _&&_ (eq-eqb _ 0 (w .packets k h)) (w .receivers k h)
 
-pub stands-still : (s : State) → Stands s → newestStands s ≡ true
-stands-still s w = go (eqb (s .bank .count) 0) refl
+pub valid-still : (s : State) → Valid s → newestValid s ≡ true
+valid-still s w = go (eqb (s .bank .count) 0) refl
   where
-    go : (b : Bool) → eqb (s .bank .count) 0 ≡ b → (b || packetStands (s .bank) (packetAt s (s .bank .count - 1))) ≡ true
+    go : (b : Bool) → eqb (s .bank .count) 0 ≡ b → (b || packetValid (s .bank) (packetAt s (s .bank .count - 1))) ≡ true
     go true e = refl
-    go false e = let some = eqb-false (s .bank .count) 0 e in packet-stands s w (s .bank .count - 1) (omega (arith, some))
+    go false e = let some = eqb-false (s .bank .count) 0 e in packet-valid s w (s .bank .count - 1) (omega (arith, some))
 
 module _ (s : State) (x : Step) (s' : State) (i : ℕ) (moves : byNoColumn x ≡ false) (good : bankRefusal s ≡ 0) (done : perform s x ≡ accepted s')
     (actor : acts s x i ≡ true) where
-  before : Stands s
-  before = stands s good
+  before : Valid s
+  before = valid s good
 
   carried : (s' .bank .count ≤ capacity) × Carried 1 s s'
   carried = subst (Known s) done (known s x moves)
@@ -176,11 +176,11 @@ module _ (s : State) (x : Step) (s' : State) (i : ℕ) (moves : byNoColumn x ≡
   room-on = carried .0
 
   pub tree-on : s' .bank .tree ≡ s .bank .tree
-  tree-on = sym (ap (λ (o : Outcome State). after o .bank .tree) done) ∙ tree-kept s x
+  tree-on = sym (ap (λ (o : Result State). after o .bank .tree) done) ∙ tree-kept s x
 
   same-column : (j : ℕ) → (j ≡ i → ⊥) → columnAt (s' .bank) j ≡ columnAt (s .bank) j
   same-column j other =
-      sym (ap (λ (o : Outcome State). columnAt (after o .bank) j) done) ∙ others-kept s x j (one-acts s x i j moves actor other)
+      sym (ap (λ (o : Result State). columnAt (after o .bank) j) done) ∙ others-kept s x j (one-acts s x i j moves actor other)
 
   -- who runs is the same
   pub runs-on : (j : ℕ) → runs (s' .bank) j ≡ runs (s .bank) j
@@ -192,12 +192,12 @@ module _ (s : State) (x : Step) (s' : State) (i : ℕ) (moves : byNoColumn x ≡
       let z = acting-is s x none i actor in
       (z .0, z .1 (or-none (isHalt x) (ofHalted x) moves))
 
-  older-stands : (p : Packet) → Held s p → packetStands (s' .bank) p ≡ true
-  older-stands p q =
+  older-valid : (p : Packet) → Held s p → packetValid (s' .bank) p ≡ true
+  older-valid p q =
       ap₂ (λ (t : Tree) (r : Bool). eqb (core.packetRefusal t p) 0 && r) tree-on (carried .1 .running (receiver p))
-      ∙ subst (λ (p : Packet). packetStands (s .bank) p ≡ true) (q .2) (packet-stands s before (q .0) (q .1))
+      ∙ subst (λ (p : Packet). packetValid (s .bank) p ≡ true) (q .2) (packet-valid s before (q .0) (q .1))
 
-  module _ (still : newestStands s' ≡ true) where
+  module _ (still : newestValid s' ≡ true) where
     each-column : (j : ℕ) → j < s' .bank .tree .columns → stateRefusal (s' .bank .tree) j (columnAt (s' .bank) j) ≡ 0
     each-column j h = go (equal-cases j i)
       where
@@ -209,23 +209,23 @@ module _ (s : State) (x : Step) (s' : State) (i : ℕ) (moves : byNoColumn x ≡
             ap₂ (λ (t : Tree) (c : Column). stateRefusal t j c) tree-on (same-column j other)
             ∙ before .columns j (subst (λ (t : Tree). j < t .columns) tree-on h)
 
-    newest : 0 < s' .bank .count → packetStands (s' .bank) (packetAt s' (s' .bank .count - 1)) ≡ true
+    newest : 0 < s' .bank .count → packetValid (s' .bank) (packetAt s' (s' .bank .count - 1)) ≡ true
     newest some =
         let held : eqb (s' .bank .count) 0 ≡ false = ne-eqb (s' .bank .count) 0 (λ e. omega (arith, some, e)) in
-        sym (ap (λ (b : Bool). b || packetStands (s' .bank) (packetAt s' (s' .bank .count - 1))) held) ∙ still
+        sym (ap (λ (b : Bool). b || packetValid (s' .bank) (packetAt s' (s' .bank .count - 1))) held) ∙ still
 
-    each-packet : (k : ℕ) → k < s' .bank .count → packetStands (s' .bank) (packetAt s' k) ≡ true
+    each-packet : (k : ℕ) → k < s' .bank .count → packetValid (s' .bank) (packetAt s' k) ≡ true
     each-packet k h = go (truth (ltb (k + 1) (s' .bank .count)))
       where
-        go : (ltb (k + 1) (s' .bank .count) ≡ true) ⊎ (ltb (k + 1) (s' .bank .count) ≡ false) → packetStands (s' .bank) (packetAt s' k) ≡ true
-        go (inl e) = older-stands (packetAt s' k) (carried .1 .older k (ltb-true (k + 1) (s' .bank .count) e))
+        go : (ltb (k + 1) (s' .bank .count) ≡ true) ⊎ (ltb (k + 1) (s' .bank .count) ≡ false) → packetValid (s' .bank) (packetAt s' k) ≡ true
+        go (inl e) = older-valid (packetAt s' k) (carried .1 .older k (ltb-true (k + 1) (s' .bank .count) e))
         go (inr e) =
             let last = ltb-false (k + 1) (s' .bank .count) e in
             let at : s' .bank .count - 1 ≡ k = omega (arith, h, last) in
-            subst (λ n. packetStands (s' .bank) (packetAt s' n) ≡ true) at (newest (omega (arith, h)))
+            subst (λ n. packetValid (s' .bank) (packetAt s' n) ≡ true) at (newest (omega (arith, h)))
 
-    pub still-stands : bankRefusal s' ≡ 0
-    still-stands = stands-passes s' (record {
+    pub still-valid : bankRefusal s' ≡ 0
+    still-valid = valid-passes s' (record {
       tree = ap treeRefusal tree-on ∙ before .tree;
       columns = each-column;
       room = carried .0;
@@ -233,8 +233,8 @@ module _ (s : State) (x : Step) (s' : State) (i : ℕ) (moves : byNoColumn x ≡
       receivers = λ k h. and-right (eqb (core.packetRefusal (s' .bank .tree) (packetAt s' k)) 0) _ (each-packet k h);
     })
 
-  pub stands-on : newestStands s' ≡ eqb (bankRefusal s') 0
-  stands-on =
-      same-truth (newestStands s') (eqb (bankRefusal s') 0)
-      (λ e. eq-eqb (bankRefusal s') 0 (still-stands e))
-      (λ e. stands-still s' (stands s' (eqb-true (bankRefusal s') 0 e)))
+  pub valid-on : newestValid s' ≡ eqb (bankRefusal s') 0
+  valid-on =
+      same-truth (newestValid s') (eqb (bankRefusal s') 0)
+      (λ e. eq-eqb (bankRefusal s') 0 (still-valid e))
+      (λ e. valid-still s' (valid s' (eqb-true (bankRefusal s') 0 e)))

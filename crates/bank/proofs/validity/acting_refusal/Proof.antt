@@ -1,6 +1,6 @@
 use borrow.Author.Needs.{needs}
-use Rattle.bank.proofs.standing.acting_refusal.Statement.{statement}
-use Rattle.bank.proofs.standing.acting_refusal.Tie as tie
+use Rattle.bank.proofs.validity.acting_refusal.Statement.{statement}
+use Rattle.bank.proofs.validity.acting_refusal.Tie as tie
 
 bank-refusal-requires : tie.Need-bank-refusal-requires
 bank-refusal-requires c κs = search needs

@@ -1,6 +1,6 @@
 use borrow.Author.Needs.{needs}
-use Rattle.column.proofs.state.standing.Statement.{statement}
-use Rattle.column.proofs.state.standing.Tie as tie
+use Rattle.column.proofs.state.validity_refusal.Statement.{statement}
+use Rattle.column.proofs.state.validity_refusal.Tie as tie
 
 tree-refusal-requires : tie.Need-tree-refusal-requires
 tree-refusal-requires c κs = search needs
@@ -15,6 +15,6 @@ returns : tie.Need-returns
 returns c =
     rw (c .earlier .ensures, c .before .state-refusal .ensures, c .before .before .tree-refusal .ensures)
 
-pub standing-spec : {M : Type 1} → statement M
-standing-spec =
+pub validity-refusal-spec : {M : Type 1} → statement M
+validity-refusal-spec =
     tie.close (tie.spec tree-refusal-requires state-refusal-requires earlier-requires returns)

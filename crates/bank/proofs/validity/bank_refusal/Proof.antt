@@ -1,6 +1,6 @@
 use borrow.Author.Needs.{needs}
-use Rattle.bank.proofs.standing.bank_refusal.Statement.{statement}
-use Rattle.bank.proofs.standing.bank_refusal.Tie as tie
+use Rattle.bank.proofs.validity.bank_refusal.Statement.{statement}
+use Rattle.bank.proofs.validity.bank_refusal.Tie as tie
 
 survey-requires : tie.Need-survey-requires
 survey-requires c κs = search needs
