@@ -13,7 +13,7 @@ use column::state::Column;
 use column::topology::tree_refusal;
 use column::tree::Tree;
 ghost use mathlib.Core.Path.{_≡_};
-ghost use Prim.Native.Nat.{ℕ, _^_, _≤_, _<_};
+ghost use Prim.Native.Nat.{ℕ, _≤_, _<_};
 ghost use lib.ListN.{getD};
 ghost use Rattle.column.specs.Sets.{minus, whole};
 ghost use Rattle.column.specs.Trees.{every};

@@ -15,6 +15,7 @@ pub struct Column {
     // Who sent its record.
     pub sender: usize,
     pub number: Number,
+    // The four sets side by side, since the bank reads those of a column as one number.
     pub send: u16,
     pub awaited: u16,
     pub owed: u16,

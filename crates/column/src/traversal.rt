@@ -101,7 +101,7 @@ pub fn climbs_end(up: &[u8; 16], n: usize, root: usize) -> bool
     true
 }
 
-// Those of all sixteen places that have c as their parent: no more is asked of a place, so that all are compared at once.
+// Those of all sixteen places that have c as their parent; no more is asked of a place.
 fn named(up: &[u8; 16], c: u8) -> u16
     ensures { λ r. ⌜ r ≡ selected (names (now (up .entry)) c) 16 ⌝ }
 {

@@ -1,23 +1,21 @@
 // Writers: each puts a text into a lent buffer from a place on, as much of it as has room, and answers the place after what it put.
-ghost use Prim.Native.Nat.{_+_, _-_, _≤_, min};
+ghost use Prim.Native.Nat.{_+_, _-_, _≤_, _<_};
 ghost use mathlib.Core.Path.{_≡_};
 ghost use mathlib.Core.Bool.{false};
 ghost use mathlib.Core.List.{[], _∷_};
+ghost use lib.Dec.{leb};
 ghost use lib.ListN.{length, take};
 ghost use Rattle.text.specs.Text.{decimal as Text·decimal, field, nextText, Writes, Puts};
 use io::decimal;
 
-// How many of n bytes have room from a place on.
-fn fitting(size: usize, at: usize, n: usize) -> usize
-    ensures { λ r. ⌜ r ≡ min (size - at) n ⌝ }
+// Whether n bytes have room from a place on. The last such place does not depend on the place, so that a loop computes it once.
+fn has_room(size: usize, at: usize, n: usize) -> bool
+    ensures { λ r. ⌜ r ≡ leb (at + n) size ⌝ }
 {
-    if size <= at {
-        return 0;
+    if size < n {
+        return false;
     }
-    if size - at < n {
-        return size - at;
-    }
-    n
+    at <= size - n
 }
 
 // The first n bytes, which have room.
@@ -37,11 +35,14 @@ fn copy(out: &mut [u8], at: usize, bytes: &[u8], n: usize) -> usize
 pub fn put_all(out: &mut [u8], at: usize, bytes: &[u8]) -> usize
     ensures { λ r. ⌜ Puts r (now (out .exit)) (now (out .entry)) at (now (bytes .entry)) ⌝ }
 {
-    let n = fitting(out.len(), at, bytes.len());
-    if n == bytes.len() {
+    if out.len() <= at {
+        return at;
+    }
+    let room = out.len() - at;
+    if bytes.len() <= room {
         return copy(out, at, bytes, bytes.len());
     }
-    copy(out, at, bytes, n)
+    copy(out, at, bytes, room)
 }
 
 // One byte.
@@ -64,7 +65,21 @@ fn put_digits(out: &mut [u8], at: usize, n: u64) -> usize
     put_all(out, at, &text[..k])
 }
 
-// Nearly every number of a script has one or two digits.
+// A number of one or two digits, which have room. Nearly every number of a script is one.
+fn write_short(out: &mut [u8], at: usize, n: u64) -> usize
+    requires { ⌜ (n < 100) × (at + 2 ≤ length (now out)) ⌝ }
+    ensures { λ r. ⌜ Writes r (now (out .exit)) (now (out .entry)) at (Text·decimal n) ⌝ }
+{
+    if n < 10 {
+        out[at] = 48 + (n as u8);
+        return at + 1;
+    }
+    out[at] = 48 + ((n / 10) as u8);
+    out[at + 1] = 48 + ((n % 10) as u8);
+    at + 2
+}
+
+// A number of one or two digits byte by byte.
 fn put_number(out: &mut [u8], at: usize, n: u64) -> usize
     ensures { λ r. ⌜ Puts r (now (out .exit)) (now (out .entry)) at (Text·decimal n) ⌝ }
 {
@@ -78,44 +93,52 @@ fn put_number(out: &mut [u8], at: usize, n: u64) -> usize
     put_byte(out, units, 48 + ((n % 10) as u8))
 }
 
-// A comma and a number where three bytes have room, so that one of two digits is not tested byte by byte.
-fn put_after_comma(out: &mut [u8], at: usize, n: u64) -> usize
-    requires { ⌜ at + 3 ≤ length (now out) ⌝ }
+// A comma and a number.
+fn put_more(out: &mut [u8], at: usize, n: u64) -> usize
     ensures { λ r. ⌜ Puts r (now (out .exit)) (now (out .entry)) at (nextText false n) ⌝ }
 {
-    if 100 <= n {
-        let number = put_byte(out, at, b',');
-        return put_digits(out, number, n);
-    }
-    out[at] = b',';
-    if n < 10 {
-        out[at + 1] = 48 + (n as u8);
-        return at + 2;
-    }
-    out[at + 1] = 48 + ((n / 10) as u8);
-    out[at + 2] = 48 + ((n % 10) as u8);
-    at + 3
+    let number = put_byte(out, at, b',');
+    put_number(out, number, n)
 }
 
-// A number of a line that divides them by commas: the first of them, or another.
+// A number of a line that divides them by commas: the first of them, or another. A short one has its room tested once.
 pub fn put_next(out: &mut [u8], at: usize, first: bool, n: u64) -> usize
     ensures { λ r. ⌜ Puts r (now (out .exit)) (now (out .entry)) at (nextText first n) ⌝ }
 {
     if first {
         return put_number(out, at, n);
     }
-    if fitting(out.len(), at, 3) == 3 {
-        return put_after_comma(out, at, n);
+    if 100 <= n {
+        return put_more(out, at, n);
     }
-    let number = put_byte(out, at, b',');
-    put_number(out, number, n)
+    if !has_room(out.len(), at, 3) {
+        return put_more(out, at, n);
+    }
+    out[at] = b',';
+    write_short(out, at + 1, n)
 }
 
-// A line: its key and a number.
-pub fn put_field(out: &mut [u8], at: usize, key: &[u8], n: u64) -> usize
+// A line, part by part.
+fn put_line(out: &mut [u8], at: usize, key: &[u8], n: u64) -> usize
     ensures { λ r. ⌜ Puts r (now (out .exit)) (now (out .entry)) at (field (now (key .entry)) n) ⌝ }
 {
     let value = put_all(out, at, key);
     let end = put_number(out, value, n);
     put_byte(out, end, b'\n')
+}
+
+// A line: its key and a number. Where the number is short, the room is tested once.
+pub fn put_field(out: &mut [u8], at: usize, key: &[u8], n: u64) -> usize
+    ensures { λ r. ⌜ Puts r (now (out .exit)) (now (out .entry)) at (field (now (key .entry)) n) ⌝ }
+{
+    if 100 <= n {
+        return put_line(out, at, key, n);
+    }
+    if !has_room(out.len(), at, key.len() + 3) {
+        return put_line(out, at, key, n);
+    }
+    let value = copy(out, at, key, key.len());
+    let end = write_short(out, value, n);
+    out[end] = b'\n';
+    end + 1
 }

@@ -65,6 +65,9 @@ decimal-length (suc width) (suc k) n h = go (ltb n 10) (decimal-length width k (
     go true ih = omega arith
     go false ih = simp length-append (omega (arith, ih))
 
+pub decimal-short : (n : ℕ) → n < 100 → length (decimal n) ≤ 2
+decimal-short n h = decimal-length 20 1 n (omega (arith, h))
+
 pub decimal-some : (n : ℕ) → 1 ≤ length (decimal n)
 unfolding decimalIn
 decimal-some n = go (ltb n 10)

@@ -110,16 +110,6 @@ writes-byte {r} {new} {old} {at} w b room h =
 
 -- ---- writers that stop where the room ends
 
--- the first n, and the first of as many of these as there are
-pub take-fewer : (n k : ℕ) (l : List ℕ) → k ≡ min n (length l) → take k l ≡ take n l
-take-fewer n k l e = go (leb n (length l)) refl
-  where
-    go : (b : Bool) → leb n (length l) ≡ b → take k l ≡ take n l
-    go true h = let same : k ≡ n = omega (arith, e, leb-true n (length l) h) in ap (λ j. take j l) same
-    go false h =
-        let more = leb-false n (length l) h in
-        take-all k l (omega (arith, e, more)) ∙ sym (take-all n l (omega (arith, more)))
-
 take-both : (n : ℕ) (v w : List ℕ) → take n (v ++ w) ≡ take n v ++ take (n - length v) w
 take-both zero v w = let none : 0 - length v ≡ 0 = omega arith in sym (ap (λ k. take k w) none)
 take-both (suc n) [] w = let whole : suc n - 0 ≡ suc n = omega arith in ap (λ k. take k w) (sym whole)

@@ -1,21 +1,18 @@
 use borrow.Author.Needs.{needs}
-use Prim.Native.Nat.{_-_, min}
-use mathlib.Core.Path.{_≡_, sym, _∙_}
 use native.Mathlib.Omega.{arith}
-use lib.ListN.{length, take}
-use Rattle.text.specs.laws.WritingLaws.{take-fewer}
+use lib.ListN.{length}
+use lib.Seq.{take-all}
+use Rattle.text.specs.laws.WritingLaws.{writes-puts, puts-past}
 use Rattle.text.proofs.writing.put_all.Statement.{statement}
 use Rattle.text.proofs.writing.put_all.Tie as tie
 
--- as many bytes as have room
-text : (f : tie.After-fitting) → let a = f .before .before .before .args in
-    take (f .fitting .result) (a .bytes .now) ≡ take (length (a .out .now) - a .at) (a .bytes .now)
-text f =
-    let a = f .before .before .before .args in
-    take-fewer (length (a .out .now) - a .at) (f .fitting .result) (a .bytes .now) (f .fitting .ensures)
+returns : tie.Need-returns
+returns c =
+    let a = c .before .before .before .args in
+    puts-past (a .out .now) (a .at) (c .if1 .taken) (a .bytes .now)
 
-fitting-requires : tie.Need-fitting-requires
-fitting-requires c κs = search needs
+sub-room : tie.Need-sub-room
+sub-room c = search needs
 
 copy-requires : tie.Need-copy-requires
 copy-requires c κs = search needs
@@ -23,11 +20,13 @@ copy-requires c κs = search needs
 same-length : tie.Need-same-length
 same-length c = search needs
 
-returns : tie.Need-returns
-returns c =
+returns-2 : tie.Need-returns-2
+returns-2 c =
     let k = c .before .before in
     let t = k .before .before in
-    rw (← text (t .before), t .if1 .taken) (k .copy .ensures)
+    let a = t .before .before .before .before .args in
+    writes-puts (a .bytes .now) (omega (arith, t .if2 .taken, t .before .if1 .left))
+    (rw (take-all (length (a .bytes .now)) (a .bytes .now) (omega arith)) at (k .copy .ensures))
 
 copy-requires-2 : tie.Need-copy-requires-2
 copy-requires-2 c κs = search needs
@@ -35,20 +34,18 @@ copy-requires-2 c κs = search needs
 same-length-2 : tie.Need-same-length-2
 same-length-2 c = search needs
 
-returns-2 : tie.Need-returns-2
-returns-2 c =
-    let k = c .before .before in
-    let e = k .before .before in
-    rw (← text (e .before)) (k .copy2 .ensures)
+returns-3 : tie.Need-returns-3
+returns-3 c = search needs
 
 pub put-all-spec : {M : Type 1} → statement M
 put-all-spec =
     tie.close
     (tie.spec
-    fitting-requires
+    returns
+    sub-room
     copy-requires
     same-length
-    returns
+    returns-2
     copy-requires-2
     same-length-2
-    returns-2)
+    returns-3)

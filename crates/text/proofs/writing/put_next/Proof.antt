@@ -1,11 +1,23 @@
 use borrow.Author.Needs.{needs}
-use mathlib.Core.Path.{_≡_, sym, _∙_}
+use Prim.Native.Nat.{_+_, _≤_}
+use mathlib.Core.Path.{sym, _∙_}
 use mathlib.Core.List.{[], _∷_}
 use native.Mathlib.Omega.{arith}
+use lib.ListN.{length, length-set}
+use borrow.Author.Tests.{leb-true, not-false}
 use Rattle.text.specs.Text.{comma, decimal}
-use Rattle.text.specs.laws.WritingLaws.{puts-more}
+use Rattle.text.specs.laws.DecimalLaws.{decimal-short}
+use Rattle.text.specs.laws.WritingLaws.{writes-none, writes-byte, writes-more, writes-puts}
 use Rattle.text.proofs.writing.put_next.Statement.{statement}
 use Rattle.text.proofs.writing.put_next.Tie as tie
+
+abbrev start : tie.Else3 → tie.Start
+start e = e .before .before .before .before .before
+
+room : (e : tie.Else3) → start e .args .at + 3 ≤ length (start e .args .out .now)
+room e =
+    let h = e .before .has-room in
+    leb-true (start e .args .at + 3) (length (start e .args .out .now)) (sym (h .ensures) ∙ not-false (h .result) (e .if3 .left))
 
 put-number-requires : tie.Need-put-number-requires
 put-number-requires c κs = search needs
@@ -18,13 +30,8 @@ returns c =
     let k = c .before .before in
     rw (k .before .before .if1 .taken) (k .put-number .ensures)
 
-fitting-requires : tie.Need-fitting-requires
-fitting-requires c κs = search needs
-
-put-after-comma-requires : tie.Need-put-after-comma-requires
-put-after-comma-requires c κs =
-    let t = c .before in
-    omega (arith, t .if2 .taken, t .before .fitting .ensures)
+put-more-requires : tie.Need-put-more-requires
+put-more-requires c κs = search needs
 
 same-length-2 : tie.Need-same-length-2
 same-length-2 c = search needs
@@ -32,13 +39,13 @@ same-length-2 c = search needs
 returns-2 : tie.Need-returns-2
 returns-2 c =
     let k = c .before .before in
-    rw (k .before .before .before .before .if1 .left) (k .put-after-comma .ensures)
+    rw (k .before .before .before .if1 .left) (k .put-more .ensures)
 
-put-byte-requires : tie.Need-put-byte-requires
-put-byte-requires c κs = search needs
+has-room-requires : tie.Need-has-room-requires
+has-room-requires c κs = search needs
 
-put-number-requires-2 : tie.Need-put-number-requires-2
-put-number-requires-2 c κs = search needs
+put-more-requires-2 : tie.Need-put-more-requires-2
+put-more-requires-2 c κs = search needs
 
 same-length-3 : tie.Need-same-length-3
 same-length-3 c = search needs
@@ -46,10 +53,31 @@ same-length-3 c = search needs
 returns-3 : tie.Need-returns-3
 returns-3 c =
     let k = c .before .before in
-    let p = k .before .before .before .before in
-    let t = p .before .before .before .before in
-    rw (t .if1 .left)
-    (puts-more (comma ∷ []) (decimal (t .before .before .args .n)) (p .put-byte .ensures) (k .put-number2 .ensures))
+    rw (k .before .before .before .before .before .if1 .left) (k .put-more2 .ensures)
+
+slice-write-out : tie.Need-slice-write-out
+slice-write-out c = omega (arith, room c)
+
+add-write-short : tie.Need-add-write-short
+add-write-short c = search (needs, room (c .before))
+
+write-short-requires : tie.Need-write-short-requires
+write-short-requires c κs =
+    let e = c .before in
+    (e .before .before .if2 .left, simp length-set (omega (arith, room e)))
+
+same-length-4 : tie.Need-same-length-4
+same-length-4 c = simp length-set at (c .before .before .write-short .kept .0)
+
+returns-4 : tie.Need-returns-4
+returns-4 c =
+    let w = c .before .before in
+    let e = w .before .before in
+    let a = start e .args in
+    let fits : a .at + length (comma ∷ decimal (a .n)) ≤ length (a .out .now) = omega (arith, room e, decimal-short (a .n) (e .before .before .if2 .left)) in
+    let first = writes-byte [] comma (omega (arith, room e)) (writes-none (a .out .now) (a .at)) in
+    rw (e .before .before .before .if1 .left)
+    (writes-puts (comma ∷ decimal (a .n)) fits (writes-more (comma ∷ []) (decimal (a .n)) fits first (w .write-short .ensures)))
 
 pub put-next-spec : {M : Type 1} → statement M
 put-next-spec =
@@ -58,11 +86,15 @@ put-next-spec =
     put-number-requires
     same-length
     returns
-    fitting-requires
-    put-after-comma-requires
+    put-more-requires
     same-length-2
     returns-2
-    put-byte-requires
-    put-number-requires-2
+    has-room-requires
+    put-more-requires-2
     same-length-3
-    returns-3)
+    returns-3
+    slice-write-out
+    add-write-short
+    write-short-requires
+    same-length-4
+    returns-4)
