@@ -6,7 +6,6 @@ use crate::packet::Packet;
 use crate::packet::is_message;
 use crate::packet::receiver;
 use crate::packet::sender;
-use crate::precedence::earlier;
 use crate::precedence::refuse_if;
 use crate::state::Column;
 use crate::state::validity_refusal;
@@ -14,8 +13,8 @@ use crate::tree::Tree;
 ghost use mathlib.Core.Path.{_≡_};
 ghost use Rattle.column.specs.Refusals.{first, earlier};
 ghost use Rattle.column.specs.Columns.{idle, watched, mayAcknowledge};
-ghost use Rattle.column.specs.Steps.{packetRefusal, orderConditions, orderRefusal, sendConditions, sendRefusal, takeConditions, takeRefusal};
-ghost use Rattle.column.specs.Steps.{ackConditions, ackRefusal, allConditions, allRefusal, noteConditions, noteRefusal, haltRefusal};
+ghost use Rattle.column.specs.Steps.{packetRefusal, orderConditions, sendConditions, takeConditions};
+ghost use Rattle.column.specs.Steps.{ackConditions, allConditions, noteConditions, noteRefusal, haltRefusal};
 
 fn idle(c: Column) -> bool
     ensures { λ r. ⌜ r ≡ idle c ⌝ }
@@ -52,26 +51,12 @@ pub(crate) fn order_conditions(n: u8, t: Tree, i: usize, c: Column) -> u8
     refuse_if(m, c.number == HIGHEST, 8)
 }
 
-// Of an order to column i, which must be the root: 2 to 5, 7 while it sends or awaits, or owes where senders are watched, 8 at the highest number.
-pub fn order_refusal(t: Tree, i: usize, c: Column) -> u8
-    ensures { λ r. ⌜ r ≡ orderRefusal t i c ⌝ }
-{
-    order_conditions(validity_refusal(t, i, c), t, i, c)
-}
-
 // Of a send by column i: 5, 6 where nobody is to be sent to.
 pub(crate) fn send_conditions(n: u8, t: Tree, i: usize, c: Column) -> u8
     ensures { λ r. ⌜ r ≡ earlier n (first (sendConditions t i c)) ⌝ }
 {
     let m = refuse_if(n, !c.running, 5);
     refuse_if(m, c.send == 0, 6)
-}
-
-// Of a send by column i: 2 to 5, 6 where nobody is to be sent to.
-pub fn send_refusal(t: Tree, i: usize, c: Column) -> u8
-    ensures { λ r. ⌜ r ≡ sendRefusal t i c ⌝ }
-{
-    send_conditions(validity_refusal(t, i, c), t, i, c)
 }
 
 // 4 where row 4 refuses the packet. Neither the tree nor the addressee is tested.
@@ -94,14 +79,6 @@ pub(crate) fn take_conditions(n: u8, t: Tree, i: usize, c: Column, p: Packet) ->
     refuse_if(m, !c.running, 5)
 }
 
-// Of a packet given to column i: 2 to 5.
-pub fn take_refusal(t: Tree, i: usize, c: Column, p: Packet) -> u8
-    ensures { λ r. ⌜ r ≡ takeRefusal t i c p ⌝ }
-{
-    let n = earlier(validity_refusal(t, i, c), packet_refusal(t, p));
-    take_conditions(n, t, i, c, p)
-}
-
 // Of an acknowledgement by column i: 5, 6 where nobody is owed, or it may not acknowledge yet.
 pub(crate) fn ack_conditions(n: u8, t: Tree, i: usize, c: Column) -> u8
     ensures { λ r. ⌜ r ≡ earlier n (first (ackConditions t i c)) ⌝ }
@@ -109,13 +86,6 @@ pub(crate) fn ack_conditions(n: u8, t: Tree, i: usize, c: Column) -> u8
     let mut m = refuse_if(n, !c.running, 5);
     m = refuse_if(m, c.owed == 0, 6);
     refuse_if(m, !may_acknowledge(t, i, c), 6)
-}
-
-// Of an acknowledgement by column i: 2 to 5, 6 where nobody is owed, or it may not acknowledge yet.
-pub fn ack_refusal(t: Tree, i: usize, c: Column) -> u8
-    ensures { λ r. ⌜ r ≡ ackRefusal t i c ⌝ }
-{
-    ack_conditions(validity_refusal(t, i, c), t, i, c)
 }
 
 // Of a takeover by column i: 5, 6 at the root, with the one that it watches not noted, after another takeover, or while it sends or awaits.
@@ -127,13 +97,6 @@ pub(crate) fn all_conditions(n: u8, t: Tree, i: usize, c: Column) -> u8
     m = refuse_if(m, !has(c.noted, watched(t, c)), 6);
     m = refuse_if(m, c.whole, 6);
     refuse_if(m, !idle(c), 6)
-}
-
-// Of a takeover by column i: 2 to 5, 6 at the root, with the one that it watches not noted, after another takeover, or while it sends or awaits.
-pub fn all_refusal(t: Tree, i: usize, c: Column) -> u8
-    ensures { λ r. ⌜ r ≡ allRefusal t i c ⌝ }
-{
-    all_conditions(validity_refusal(t, i, c), t, i, c)
 }
 
 // Of a note of column j by column i: 4 of a j that the bank has not, 5, 6 where j is i or is noted already.
