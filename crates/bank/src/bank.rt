@@ -1,4 +1,5 @@
 // What a bank holds, and the fresh bank. Its network's packets are lent to each call: packet k is word k of two arrays of 512.
+use column::packet::CAPACITY;
 use column::state::Column;
 use column::state::fresh_under;
 use column::topology::tree_refusal;
@@ -6,8 +7,8 @@ use column::tree::Tree;
 ghost use mathlib.Core.Path.{_≡_};
 ghost use Rattle.bank.specs.Steps.{answered, accepted, refused, fresh};
 
-// Most packets that the network holds.
-pub const CAPACITY: usize = 512;
+// One word for each packet of the network.
+pub type Words = [u64; CAPACITY];
 
 pub struct Bank {
     pub tree: Tree,

@@ -1,8 +1,8 @@
 // The dispatcher: it takes steps until the bank rests.
 use crate::bank::Answer;
 use crate::bank::Bank;
-use crate::bank::CAPACITY;
 use crate::bank::Step;
+use crate::bank::Words;
 use crate::settling::Change;
 use crate::settling::is_refusal;
 use crate::settling::settle;
@@ -22,6 +22,7 @@ use column::effect::note_effect;
 use column::effect::send_effect;
 use column::effect::take_effect;
 use column::members::lowest;
+use column::packet::CAPACITY;
 use column::state::Column;
 use column::tree::Tree;
 ghost use mathlib.Core.Path.{_≡_};
@@ -101,8 +102,8 @@ fn take_turn(
     i: usize,
     c: Column,
     count: usize,
-    heads: &mut [u64; 512],
-    doors: &mut [u64; 512],
+    heads: &mut Words,
+    doors: &mut Words,
 ) -> Change
     requires { ⌜ (count ≤ 512) × (isTake x ≡ true → 0 < count) ⌝ }
     ensures { λ r. ⌜ TakesTurn r t running x i c count (now (heads .entry)) (now (doors .entry)) (now (heads .exit)) (now (doors .exit)) ⌝ }
@@ -122,8 +123,8 @@ fn take_turns(
     b: Bank,
     running: u16,
     limit: usize,
-    heads: &mut [u64; 512],
-    doors: &mut [u64; 512],
+    heads: &mut Words,
+    doors: &mut Words,
 ) -> Dispatched
     requires { ⌜ (bankRefusal (state b (now heads) (now doors)) ≡ 0) × (running ≡ runningOf b) ⌝ }
     ensures { λ r. ⌜ Dispatches r (now (heads .exit)) (now (doors .exit)) limit (state b (now (heads .entry)) (now (doors .entry))) (accepted (dispatch limit (state b (now (heads .entry)) (now (doors .entry))))) ⌝ }
@@ -161,7 +162,7 @@ fn take_turns(
 
 // "takes steps until rest, until the limit, or until the turn's step is refused": the bank after them and their count, or by which of 2, 3 and 4
 // the bank is refused.
-pub fn dispatch(b: Bank, limit: usize, heads: &mut [u64; 512], doors: &mut [u64; 512]) -> Dispatched
+pub fn dispatch(b: Bank, limit: usize, heads: &mut Words, doors: &mut Words) -> Dispatched
     ensures { λ r. ⌜ Dispatches r (now (heads .exit)) (now (doors .exit)) limit (state b (now (heads .entry)) (now (doors .entry))) (dispatchOutcome limit (state b (now (heads .entry)) (now (doors .entry)))) ⌝ }
 {
     let v = survey(b, heads);

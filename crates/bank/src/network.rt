@@ -1,5 +1,6 @@
 // The network's packets in the lent arrays: put at the end, taken off, and those to a column that halts. None of these refuses: all
 // deciding is done before, so that a refused call has written nothing.
+use crate::bank::Words;
 use crate::words::doors_word;
 use crate::words::head;
 use crate::words::receiver_in;
@@ -12,7 +13,7 @@ ghost use Rattle.bank.specs.Networks.{closedUp, padded};
 ghost use Rattle.bank.specs.inner.NetworkWords.{Appended, ClosedUp, Kept, Vanishes};
 
 // The words of packet p stand behind those of `count` others.
-pub fn append(p: Packet, count: usize, heads: &mut [u64; 512], doors: &mut [u64; 512])
+pub fn append(p: Packet, count: usize, heads: &mut Words, doors: &mut Words)
     requires { ⌜ count < 512 ⌝ }
     ensures { λ r. ⌜ Appended p count (now (heads .entry)) (now (doors .entry)) (now (heads .exit)) (now (doors .exit)) ⌝ }
 {
@@ -34,7 +35,7 @@ fn close_up(words: &mut [u64], place: usize, last: usize)
 }
 
 // The words of the packet at a place of `count` are gone. With the oldest, which a dispatcher takes, the others move as one block.
-pub fn remove(place: usize, count: usize, heads: &mut [u64; 512], doors: &mut [u64; 512])
+pub fn remove(place: usize, count: usize, heads: &mut Words, doors: &mut Words)
     requires { ⌜ (place < count) × (count ≤ 512) ⌝ }
     ensures { λ r. ⌜ ClosedUp place count (now (heads .entry)) (now (doors .entry)) (now (heads .exit)) (now (doors .exit)) ⌝ }
 {
@@ -90,7 +91,7 @@ fn clear(words: &mut [u64], from: usize, to: usize)
 }
 
 // The packets that are addressed to a member of m are gone, of `count`; answers how many are left.
-pub fn vanish(m: u32, count: usize, heads: &mut [u64; 512], doors: &mut [u64; 512]) -> usize
+pub fn vanish(m: u32, count: usize, heads: &mut Words, doors: &mut Words) -> usize
     requires { ⌜ count ≤ 512 ⌝ }
     ensures { λ r. ⌜ Vanishes (has m) count r (now (heads .entry)) (now (doors .entry)) (now (heads .exit)) (now (doors .exit)) ⌝ }
 {

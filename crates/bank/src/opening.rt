@@ -1,8 +1,9 @@
 // What a step tests of itself before it changes the place of one column: that the bank has the column, or the packet that is to be taken.
-use crate::bank::CAPACITY;
 use crate::bank::Step;
+use crate::bank::Words;
 use crate::turn::is_take;
 use crate::words::receiver_in;
+use column::packet::CAPACITY;
 use column::precedence::refuse_if;
 ghost use mathlib.Core.Path.{_≡_};
 ghost use Rattle.bank.specs.inner.Moves.{placeIn, openingRefusal};
@@ -26,7 +27,7 @@ pub(crate) fn place_in(x: Step) -> usize
 }
 
 // Whom the packet at a place is for, where there is such a place.
-pub(crate) fn receiver_at(place: usize, heads: &[u64; 512]) -> usize
+pub(crate) fn receiver_at(place: usize, heads: &Words) -> usize
     ensures { λ r. ⌜ r ≡ receiverAt place (now (heads .entry)) ⌝ }
 {
     if CAPACITY <= place {

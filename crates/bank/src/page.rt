@@ -1,6 +1,7 @@
 // The register pages of the columns: a byte read, a byte written, and whether the line is up. A halted column has its page too.
 use crate::bank::Bank;
 use crate::bank::Outcome;
+use crate::bank::Words;
 use crate::bank::done;
 use crate::bank::refused;
 use crate::settling::column_at;
@@ -19,7 +20,7 @@ pub enum Line {
 }
 
 // The byte at an offset of the page of column i; or 2 to 4, 22 for an offset above 7.
-pub fn read(b: Bank, i: usize, offset: usize, heads: &[u64; 512]) -> Byte
+pub fn read(b: Bank, i: usize, offset: usize, heads: &Words) -> Byte
     ensures { λ r. ⌜ Reads r b (now (heads .entry)) i offset ⌝ }
 {
     let n = acting_refusal(b, i, heads);
@@ -30,7 +31,7 @@ pub fn read(b: Bank, i: usize, offset: usize, heads: &[u64; 512]) -> Byte
 }
 
 // A byte written to the page of column i; or 2 to 4, 22 for any offset but 5 and 7.
-pub(crate) fn write_byte(b: Bank, i: usize, offset: usize, value: u8, heads: &[u64; 512]) -> Outcome
+pub(crate) fn write_byte(b: Bank, i: usize, offset: usize, value: u8, heads: &Words) -> Outcome
     ensures { λ r. ⌜ Writes r b (now (heads .entry)) i offset value ⌝ }
 {
     let v = survey(b, heads);
@@ -48,7 +49,7 @@ pub(crate) fn write_byte(b: Bank, i: usize, offset: usize, value: u8, heads: &[u
 }
 
 // Whether the line of column i is up; or 2 to 4.
-pub fn line_up(b: Bank, i: usize, heads: &[u64; 512]) -> Line
+pub fn line_up(b: Bank, i: usize, heads: &Words) -> Line
     ensures { λ r. ⌜ TellsLine r b (now (heads .entry)) i ⌝ }
 {
     let n = acting_refusal(b, i, heads);

@@ -1,5 +1,6 @@
 // Whether a bank is at rest: no packet is under way, and no running column can send, acknowledge, take over or note.
 use crate::bank::Bank;
+use crate::bank::Words;
 use crate::survey::halted;
 use crate::survey::survey;
 use crate::turn::ready_columns;
@@ -19,7 +20,7 @@ pub(crate) fn columns_rest(b: Bank, running: u16) -> bool
 }
 
 // Whether nothing is left to do. A bank that every step refuses is at rest where no packet is under way.
-pub fn at_rest(b: Bank, heads: &[u64; 512], doors: &[u64; 512]) -> bool
+pub fn at_rest(b: Bank, heads: &Words, doors: &Words) -> bool
     ensures { λ r. ⌜ r ≡ atRest (state b (now (heads .entry)) (now (doors .entry))) ⌝ }
 {
     if b.count != 0 {

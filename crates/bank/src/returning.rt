@@ -1,6 +1,7 @@
 // A halted column comes back to a bank at rest: the core says what becomes of each column, and the bank stores it.
 use crate::bank::Bank;
 use crate::bank::Outcome;
+use crate::bank::Words;
 use crate::bank::done;
 use crate::bank::refused;
 use crate::rest::columns_rest;
@@ -73,7 +74,7 @@ fn strike_noted(b: Bank, j: usize) -> Bank
 }
 
 // Column j comes back. It is struck first: that leaves every record and every page as it was.
-pub fn bring_back(b: Bank, j: usize, heads: &[u64; 512]) -> Outcome
+pub fn bring_back(b: Bank, j: usize, heads: &Words) -> Outcome
     ensures { λ r. ⌜ ComesBack r b (now (heads .entry)) j ⌝ }
 {
     let v = survey(b, heads);

@@ -2,11 +2,12 @@
 // decide it are handed the place, the count and who runs, never the whole bank.
 use crate::bank::Answer;
 use crate::bank::Bank;
-use crate::bank::CAPACITY;
 use crate::bank::NO_COLUMN;
+use crate::bank::Words;
 use crate::network::append;
 use crate::network::remove;
 use column::members::has;
+use column::packet::CAPACITY;
 use column::packet::Packet;
 use column::packet::receiver;
 use column::state::Column;
@@ -61,8 +62,8 @@ fn deliver(
     c: Column,
     p: Packet,
     count: usize,
-    heads: &mut [u64; 512],
-    doors: &mut [u64; 512],
+    heads: &mut Words,
+    doors: &mut Words,
 ) -> Change
     requires { ⌜ count ≤ 512 ⌝ }
     ensures { λ r. ⌜ Delivers r running c p count (now (heads .entry)) (now (doors .entry)) (now (heads .exit)) (now (doors .exit)) ⌝ }
@@ -82,8 +83,8 @@ pub fn settle(
     running: u16,
     o: column::outcome::Outcome,
     count: usize,
-    heads: &mut [u64; 512],
-    doors: &mut [u64; 512],
+    heads: &mut Words,
+    doors: &mut Words,
 ) -> Change
     requires { ⌜ count ≤ 512 ⌝ }
     ensures { λ r. ⌜ Settles r running o count (now (heads .entry)) (now (doors .entry)) (now (heads .exit)) (now (doors .exit)) ⌝ }
@@ -121,8 +122,8 @@ pub fn settle_taken(
     place: usize,
     o: column::outcome::Outcome,
     count: usize,
-    heads: &mut [u64; 512],
-    doors: &mut [u64; 512],
+    heads: &mut Words,
+    doors: &mut Words,
 ) -> Change
     requires { ⌜ (place < count) × (count ≤ 512) ⌝ }
     ensures { λ r. ⌜ SettlesTaken r running place o count (now (heads .entry)) (now (doors .entry)) (now (heads .exit)) (now (doors .exit)) ⌝ }

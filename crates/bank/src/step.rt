@@ -3,6 +3,7 @@ use crate::bank::Answer;
 use crate::bank::Bank;
 use crate::bank::Outcome;
 use crate::bank::Step;
+use crate::bank::Words;
 use crate::network::vanish;
 use crate::opening::opening;
 use crate::opening::place_in;
@@ -90,8 +91,8 @@ fn taken(
     i: usize,
     c: Column,
     count: usize,
-    heads: &mut [u64; 512],
-    doors: &mut [u64; 512],
+    heads: &mut Words,
+    doors: &mut Words,
 ) -> Change
     requires { ⌜ (place < count) × (count ≤ 512) ⌝ }
     ensures { λ r. ⌜ Takes r t running place i c count (now (heads .entry)) (now (doors .entry)) (now (heads .exit)) (now (doors .exit)) ⌝ }
@@ -109,8 +110,8 @@ pub(crate) fn change(
     i: usize,
     c: Column,
     count: usize,
-    heads: &mut [u64; 512],
-    doors: &mut [u64; 512],
+    heads: &mut Words,
+    doors: &mut Words,
 ) -> Change
     requires { ⌜ (isMove x ≡ true) × ((count ≤ 512) × (isTake x ≡ true → placeIn x < count)) ⌝ }
     ensures { λ r. ⌜ Moves r t running x i c count (now (heads .entry)) (now (doors .entry)) (now (heads .exit)) (now (doors .exit)) ⌝ }
@@ -124,7 +125,7 @@ pub(crate) fn change(
 }
 
 // The step x of column i. The bank is copied twice, in and out: from its first line on only the copy is read, and there is one result.
-fn act(b: Bank, x: Step, i: usize, heads: &mut [u64; 512], doors: &mut [u64; 512]) -> Outcome
+fn act(b: Bank, x: Step, i: usize, heads: &mut Words, doors: &mut Words) -> Outcome
     requires { ⌜ Moving (state b (now heads) (now doors)) x i ⌝ }
     ensures { λ r. ⌜ outcomeMeant r (now (heads .exit)) (now (doors .exit)) ≡ perform (state b (now (heads .entry)) (now (doors .entry))) x ⌝ }
 {
@@ -155,7 +156,7 @@ fn act(b: Bank, x: Step, i: usize, heads: &mut [u64; 512], doors: &mut [u64; 512
 }
 
 // The columns of a set.
-fn halt_columns(b: Bank, m: u32, heads: &mut [u64; 512], doors: &mut [u64; 512]) -> Outcome
+fn halt_columns(b: Bank, m: u32, heads: &mut Words, doors: &mut Words) -> Outcome
     ensures { λ r. ⌜ outcomeMeant r (now (heads .exit)) (now (doors .exit)) ≡ halt (state b (now (heads .entry)) (now (doors .entry))) m ⌝ }
 {
     let mut d = b;
@@ -181,7 +182,7 @@ fn halt_columns(b: Bank, m: u32, heads: &mut [u64; 512], doors: &mut [u64; 512])
 }
 
 // The bank after any of the nine steps.
-pub fn perform(b: Bank, x: Step, heads: &mut [u64; 512], doors: &mut [u64; 512]) -> Outcome
+pub fn perform(b: Bank, x: Step, heads: &mut Words, doors: &mut Words) -> Outcome
     ensures { λ r. ⌜ outcomeMeant r (now (heads .exit)) (now (doors .exit)) ≡ perform (state b (now (heads .entry)) (now (doors .entry))) x ⌝ }
 {
     let t = b.tree;
@@ -199,7 +200,7 @@ pub fn perform(b: Bank, x: Step, heads: &mut [u64; 512], doors: &mut [u64; 512])
 }
 
 // The bank with these doors given to its root under the next number.
-pub fn order(b: Bank, given: u64, heads: &mut [u64; 512], doors: &mut [u64; 512]) -> Outcome
+pub fn order(b: Bank, given: u64, heads: &mut Words, doors: &mut Words) -> Outcome
     ensures { λ r. ⌜ outcomeMeant r (now (heads .exit)) (now (doors .exit)) ≡ order (state b (now (heads .entry)) (now (doors .entry))) given ⌝ }
 {
     let t = b.tree;
@@ -207,14 +208,14 @@ pub fn order(b: Bank, given: u64, heads: &mut [u64; 512], doors: &mut [u64; 512]
 }
 
 // The bank after column i served the one that stands earliest of those it is to send to; a message to a running one is put.
-pub fn send(b: Bank, i: usize, heads: &mut [u64; 512], doors: &mut [u64; 512]) -> Outcome
+pub fn send(b: Bank, i: usize, heads: &mut Words, doors: &mut Words) -> Outcome
     ensures { λ r. ⌜ outcomeMeant r (now (heads .exit)) (now (doors .exit)) ≡ send (state b (now (heads .entry)) (now (doors .entry))) i ⌝ }
 {
     act(b, Step::Send(i), i, heads, doors)
 }
 
 // The bank after the packet at a place went to its receiver.
-pub fn take(b: Bank, place: usize, heads: &mut [u64; 512], doors: &mut [u64; 512]) -> Outcome
+pub fn take(b: Bank, place: usize, heads: &mut Words, doors: &mut Words) -> Outcome
     ensures { λ r. ⌜ outcomeMeant r (now (heads .exit)) (now (doors .exit)) ≡ take (state b (now (heads .entry)) (now (doors .entry))) place ⌝ }
 {
     let i = receiver_at(place, heads);
@@ -222,49 +223,42 @@ pub fn take(b: Bank, place: usize, heads: &mut [u64; 512], doors: &mut [u64; 512
 }
 
 // The bank after column i acknowledged its record to the lowest owed.
-pub fn ack(b: Bank, i: usize, heads: &mut [u64; 512], doors: &mut [u64; 512]) -> Outcome
+pub fn ack(b: Bank, i: usize, heads: &mut Words, doors: &mut Words) -> Outcome
     ensures { λ r. ⌜ outcomeMeant r (now (heads .exit)) (now (doors .exit)) ≡ ack (state b (now (heads .entry)) (now (doors .entry))) i ⌝ }
 {
     act(b, Step::Ack(i), i, heads, doors)
 }
 
 // The bank after column i took over.
-pub fn all(b: Bank, i: usize, heads: &mut [u64; 512], doors: &mut [u64; 512]) -> Outcome
+pub fn all(b: Bank, i: usize, heads: &mut Words, doors: &mut Words) -> Outcome
     ensures { λ r. ⌜ outcomeMeant r (now (heads .exit)) (now (doors .exit)) ≡ all (state b (now (heads .entry)) (now (doors .entry))) i ⌝ }
 {
     act(b, Step::All(i), i, heads, doors)
 }
 
 // The bank after column i noted that j is halted.
-pub fn note(b: Bank, i: usize, j: usize, heads: &mut [u64; 512], doors: &mut [u64; 512]) -> Outcome
+pub fn note(b: Bank, i: usize, j: usize, heads: &mut Words, doors: &mut Words) -> Outcome
     ensures { λ r. ⌜ outcomeMeant r (now (heads .exit)) (now (doors .exit)) ≡ note (state b (now (heads .entry)) (now (doors .entry))) i j ⌝ }
 {
     act(b, Step::Note(i, j), i, heads, doors)
 }
 
 // The bank with every column of a set halted, and without the packets to them.
-pub fn halt(b: Bank, m: u32, heads: &mut [u64; 512], doors: &mut [u64; 512]) -> Outcome
+pub fn halt(b: Bank, m: u32, heads: &mut Words, doors: &mut Words) -> Outcome
     ensures { λ r. ⌜ outcomeMeant r (now (heads .exit)) (now (doors .exit)) ≡ halt (state b (now (heads .entry)) (now (doors .entry))) m ⌝ }
 {
     halt_columns(b, m, heads, doors)
 }
 
 // The bank with halted column j running again.
-pub fn back(b: Bank, j: usize, heads: &[u64; 512], doors: &[u64; 512]) -> Outcome
+pub fn back(b: Bank, j: usize, heads: &Words, doors: &Words) -> Outcome
     ensures { λ r. ⌜ outcomeMeant r (now (heads .entry)) (now (doors .entry)) ≡ back (state b (now (heads .entry)) (now (doors .entry))) j ⌝ }
 {
     bring_back(b, j, heads)
 }
 
 // The bank with a byte written to the page of column i, a halted one too.
-pub fn write(
-    b: Bank,
-    i: usize,
-    offset: usize,
-    value: u8,
-    heads: &[u64; 512],
-    doors: &[u64; 512],
-) -> Outcome
+pub fn write(b: Bank, i: usize, offset: usize, value: u8, heads: &Words, doors: &Words) -> Outcome
     ensures { λ r. ⌜ outcomeMeant r (now (heads .entry)) (now (doors .entry)) ≡ write (state b (now (heads .entry)) (now (doors .entry))) i offset value ⌝ }
 {
     write_byte(b, i, offset, value, heads)

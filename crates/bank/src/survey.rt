@@ -1,14 +1,15 @@
 // What a step needs to know of the bank that it is lent, by one pass over the columns and one over the packets: whether the bank is
 // refused, and who runs.
 use crate::bank::Bank;
-use crate::bank::CAPACITY;
+use crate::bank::Words;
 use crate::words::ACKNOWLEDGING;
 use crate::words::ENDS;
-use crate::words::NUMBERS;
 use crate::words::PAIRS;
 use crate::words::receiver_in;
 use crate::words::sender_in;
 use column::members::within;
+use column::packet::CAPACITY;
+use column::packet::NUMBERS;
 use column::state::Column;
 use column::topology::tree_refusal;
 use column::tree::Tree;
@@ -154,7 +155,7 @@ fn heads_valid(
     watch: bool,
     running: u16,
     count: usize,
-    heads: &[u64; 512],
+    heads: &Words,
 ) -> bool
     requires { ⌜ (columns ≤ 16) × ((root < 16) × (count ≤ 512)) ⌝ }
     ensures { λ r. ⌜ r ≡ every (λ (k : ℕ). headValid columns root watch running (getD (now (heads .entry)) k 0)) count ⌝ }
@@ -191,7 +192,7 @@ pub struct Surveyed {
 }
 
 // By which of 2, 3 and 4 a bank is refused whose columns are seen, and whose root has that goal, else 0. The doors that packets carry are not looked at.
-pub(crate) fn seen_refusal(t: Tree, v: Seen, whole: bool, count: usize, heads: &[u64; 512]) -> u8
+pub(crate) fn seen_refusal(t: Tree, v: Seen, whole: bool, count: usize, heads: &Words) -> u8
     ensures { λ r. ⌜ RefusesSeen r t v whole count (now (heads .entry)) ⌝ }
 {
     let n = tree_refusal(t);
@@ -212,7 +213,7 @@ pub(crate) fn seen_refusal(t: Tree, v: Seen, whole: bool, count: usize, heads: &
 }
 
 // What a step needs to know of a bank. Steps that go on to change it have a pass of their own: the bank is by value, and each call would copy it.
-pub fn survey(b: Bank, heads: &[u64; 512]) -> Surveyed
+pub fn survey(b: Bank, heads: &Words) -> Surveyed
     ensures { λ r. ⌜ Surveys r b (now (heads .entry)) ⌝ }
 {
     let t = b.tree;

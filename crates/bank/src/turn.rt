@@ -1,10 +1,10 @@
 // The step of a turn, found by the sets alone, without a test of each candidate.
 use crate::bank::Bank;
-use crate::bank::CAPACITY;
 use crate::bank::Step;
 use column::choice::choose;
 use column::members::has;
 use column::members::lowest;
+use column::packet::CAPACITY;
 use column::refusal::may_acknowledge;
 use column::refusal::watched;
 use column::state::Column;

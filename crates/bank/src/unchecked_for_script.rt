@@ -3,14 +3,15 @@
 // answer anything; it still answers, and reaches outside nothing.
 use crate::bank::Answer;
 use crate::bank::Bank;
-use crate::bank::CAPACITY;
 use crate::bank::Step;
+use crate::bank::Words;
 use crate::opening::opening;
 use crate::opening::receiver_at;
 use crate::settling::is_refusal;
 use crate::step::change;
 use crate::survey::survey;
 use crate::validity::newest_valid;
+use column::packet::CAPACITY;
 use column::state::Column;
 use column::tree::Tree;
 ghost use mathlib.Core.Path.{_≡_};
@@ -44,7 +45,7 @@ pub fn untested() -> Tested
 }
 
 // What a test of the whole bank tells.
-pub fn test_bank(b: Bank, heads: &[u64; 512]) -> Tested
+pub fn test_bank(b: Bank, heads: &Words) -> Tested
     ensures { λ r. ⌜ Tests r b (now (heads .entry)) ⌝ }
 {
     let v = survey(b, heads);
@@ -73,7 +74,7 @@ pub fn is_move(x: Step) -> bool
 }
 
 // The column whose step it is.
-pub fn acting(t: Tree, x: Step, heads: &[u64; 512]) -> usize
+pub fn acting(t: Tree, x: Step, heads: &Words) -> usize
     ensures { λ r. ⌜ r ≡ actorOf t x (now (heads .entry)) ⌝ }
 {
     match x {
@@ -99,7 +100,7 @@ fn kept(c: Column, count: usize, answer: Answer, refusal: u8) -> Part
 }
 
 // By which number a bank is refused that stood before a step and has so many packets after it: 4 where the newest does not stand, else 0.
-fn refusal_after(t: Tree, running: u16, count: usize, heads: &[u64; 512]) -> u8
+fn refusal_after(t: Tree, running: u16, count: usize, heads: &Words) -> u8
     ensures { λ r. ⌜ RefusesAfter r t running count (now (heads .entry)) ⌝ }
 {
     if 16 < t.columns {
@@ -122,8 +123,8 @@ pub fn step_on(
     i: usize,
     c: Column,
     count: usize,
-    heads: &mut [u64; 512],
-    doors: &mut [u64; 512],
+    heads: &mut Words,
+    doors: &mut Words,
 ) -> Part
     ensures { λ r. ⌜ StepsPart r v t x i c count (now (heads .entry)) (now (doors .entry)) (now (heads .exit)) (now (doors .exit)) ⌝ }
 {

@@ -1,5 +1,6 @@
 // What every step tests first: the tree, then row 4 of every column and of every packet.
 use crate::bank::Bank;
+use crate::bank::Words;
 use crate::survey::ends_valid;
 use crate::survey::survey;
 use crate::words::receiver_in;
@@ -21,7 +22,7 @@ fn head_valid(columns: usize, root: usize, watch: bool, running: u16, head: u64)
 }
 
 // 2, 3 or 4 of the bank, which every step tests first, else 0. The doors that packets carry are not looked at.
-pub fn bank_refusal(b: Bank, heads: &[u64; 512]) -> u8
+pub fn bank_refusal(b: Bank, heads: &Words) -> u8
     ensures { λ r. ⌜ RefusesBank r b (now (heads .entry)) ⌝ }
 {
     let v = survey(b, heads);
@@ -29,7 +30,7 @@ pub fn bank_refusal(b: Bank, heads: &[u64; 512]) -> u8
 }
 
 // The same, and 4 of a column that the bank has not.
-pub fn acting_refusal(b: Bank, i: usize, heads: &[u64; 512]) -> u8
+pub fn acting_refusal(b: Bank, i: usize, heads: &Words) -> u8
     ensures { λ r. ⌜ RefusesActing r b (now (heads .entry)) i ⌝ }
 {
     let t = b.tree;
@@ -43,7 +44,7 @@ pub(crate) fn newest_valid(
     watch: bool,
     running: u16,
     count: usize,
-    heads: &[u64; 512],
+    heads: &Words,
 ) -> bool
     requires { ⌜ (columns ≤ 16) × (count ≤ 512) ⌝ }
     ensures { λ r. ⌜ TellsNewest r columns root watch running count (now (heads .entry)) ⌝ }

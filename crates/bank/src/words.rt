@@ -1,5 +1,5 @@
 // A packet as two words of the network: a head with the kind, the ends and the number, and the doors.
-use column::packet::HIGHEST;
+use column::packet::NUMBERS;
 use column::packet::Number;
 use column::packet::Packet;
 ghost use mathlib.Core.Path.{_≡_};
@@ -7,8 +7,6 @@ ghost use Rattle.column.specs.Packets.{doorsOf};
 ghost use Rattle.bank.specs.Words.{placed, headOf, packetOf, receiverIn, senderIn};
 
 // The factors of a head's parts.
-pub const NUMBERS: u64 = HIGHEST as u64 + 1;
-
 pub const ENDS: u64 = 256;
 
 pub const PAIRS: u64 = ENDS * ENDS;

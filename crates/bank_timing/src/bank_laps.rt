@@ -1,10 +1,12 @@
 // Laps of a bank's steps. The root and the tree come from the input, so that no column and no parent is known when the program is compiled.
 use bank::bank::Bank;
+use bank::bank::Words;
 use bank::bank::fresh;
 use bank::step::halt;
 use bank::step::note;
 use bank::step::send;
 use bank::step::take;
+use column::packet::CAPACITY;
 use column::state::Column;
 use laps_timing::fold;
 use laps_timing::heap;
@@ -16,7 +18,7 @@ const LAST: u32 = 32768;
 const STRIP: u32 = 65528;
 
 // The root sends a message with the lap as its doors to column 1.
-fn sent(b: Bank, root: usize, lap: u64, heads: &mut [u64; 512], doors: &mut [u64; 512]) -> Bank
+fn sent(b: Bank, root: usize, lap: u64, heads: &mut Words, doors: &mut Words) -> Bank
     requires { ⌜ root < 8 ⌝ }
 {
     let mut d = b;
@@ -29,7 +31,7 @@ fn sent(b: Bank, root: usize, lap: u64, heads: &mut [u64; 512], doors: &mut [u64
 }
 
 // One packet is put and the oldest is taken: as many are under way as before.
-fn turned(b: Bank, root: usize, lap: u64, heads: &mut [u64; 512], doors: &mut [u64; 512]) -> Bank
+fn turned(b: Bank, root: usize, lap: u64, heads: &mut Words, doors: &mut Words) -> Bank
     requires { ⌜ root < 8 ⌝ }
 {
     let r = take(sent(b, root, lap, heads, doors), root, heads, doors);
@@ -70,13 +72,7 @@ fn started(columns: usize, read: u8) -> Bank {
     b
 }
 
-fn filled(
-    b: Bank,
-    root: usize,
-    packets: u64,
-    heads: &mut [u64; 512],
-    doors: &mut [u64; 512],
-) -> Bank
+fn filled(b: Bank, root: usize, packets: u64, heads: &mut Words, doors: &mut Words) -> Bank
     requires { ⌜ root < 8 ⌝ }
 {
     let mut d = b;
@@ -88,7 +84,7 @@ fn filled(
     d
 }
 
-fn notes(b: Bank, root: usize, laps: u64, heads: &mut [u64; 512], doors: &mut [u64; 512]) -> u64
+fn notes(b: Bank, root: usize, laps: u64, heads: &mut Words, doors: &mut Words) -> u64
     requires { ⌜ root < 8 ⌝ }
 {
     let mut d = b;
@@ -104,7 +100,7 @@ fn notes(b: Bank, root: usize, laps: u64, heads: &mut [u64; 512], doors: &mut [u
     sum
 }
 
-fn turns(b: Bank, root: usize, laps: u64, heads: &mut [u64; 512], doors: &mut [u64; 512]) -> u64
+fn turns(b: Bank, root: usize, laps: u64, heads: &mut Words, doors: &mut Words) -> u64
     requires { ⌜ root < 8 ⌝ }
 {
     let mut d = b;
@@ -119,14 +115,7 @@ fn turns(b: Bank, root: usize, laps: u64, heads: &mut [u64; 512], doors: &mut [u
 }
 
 // The same bank, which a halt leaves as it was, loses the columns of a set, none of which a packet is for.
-fn halts(
-    b: Bank,
-    root: usize,
-    set: u32,
-    laps: u64,
-    heads: &mut [u64; 512],
-    doors: &mut [u64; 512],
-) -> u64
+fn halts(b: Bank, root: usize, set: u32, laps: u64, heads: &mut Words, doors: &mut Words) -> u64
     requires { ⌜ root < 8 ⌝ }
 {
     let mut sum: u64 = 0;
@@ -149,8 +138,8 @@ pub fn run(letter: u8, read: u8, columns: u64, packets: u64, laps: u64) -> u64
     requires { ⌜ read < 8 ⌝ }
 {
     let root = read as usize;
-    let mut heads = [0u64; 512];
-    let mut doors = [0u64; 512];
+    let mut heads = [0u64; CAPACITY];
+    let mut doors = [0u64; CAPACITY];
     let b = filled(
         started(columns as usize, read),
         root,

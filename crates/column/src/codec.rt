@@ -20,7 +20,10 @@ const HEAD_SIZE: usize = 3;
 
 const DOORS_SIZE: usize = 8;
 
-const MESSAGE_SIZE: usize = HEAD_SIZE + NUMBER_SIZE + DOORS_SIZE;
+// The bytes of a message, and of an acknowledgement.
+pub const MESSAGE_SIZE: usize = HEAD_SIZE + NUMBER_SIZE + DOORS_SIZE;
+
+pub const ACKNOWLEDGEMENT_SIZE: usize = HEAD_SIZE + NUMBER_SIZE;
 
 // What tells packets of two widths apart: the kinds of a message and of an acknowledgement, and how many bytes a number has.
 pub struct Width {

@@ -1,13 +1,11 @@
 // Frames of joined packets.
 use crate::codec::Reading;
 use crate::codec::read;
+use crate::packet::CAPACITY;
 use crate::packet::Packet;
 ghost use mathlib.Core.Path.{_≡_};
 ghost use Rattle.column.specs.Frames.{readFrame, frameMeant, frameOf};
 ghost use Rattle.column.specs.inner.Answers.{noFrame};
-
-// "A frame of more than 512 packets is 12."
-pub const FRAME_PACKETS: usize = 512;
 
 // An array of enums cannot be a field; one of structs can.
 pub struct Slot {
@@ -31,7 +29,7 @@ pub enum Count {
 
 pub struct Frame {
     pub count: Count,
-    pub packets: [Slot; FRAME_PACKETS],
+    pub packets: [Slot; CAPACITY],
 }
 
 // "A frame with a bad packet anywhere is refused with 12 and yields no packet."
@@ -40,7 +38,7 @@ fn no_frame() -> Frame
 {
     Frame {
         count: Count::Refused(12),
-        packets: [NO_SLOT; FRAME_PACKETS],
+        packets: [NO_SLOT; CAPACITY],
     }
 }
 
@@ -48,11 +46,11 @@ fn no_frame() -> Frame
 pub fn read_frame(frame: &[u8]) -> Frame
     ensures { λ r. ⌜ frameMeant r ≡ frameOf (readFrame (now (frame .entry))) ⌝ }
 {
-    let mut packets = [NO_SLOT; FRAME_PACKETS];
+    let mut packets = [NO_SLOT; CAPACITY];
     let mut count = 0;
     let mut at = 0;
     while at < frame.len() {
-        if count == FRAME_PACKETS {
+        if count == CAPACITY {
             return no_frame();
         }
         match read(&frame[at..]) {

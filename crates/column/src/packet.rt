@@ -9,6 +9,12 @@ pub const NUMBER_SIZE: usize = 4;
 
 pub const HIGHEST: Number = 4294967295;
 
+// How many numbers there are.
+pub const NUMBERS: u64 = HIGHEST as u64 + 1;
+
+// Most packets of a network, and of a frame.
+pub const CAPACITY: usize = 512;
+
 pub enum Packet {
     Message {
         from: u8,

@@ -1,13 +1,12 @@
 // Laps of reading a frame of 512 messages.
+use column::codec::MESSAGE_SIZE;
 use column::frame::Count;
-use column::frame::FRAME_PACKETS;
 use column::frame::read_frame;
+use column::packet::CAPACITY;
 use column::packet::Packet;
 use laps_timing::fold;
 
-const MESSAGE_SIZE: usize = 15;
-
-const FRAME_SIZE: usize = FRAME_PACKETS * MESSAGE_SIZE;
+const FRAME_SIZE: usize = CAPACITY * MESSAGE_SIZE;
 
 // Order 16,909,060 from column 0 to column 1.
 const MESSAGE: [u8; MESSAGE_SIZE] = [3, 0, 1, 1, 2, 3, 4, 1, 2, 3, 4, 5, 6, 7, 8];
@@ -45,7 +44,7 @@ pub fn run(laps: u64) -> u64 {
     let mut sum: u64 = 0;
     let mut lap: u64 = 0;
     while lap < laps {
-        let place = lap as usize % FRAME_PACKETS;
+        let place = lap as usize % CAPACITY;
         frame[place * MESSAGE_SIZE + DOORS] = (lap % 256) as u8;
         let read = read_frame(&frame);
         let count = read.count;

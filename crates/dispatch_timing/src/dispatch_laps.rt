@@ -1,6 +1,7 @@
 // Laps of the dispatcher: the same bank brought to rest in every lap. The tree comes from the input, so that no parent is known when the program
 // is compiled.
 use bank::bank::Bank;
+use bank::bank::Words;
 use bank::bank::fresh;
 use bank::dispatch::dispatch;
 use bank::step::ack;
@@ -10,6 +11,7 @@ use bank::step::note;
 use bank::step::order;
 use bank::step::send;
 use bank::step::take;
+use column::packet::CAPACITY;
 use column::tree::Tree;
 use laps_timing::fold;
 use laps_timing::heap;
@@ -34,7 +36,7 @@ fn star(columns: usize, read: u8) -> Tree {
 }
 
 // Column i sends as often as it can: to the root's children in place of the root, itself among them.
-fn send_all(b: Bank, i: usize, heads: &mut [u64; 512], doors: &mut [u64; 512]) -> Bank {
+fn send_all(b: Bank, i: usize, heads: &mut Words, doors: &mut Words) -> Bank {
     let mut d = b;
     let mut k: usize = 0;
     while k <= MOST {
@@ -46,13 +48,7 @@ fn send_all(b: Bank, i: usize, heads: &mut [u64; 512], doors: &mut [u64; 512]) -
 }
 
 // Column i notes the root, or takes the order, which is the oldest packet.
-fn prepared(
-    b: Bank,
-    first: bool,
-    i: usize,
-    heads: &mut [u64; 512],
-    doors: &mut [u64; 512],
-) -> Bank {
+fn prepared(b: Bank, first: bool, i: usize, heads: &mut Words, doors: &mut Words) -> Bank {
     if first {
         let n = note(b, i, 0, heads, doors);
         return n.bank;
@@ -63,13 +59,7 @@ fn prepared(
 }
 
 // Every column but the root takes over and sends to everyone: the first time under number 0, then under the order's.
-fn taken_over(
-    b: Bank,
-    first: bool,
-    columns: usize,
-    heads: &mut [u64; 512],
-    doors: &mut [u64; 512],
-) -> Bank
+fn taken_over(b: Bank, first: bool, columns: usize, heads: &mut Words, doors: &mut Words) -> Bank
     requires { ⌜ columns ≤ 16 ⌝ }
 {
     let mut d = b;
@@ -83,7 +73,7 @@ fn taken_over(
 }
 
 // The root halts with its order under way.
-fn rootless(columns: usize, read: u8, heads: &mut [u64; 512], doors: &mut [u64; 512]) -> Bank {
+fn rootless(columns: usize, read: u8, heads: &mut Words, doors: &mut Words) -> Bank {
     let f = fresh(star(columns, read));
     let r = order(f.bank, DOORS, heads, doors);
     let h = halt(send_all(r.bank, 0, heads, doors), ROOT, heads, doors);
@@ -92,7 +82,7 @@ fn rootless(columns: usize, read: u8, heads: &mut [u64; 512], doors: &mut [u64; 
 
 // A crowded bank, 420 packets under way where it has 16 columns: every column but the root takes over before it takes the order and once more
 // after it.
-fn crowded(columns: usize, read: u8, heads: &mut [u64; 512], doors: &mut [u64; 512]) -> Bank
+fn crowded(columns: usize, read: u8, heads: &mut Words, doors: &mut Words) -> Bank
     requires { ⌜ columns ≤ 16 ⌝ }
 {
     let b = rootless(columns, read, heads, doors);
@@ -101,14 +91,14 @@ fn crowded(columns: usize, read: u8, heads: &mut [u64; 512], doors: &mut [u64; 5
 }
 
 // A heap of columns whose root has just been given an order.
-fn ordered(columns: usize, read: u8, heads: &mut [u64; 512], doors: &mut [u64; 512]) -> Bank {
+fn ordered(columns: usize, read: u8, heads: &mut Words, doors: &mut Words) -> Bank {
     let f = fresh(heap(columns, read));
     let r = order(f.bank, DOORS, heads, doors);
     r.bank
 }
 
 // One lap: the steps taken, how many packets are left, and the last column's record.
-fn lap_of(b: Bank, last: usize, lap: u64, heads: &[u64; 512], doors: &[u64; 512]) -> u64
+fn lap_of(b: Bank, last: usize, lap: u64, heads: &Words, doors: &Words) -> u64
     requires { ⌜ last < 16 ⌝ }
 {
     let mut h = *heads;
@@ -126,7 +116,7 @@ fn lap_of(b: Bank, last: usize, lap: u64, heads: &[u64; 512], doors: &[u64; 512]
     )
 }
 
-fn laps_of(b: Bank, last: usize, laps: u64, heads: &[u64; 512], doors: &[u64; 512]) -> u64
+fn laps_of(b: Bank, last: usize, laps: u64, heads: &Words, doors: &Words) -> u64
     requires { ⌜ last < 16 ⌝ }
 {
     let mut sum: u64 = 0;
@@ -142,8 +132,8 @@ fn laps_of(b: Bank, last: usize, laps: u64, heads: &[u64; 512], doors: &[u64; 51
 pub fn run(letter: u8, read: u8, columns: usize, laps: u64) -> u64
     requires { ⌜ (0 < columns) × (columns ≤ 16) ⌝ }
 {
-    let mut heads = [0u64; 512];
-    let mut doors = [0u64; 512];
+    let mut heads = [0u64; CAPACITY];
+    let mut doors = [0u64; CAPACITY];
     let b = match letter {
         b'D' => ordered(columns, read, &mut heads, &mut doors),
         _ => crowded(columns, read, &mut heads, &mut doors),

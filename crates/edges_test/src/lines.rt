@@ -6,6 +6,7 @@ use bank::bank::Answer;
 use bank::bank::Step;
 use bank::bank::fresh;
 use bank::step::perform;
+use column::packet::CAPACITY;
 use column::tree::ASCENDING;
 use column::tree::Tree;
 use script::line::Line;
@@ -20,8 +21,8 @@ const TREE: Tree = Tree {
 };
 
 fn performed(x: Step) -> Answer {
-    let mut heads = [0u64; 512];
-    let mut doors = [0u64; 512];
+    let mut heads = [0u64; CAPACITY];
+    let mut doors = [0u64; CAPACITY];
     let begun = fresh(TREE);
     let r = perform(begun.bank, x, &mut heads, &mut doors);
     r.answer

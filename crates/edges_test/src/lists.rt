@@ -6,6 +6,7 @@ use crate::print::print;
 use crate::print::print_number;
 use bank::bank::Bank;
 use bank::bank::fresh;
+use column::packet::CAPACITY;
 use column::tree::ASCENDING;
 use column::tree::Tree;
 use list::list::Listing;
@@ -41,8 +42,8 @@ fn bank(running: bool, whole: bool) -> Bank {
 
 // No packet is under way.
 fn answer(b: Bank, i: usize, buffer: &mut [u8], at: usize) -> Listing {
-    let heads = [0u64; 512];
-    let doors = [0u64; 512];
+    let heads = [0u64; CAPACITY];
+    let doors = [0u64; CAPACITY];
     list(b, i, &heads, &doors, buffer, at)
 }
 

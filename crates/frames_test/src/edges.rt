@@ -2,19 +2,18 @@
 use crate::print::print;
 use crate::print::print_answer;
 use crate::print::print_packet;
+use column::codec::ACKNOWLEDGEMENT_SIZE;
+use column::codec::MESSAGE_SIZE;
 use column::frame::Count;
 use column::frame::read_frame;
+use column::packet::CAPACITY;
 ghost use mathlib.Core.Path.{_≡_};
 ghost use lib.ListN.{length};
-
-const MESSAGE_SIZE: usize = 15;
-
-const ACKNOWLEDGEMENT_SIZE: usize = 7;
 
 const BOTH_SIZE: usize = MESSAGE_SIZE + ACKNOWLEDGEMENT_SIZE;
 
 // 513 messages, and one byte.
-const LONGEST: usize = 513 * MESSAGE_SIZE + 1;
+const LONGEST: usize = (CAPACITY + 1) * MESSAGE_SIZE + 1;
 
 // Byte j of the message from column 0 to column 1 with order k.
 fn message_byte(k: usize, j: usize) -> u8 {
@@ -111,8 +110,8 @@ fn counts() {
     first(b"an acknowledgement", 4, ACKNOWLEDGEMENT_SIZE);
     first(b"a message and an acknowledgement", 5, BOTH_SIZE);
     first(b"511 messages", 3, 511 * MESSAGE_SIZE);
-    first(b"512 messages", 3, 512 * MESSAGE_SIZE);
-    first(b"512 acknowledgements", 4, 512 * ACKNOWLEDGEMENT_SIZE);
+    first(b"512 messages", 3, CAPACITY * MESSAGE_SIZE);
+    first(b"512 acknowledgements", 4, CAPACITY * ACKNOWLEDGEMENT_SIZE);
     first(b"512 packets of both kinds", 5, 256 * BOTH_SIZE);
     first(b"513 messages", 3, 513 * MESSAGE_SIZE);
     first(b"513 acknowledgements", 4, 513 * ACKNOWLEDGEMENT_SIZE);
@@ -121,11 +120,11 @@ fn counts() {
         5,
         256 * BOTH_SIZE + MESSAGE_SIZE,
     );
-    first(b"512 messages and a byte", 3, 512 * MESSAGE_SIZE + 1);
+    first(b"512 messages and a byte", 3, CAPACITY * MESSAGE_SIZE + 1);
     first(
         b"512 acknowledgements and a byte",
         4,
-        512 * ACKNOWLEDGEMENT_SIZE + 1,
+        CAPACITY * ACKNOWLEDGEMENT_SIZE + 1,
     );
 }
 
@@ -138,12 +137,12 @@ fn partial() {
     first(
         b"512 messages, the last of 14 bytes",
         3,
-        512 * MESSAGE_SIZE - 1,
+        CAPACITY * MESSAGE_SIZE - 1,
     );
     first(
         b"512 acknowledgements, the last of 6 bytes",
         4,
-        512 * ACKNOWLEDGEMENT_SIZE - 1,
+        CAPACITY * ACKNOWLEDGEMENT_SIZE - 1,
     );
 }
 
@@ -158,7 +157,7 @@ fn bad() {
     changed(
         b"512 messages, the last of kind 5",
         3,
-        512 * MESSAGE_SIZE,
+        CAPACITY * MESSAGE_SIZE,
         511 * MESSAGE_SIZE,
         5,
     );

@@ -1,7 +1,7 @@
 // The parts of a line.
 use column::frame::Count;
-use column::frame::FRAME_PACKETS;
 use column::frame::Frame;
+use column::packet::CAPACITY;
 use column::packet::Packet;
 use libc::STDOUT_FILENO;
 ghost use Prim.Native.Nat.{_<_};
@@ -78,7 +78,7 @@ fn filled(frame: Frame) -> u64 {
     let packets = frame.packets;
     let mut n: u64 = 0;
     let mut k = 0;
-    while k < FRAME_PACKETS {
+    while k < CAPACITY {
         let slot = packets[k];
         let packet = slot.packet;
         n += held(packet);

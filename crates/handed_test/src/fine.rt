@@ -19,6 +19,7 @@ use crate::state::member;
 use crate::state::root;
 use crate::state::with_column;
 use bank::bank::Step;
+use column::packet::CAPACITY;
 
 // Every place past the three columns and every word past the first packet's holds what row 4 would meet in a used one.
 pub fn with_junk(s: State) -> State {
@@ -36,8 +37,8 @@ pub fn with_junk(s: State) -> State {
     t.up = [0, 0, 1, 99, 99, 99, 99, 99, 99, 99, 99, 99, 99, 99, 99, 99];
     t.first = [2, 0, 1, 99, 99, 99, 99, 99, 99, 99, 99, 99, 99, 99, 99, 99];
     b.tree = t;
-    let mut heads = [18446744073709551615u64; 512];
-    let mut doors = [18446744073709551615u64; 512];
+    let mut heads = [18446744073709551615u64; CAPACITY];
+    let mut doors = [18446744073709551615u64; CAPACITY];
     heads[0] = s.heads[0];
     doors[0] = s.doors[0];
     State {

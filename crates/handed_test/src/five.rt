@@ -10,6 +10,7 @@ use crate::state::member;
 use crate::state::root;
 use bank::bank::Bank;
 use bank::bank::NO_COLUMN;
+use column::packet::CAPACITY;
 use column::packet::Number;
 use column::state::Column;
 use column::tree::ASCENDING;
@@ -53,8 +54,8 @@ fn with_running(one: Column, two: Column, four: Column) -> State {
             columns,
             count: 0,
         },
-        heads: [0; 512],
-        doors: [0; 512],
+        heads: [0; CAPACITY],
+        doors: [0; CAPACITY],
     }
 }
 

@@ -1,8 +1,9 @@
 // The parts of a line.
-use crate::state::NUMBERS;
 use crate::state::State;
 use bank::bank::Answer;
 use bank::bank::Step;
+use column::packet::CAPACITY;
+use column::packet::NUMBERS;
 use column::state::Column;
 use libc::STDOUT_FILENO;
 
@@ -104,7 +105,7 @@ pub fn print_count(s: State) {
 }
 
 pub fn print_place(s: State, k: usize) {
-    if k < 512 {
+    if k < CAPACITY {
         let head = s.heads[k];
         print_number(b", place ", k as u64);
         print_flag(head < NUMBERS * 65536, b" message ", b" acknowledgement ");

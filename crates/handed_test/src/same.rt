@@ -1,6 +1,8 @@
 // Whether two states are the same: all sixteen columns, the tree, the count and every word of both arrays, free ones too.
 use crate::state::State;
 use bank::bank::Bank;
+use bank::bank::Words;
+use column::packet::CAPACITY;
 use column::state::Column;
 use column::tree::Tree;
 
@@ -41,10 +43,10 @@ fn same_tree(a: Tree, b: Tree) -> bool {
     same
 }
 
-fn same_words(a: &[u64; 512], b: &[u64; 512], first: usize) -> bool {
+fn same_words(a: &Words, b: &Words, first: usize) -> bool {
     let mut same = true;
     let mut k = first;
-    while k < 512 {
+    while k < CAPACITY {
         same = same & (a[k] == b[k]);
         k += 1;
     }

@@ -2,6 +2,9 @@
 // otherwise the tree is that of three columns, 1 the child of root 0 and 2 the child of 1, and column 2 is halted.
 use bank::bank::Bank;
 use bank::bank::NO_COLUMN;
+use bank::bank::Words;
+use column::packet::CAPACITY;
+use column::packet::NUMBERS;
 use column::packet::Number;
 use column::state::Column;
 use column::tree::ASCENDING;
@@ -9,8 +12,8 @@ use column::tree::Tree;
 
 pub struct State {
     pub bank: Bank,
-    pub heads: [u64; 512],
-    pub doors: [u64; 512],
+    pub heads: Words,
+    pub doors: Words,
 }
 
 // The sets of one column each. C3 has a member that is not below the columns.
@@ -79,7 +82,6 @@ pub fn numbered(c: Column, number: Number) -> Column {
 }
 
 // How many numbers a packet's head tells apart.
-pub const NUMBERS: u64 = 4294967296;
 
 // A packet's head: kind 0 is a message, kind 1 an acknowledgement.
 fn placed(kind: u64, from: u64, to: u64, number: u64) -> u64 {
@@ -108,8 +110,8 @@ pub fn quiet() -> State {
             columns,
             count: 0,
         },
-        heads: [0; 512],
-        doors: [0; 512],
+        heads: [0; CAPACITY],
+        doors: [0; CAPACITY],
     }
 }
 
@@ -145,7 +147,7 @@ pub fn with_tree(s: State, t: Tree) -> State {
 // The state with a packet of these words at a place, if there is such a place.
 pub fn with_words(s: State, place: usize, head: u64, doors: u64) -> State {
     let mut r = s;
-    if place < 512 {
+    if place < CAPACITY {
         r.heads[place] = head;
         r.doors[place] = doors;
     }
@@ -169,7 +171,7 @@ pub fn busy() -> State {
 // Every place of both arrays is taken, whatever the count: acknowledgements of an older number to the root.
 pub fn filled(s: State, count: usize) -> State {
     let mut r = with_count(s, count);
-    r.heads = [acknowledgement(1, 0, 3); 512];
-    r.doors = [3; 512];
+    r.heads = [acknowledgement(1, 0, 3); CAPACITY];
+    r.doors = [3; CAPACITY];
     r
 }

@@ -1,15 +1,13 @@
 // A line of a journal as one word: its way, its kind, the other column and its number.
 use crate::line::Line;
 use crate::line::Way;
-use column::packet::HIGHEST;
+use column::packet::NUMBERS;
 ghost use Prim.Native.Nat.{_<_};
 ghost use mathlib.Core.Path.{_≡_};
 ghost use Rattle.column.specs.Columns.{numbers};
 ghost use Rattle.journals.specs.inner.LineWords.{ways, byteValues, wayNumber, word, keyOf, aboutKey, turned};
 
 // The factors of a word's parts: the kind and the other column are a byte each.
-const NUMBERS: u64 = HIGHEST as u64 + 1;
-
 const BYTE_VALUES: u64 = 256;
 
 // The numbers of the ways.

@@ -1,10 +1,12 @@
 // An order is given to a fresh bank and dispatched for some steps. Then every set of columns is halted in turn, each in the same bank, which is
 // dispatched to rest: by what its running columns hold there the sets are counted.
 use bank::bank::Bank;
+use bank::bank::Words;
 use bank::bank::fresh;
 use bank::dispatch::dispatch;
 use bank::step::halt;
 use bank::step::order;
+use column::packet::CAPACITY;
 use column::precedence::refuse_if;
 use column::topology::tree_refusal;
 use column::tree::Tree;
@@ -94,7 +96,7 @@ fn with_ended(l: Losses, b: Bank) -> Losses
 }
 
 // The bank with a set halted, at rest. The network is by value: each set is halted in the same bank.
-fn ended(b: Bank, set: u32, heads: [u64; 512], doors: [u64; 512]) -> Bank
+fn ended(b: Bank, set: u32, heads: Words, doors: Words) -> Bank
     ensures { λ r. ⌜ r ≡ ended (state b heads doors) set .bank ⌝ }
 {
     let mut h = heads;
@@ -105,7 +107,7 @@ fn ended(b: Bank, set: u32, heads: [u64; 512], doors: [u64; 512]) -> Bank
 }
 
 // The counts over every set, the empty one too.
-fn count(b: Bank, heads: [u64; 512], doors: [u64; 512]) -> Losses
+fn count(b: Bank, heads: Words, doors: Words) -> Losses
     requires { ⌜ b .tree .columns ≤ 8 ⌝ }
     ensures { λ r. ⌜ r ≡ countedOf (state b heads doors) ⌝ }
 {
@@ -144,8 +146,8 @@ pub fn count_losses(t: Tree, steps: usize) -> Losses
     if n != 0 {
         return refused(n);
     }
-    let mut heads = [0u64; 512];
-    let mut doors = [0u64; 512];
+    let mut heads = [0u64; CAPACITY];
+    let mut doors = [0u64; CAPACITY];
     let made = fresh(t);
     let given = order(made.bank, 0, &mut heads, &mut doors);
     let begun = dispatch(given.bank, steps, &mut heads, &mut doors);

@@ -5,6 +5,7 @@ use crate::print::print_line;
 use crate::print::print_number;
 use bank::bank::Bank;
 use bank::bank::Step;
+use bank::bank::Words;
 use bank::dispatch::dispatch;
 use bank::page::line_up;
 use bank::page::read;
@@ -48,7 +49,7 @@ fn step(c: Command) -> Step {
 }
 
 // The whole page, a byte to a line.
-fn show_page(b: Bank, i: usize, heads: &[u64; 512]) {
+fn show_page(b: Bank, i: usize, heads: &Words) {
     let mut offset = 0;
     while offset < PAGE_SIZE {
         print_byte(b"byte=", read(b, i, offset, heads));
@@ -57,7 +58,7 @@ fn show_page(b: Bank, i: usize, heads: &[u64; 512]) {
     print_line(line_up(b, i, heads));
 }
 
-fn run(b: Bank, limit: usize, heads: &mut [u64; 512], doors: &mut [u64; 512]) -> Bank {
+fn run(b: Bank, limit: usize, heads: &mut Words, doors: &mut Words) -> Bank {
     let r = dispatch(b, limit, heads, doors);
     let a = r.answer;
     print_answer(a);
@@ -66,7 +67,7 @@ fn run(b: Bank, limit: usize, heads: &mut [u64; 512], doors: &mut [u64; 512]) ->
 }
 
 // Its answer is printed; the bank after it.
-pub fn obey(b: Bank, c: Command, heads: &mut [u64; 512], doors: &mut [u64; 512]) -> Bank {
+pub fn obey(b: Bank, c: Command, heads: &mut Words, doors: &mut Words) -> Bank {
     let letter = c.letter;
     let i = c.x as usize;
     if letter == b'p' {

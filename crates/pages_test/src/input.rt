@@ -4,6 +4,7 @@ use crate::command::Command;
 use crate::command::obey;
 use crate::print::print_answer;
 use bank::bank::fresh;
+use column::packet::CAPACITY;
 use column::tree::ASCENDING;
 use column::tree::Tree;
 use libc::STDIN_FILENO;
@@ -45,8 +46,8 @@ fn run(input: &[u8]) {
     let mut b = r.bank;
     let a = r.answer;
     print_answer(a);
-    let mut heads = [0u64; 512];
-    let mut doors = [0u64; 512];
+    let mut heads = [0u64; CAPACITY];
+    let mut doors = [0u64; CAPACITY];
     let mut at = TREE_SIZE;
     while at < input.len() {
         let c = Command {

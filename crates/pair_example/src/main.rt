@@ -12,6 +12,7 @@ use crate::print::print;
 use crate::print::print_doors;
 use crate::print::print_line;
 use crate::print::print_set;
+use column::codec::MESSAGE_SIZE;
 use column::state::Column;
 use column::state::FreshColumn;
 use column::state::fresh;
@@ -28,7 +29,7 @@ const FIRST: usize = 1;
 const SECOND: usize = 2;
 
 // Two messages.
-const FRAME_SIZE: usize = 30;
+const FRAME_SIZE: usize = 2 * MESSAGE_SIZE;
 
 // Doors 1 and 10: bit 0 of byte 0 and bit 1 of byte 1.
 const DOORS: u64 = 1 + 2 * 256;

@@ -4,6 +4,7 @@ use crate::line::taken;
 use crate::print::print_bytes;
 use crate::print::print_line;
 use crate::print::wide;
+use column::codec::MESSAGE_SIZE;
 use column::codec::Reading;
 use column::codec::Size;
 use column::codec::Written;
@@ -27,11 +28,8 @@ const NEW_END: usize = 0;
 
 const OLD_END: usize = 1;
 
-// No packet is longer.
-const LONGEST: usize = 15;
-
 const NOTHING: Written = Written {
-    bytes: [0u8; LONGEST],
+    bytes: [0u8; MESSAGE_SIZE],
     size: Size::Refused(12),
 };
 

@@ -1,5 +1,6 @@
 // The closing list of a column of a bank.
 use bank::bank::Bank;
+use bank::bank::Words;
 use bank::validity::acting_refusal;
 use list::list::Listing;
 use list::list::write_list;
@@ -10,7 +11,7 @@ ghost use Rattle.list.specs.Closing.{listed};
 ghost use Rattle.script.specs.BankLists.{RefusesListing, list as Closing·list};
 
 // What a list is refused with before its place is looked at, or 0.
-pub fn list_refusal(b: Bank, i: usize, heads: &[u64; 512]) -> u8
+pub fn list_refusal(b: Bank, i: usize, heads: &Words) -> u8
     ensures { λ r. ⌜ RefusesListing r b (now (heads .entry)) i ⌝ }
 {
     let n = acting_refusal(b, i, heads);
@@ -25,14 +26,7 @@ pub fn list_refusal(b: Bank, i: usize, heads: &[u64; 512]) -> u8
 }
 
 // The length of the list that is written from `at` on, or by which number it is refused. The doors that packets carry are not looked at.
-pub fn list(
-    b: Bank,
-    i: usize,
-    heads: &[u64; 512],
-    doors: &[u64; 512],
-    buf: &mut [u8],
-    at: usize,
-) -> Listing
+pub fn list(b: Bank, i: usize, heads: &Words, doors: &Words, buf: &mut [u8], at: usize) -> Listing
     ensures { λ r. ⌜ listed r (now (buf .exit)) ≡ Closing·list (state b (now (heads .entry)) (now (doors .entry))) i (now (buf .entry)) at ⌝ }
 {
     let n = list_refusal(b, i, heads);

@@ -10,6 +10,7 @@ use crate::whole_line::whole_line;
 use bank::bank::Answer;
 use bank::bank::Bank;
 use bank::bank::NO_COLUMN;
+use bank::bank::Words;
 use bank::bank::fresh;
 use bank::rest::at_rest;
 use bank::unchecked_for_script::acting;
@@ -17,6 +18,7 @@ use bank::unchecked_for_script::step_on;
 use bank::unchecked_for_script::test_bank;
 use bank::unchecked_for_script::untested;
 use bytes::scan::find;
+use column::packet::CAPACITY;
 use column::tree::ASCENDING;
 use column::tree::Tree;
 use list::list::LONGEST;
@@ -39,7 +41,7 @@ pub const BUFFER: usize = 16384;
 const ROOM: usize = BUFFER - LONGEST;
 
 // The words of a network.
-type Words = [u64; 512];
+type Words = [u64; CAPACITY];
 
 pub struct Run {
     pub bank: Bank,
@@ -72,7 +74,7 @@ fn run_to(bank: Bank, position: usize, over: bool, length: usize) -> Run
     }
 }
 
-fn put_rest(b: Bank, heads: &[u64; 512], doors: &[u64; 512], out: &mut [u8], at: usize) -> usize
+fn put_rest(b: Bank, heads: &Words, doors: &Words, out: &mut [u8], at: usize) -> usize
     requires { ⌜ at + longestList ≤ length (now out) ⌝ }
     ensures { λ r. ⌜ Writes r (now (out .exit)) (now (out .entry)) at (restText (state b (now (heads .entry)) (now (doors .entry)))) ⌝ }
 {
@@ -206,8 +208,8 @@ pub fn start() -> Run
 pub fn fill(
     r: Run,
     input: &[u8],
-    heads: &mut [u64; 512],
-    doors: &mut [u64; 512],
+    heads: &mut Words,
+    doors: &mut Words,
     out: &mut [u8; BUFFER],
 ) -> Run
     ensures { λ q. ⌜ Advanced q (now (heads .exit)) (now (doors .exit)) (now (out .exit)) (now (out .entry)) (fill (now (input .entry)) (progressOf r (now (heads .entry)) (now (doors .entry)) (now (out .entry)))) ⌝ }

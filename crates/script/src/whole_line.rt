@@ -6,6 +6,7 @@ use bank::bank::Answer;
 use bank::bank::Bank;
 use bank::bank::Outcome;
 use bank::bank::Step;
+use bank::bank::Words;
 use bank::dispatch::dispatch;
 use bank::step::back;
 use bank::step::halt;
@@ -53,7 +54,7 @@ fn no_step(b: Bank) -> Outcome
 }
 
 // The bank after a step that does not go by place.
-fn whole_step(b: Bank, x: Step, heads: &mut [u64; 512], doors: &mut [u64; 512]) -> Outcome
+fn whole_step(b: Bank, x: Step, heads: &mut Words, doors: &mut Words) -> Outcome
     ensures { λ r. ⌜ (isMove x ≡ false → outcomeMeant r (now (heads .exit)) (now (doors .exit)) ≡ perform (state b (now (heads .entry)) (now (doors .entry))) x) ⌝ }
 {
     match x {
@@ -73,8 +74,8 @@ fn whole_step(b: Bank, x: Step, heads: &mut [u64; 512], doors: &mut [u64; 512]) 
 pub(crate) fn whole_line(
     b: Bank,
     line: Line,
-    heads: &mut [u64; 512],
-    doors: &mut [u64; 512],
+    heads: &mut Words,
+    doors: &mut Words,
     out: &mut [u8],
     at: usize,
 ) -> LineDone
