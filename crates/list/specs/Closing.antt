@@ -41,8 +41,8 @@ abbrev pub listingMeant : Listing → Given ℕ
 listingMeant (Length n) = given n
 listingMeant (Refused n) = refused n
 
-abbrev pub listed : Listing → List ℕ → Listed
-listed r buffer = record { answer = listingMeant r; buffer = buffer }
+abbrev pub listedMeant : Listing → List ℕ → Listed
+listedMeant r buffer = record { answer = listingMeant r; buffer = buffer }
 
 -- "Written into a lent buffer from a given place on; other bytes keep their values, and the call answers the list's length."
 -- "11: the list doesn't fit from its place"

@@ -9,7 +9,7 @@ use text::writing::put_next;
 ghost use Prim.Native.Nat.{_≤_, _<_};
 ghost use mathlib.Core.Path.{_≡_};
 ghost use lib.ListN.{length};
-ghost use Rattle.list.specs.Closing.{longestList, doorsUpTo, listText, listed, placed, loneList};
+ghost use Rattle.list.specs.Closing.{longestList, doorsUpTo, listText, listedMeant, placed, loneList};
 ghost use Rattle.text.specs.Text.{divided, Puts};
 
 // "The longest list is 229."
@@ -56,7 +56,7 @@ pub fn put_list(out: &mut [u8], at: usize, i: usize, c: Column) -> usize
 
 // "The list writer is lent the mutable part that starts at that place": the list at its start, where it fits; otherwise every byte is as it was.
 pub fn write_list(i: usize, c: Column, out: &mut [u8]) -> Listing
-    ensures { λ r. ⌜ listed r (now (out .exit)) ≡ placed (now (out .entry)) 0 (listText i c) ⌝ }
+    ensures { λ r. ⌜ listedMeant r (now (out .exit)) ≡ placed (now (out .entry)) 0 (listText i c) ⌝ }
 {
     let mut scratch = [0u8; SCRATCH];
     let n = put_list(&mut scratch, 0, i, c);
@@ -69,7 +69,7 @@ pub fn write_list(i: usize, c: Column, out: &mut [u8]) -> Listing
 
 // The list of a column of which nothing but its tree and its state is known, at the start of what is lent: its length, or 2, 3, 4, 5, 11.
 pub fn lone_list(t: Tree, i: usize, c: Column, buf: &mut [u8]) -> Listing
-    ensures { λ r. ⌜ listed r (now (buf .exit)) ≡ loneList t i c (now (buf .entry)) ⌝ }
+    ensures { λ r. ⌜ listedMeant r (now (buf .exit)) ≡ loneList t i c (now (buf .entry)) ⌝ }
 {
     let n = refuse_if(validity_refusal(t, i, c), !c.running, 5);
     if n != 0 {

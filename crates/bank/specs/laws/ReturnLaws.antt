@@ -49,8 +49,8 @@ module _ (s : State) (j : ℕ) where
   both-fourteen true quiet rest = refl
   both-fourteen false quiet rest = refl
 
-  validity-refusal-refusal : bankRefusal s ≡ 0 → first (returningConditions b (runningOf b) j) ≡ first (backConditions s j)
-  validity-refusal-refusal good =
+  conditions-alike : bankRefusal s ≡ 0 → first (returningConditions b (runningOf b) j) ≡ first (backConditions s j)
+  conditions-alike good =
       below-runs (leb (b .tree .columns) j) _ refl
       ∙ ap (λ (k : ℕ). cond (leb (b .tree .columns) j) 4 (cond (runs b j) 6 (cond (eqb j (b .tree .root)) 15 k)))
       (both-fourteen (eqb (b .count) 0) (columnsRest b) _
@@ -66,7 +66,7 @@ module _ (s : State) (j : ℕ) where
           → cond x (first (returningConditions b running j)) (bankRefusal s) ≡ cond x (first (backConditions s j)) (bankRefusal s)
       go true z =
           let good = eqb-true (bankRefusal s) 0 z in
-          ap (λ (r : ℕ). first (returningConditions b r j)) (running-is (e ∙ good)) ∙ validity-refusal-refusal good
+          ap (λ (r : ℕ). first (returningConditions b r j)) (running-is (e ∙ good)) ∙ conditions-alike good
       go false z = refl
 
 -- ---- what is known where a return is accepted

@@ -6,7 +6,7 @@ use borrow.Author.Tests.{not-true, not-false}
 use borrow.Author.Needs.{needs}
 use Rattle.column.specs.declared.tree.Tree.{Tree}
 use Rattle.column.specs.declared.state.Column.{Column}
-use Rattle.list.specs.Closing.{Listed, listed, loneList}
+use Rattle.list.specs.Closing.{Listed, listedMeant, loneList}
 use Rattle.firmware.specs.Blocks.{treeIn, columnIn, blockSizes}
 use Rattle.firmware.specs.Calls.{filled, listLeft, listCall}
 use Rattle.firmware.specs.laws.CallLaws.{Sized, sized}
@@ -21,7 +21,7 @@ fit e =
     sized (a .tree .now) (a .column .now) (sym (e .before .block-sizes .ensures) ∙ not-false _ (e .if1 .left))
 
 left : (l : tie.After-lone-list) → let a = l .before .before .before .before .before .before .before .before .before .args in
-    listed (l .lone-list .result) (l .lone-list .last .1 .1 .1 .0) ≡ loneList (treeIn (a .tree .now)) (a .i) (columnIn (a .column .now)) (a .buffer .now)
+    listedMeant (l .lone-list .result) (l .lone-list .last .1 .1 .1 .0) ≡ loneList (treeIn (a .tree .now)) (a .i) (columnIn (a .column .now)) (a .buffer .now)
 left l =
     let a = l .before .before .before .before .before .before .before .before .before .args in
     l .lone-list .ensures
