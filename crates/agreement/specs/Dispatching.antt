@@ -4,14 +4,14 @@
 use Prim.Native.Nat.{ℕ, _-_, _*_, _≤_, _<_}
 use mathlib.Core.Path.{_≡_}
 use mathlib.Core.Logic.{_↔_}
-use mathlib.Core.Bool.{Bool, true, false, not, _&&_}
+use mathlib.Core.Bool.{Bool, true, not, _&&_, _||_}
 use mathlib.Core.List.{List, [], _∷_}
 use lib.ListN.{length}
+use Rattle.bank.specs.StepKinds.{acting, taking, is}
 use Rattle.bank.specs.Performs.{perform}
 use Rattle.bank.specs.Rest.{isRefused, AtRest}
 use Rattle.bank.specs.Dispatch.{dispatched, dispatch}
 use Rattle.bank.specs.declared.bank.Step.{Step}
-use Rattle.bank.specs.declared.bank.Step.the-variants.{Order, Send, Take, Ack, All, Note, Halt, Back, Write}
 use Rattle.agreement.specs.History.{World, columnsOf, told, run, dispatching, follow}
 use Rattle.agreement.specs.Agreement.{AfterEveryList}
 
@@ -24,15 +24,7 @@ stepBound n = 9 * (n * (n - 1))
 
 -- a step that is neither an order nor a halt nor a return nor a write
 abbrev pub isSettling : Step → Bool
-isSettling (Order doors) = false
-isSettling (Send i) = true
-isSettling (Take place) = true
-isSettling (Ack i) = true
-isSettling (All i) = true
-isSettling (Note i j) = true
-isSettling (Halt m) = false
-isSettling (Back j) = false
-isSettling (Write i offset value) = false
+isSettling x = is acting x || is taking x
 
 unfoldable pub allSettling : List Step → Bool
 allSettling [] = true

@@ -17,7 +17,7 @@ use Rattle.list.specs.Closing.{placed}
 use Rattle.bank.specs.Banks.{State, columnAt, runs, packetAt, capacity}
 use Rattle.bank.specs.Steps.{Result, accepted, refused}
 use Rattle.bank.specs.Performs.{perform}
-use Rattle.bank.specs.Returns.{isBack}
+use Rattle.bank.specs.StepKinds.{isBack}
 use Rattle.bank.specs.declared.bank.Step.{Step}
 use Rattle.bank.specs.declared.bank.Step.the-variants.{Order, Send, Take, Ack, All, Note, Halt, Back, Write}
 use Rattle.journals.specs.Journals.{line, journalText, journalLimit, missingText, compared, Once, journal}

@@ -1,4 +1,5 @@
 pub mod Words
+pub mod StepKinds
 pub mod Banks
 pub mod Networks
 pub mod Steps

@@ -2,12 +2,13 @@
 -- bank of which these are the parts, where what is known of it is so.
 use Prim.Native.Nat.{ℕ, _%_}
 use mathlib.Core.Path.{_≡_}
-use mathlib.Core.Bool.{Bool, true, false, cond, _||_}
+use mathlib.Core.Bool.{true, false, cond}
 use mathlib.Core.List.{List}
 use lib.ListN.{set, getD}
 use lib.Dec.{leb}
 use Rattle.column.specs.declared.tree.Tree.{Tree}
 use Rattle.column.specs.declared.state.Column.{Column}
+use Rattle.bank.specs.StepKinds.{isMove}
 use Rattle.bank.specs.Banks.{State, state, columnAt, runningOf, bankRefusal, joined, capacity}
 use Rattle.bank.specs.Steps.{answered}
 use Rattle.bank.specs.Performs.{perform}
@@ -63,32 +64,6 @@ withPart b i r = joined (b .tree) (set (b .columns) (i % 16) (r .column)) (r .co
 pub record PartOf (r : Part) (v : Tested) (s : State) (x : Step) (i : ℕ) (heads doors : List ℕ) : Type 0 where
   pub performed : answered (r .answer) (state (withPart (s .bank) i r) heads doors) ≡ perform s x
   pub told : Tells (retested v (r .refusal)) (state (withPart (s .bank) i r) heads doors)
-
--- those that are a step of the core
-abbrev pub isOwn : Step → Bool
-isOwn (Order doors) = true
-isOwn (Send i) = true
-isOwn (Take place) = false
-isOwn (Ack i) = true
-isOwn (All i) = true
-isOwn (Note i j) = true
-isOwn (Halt m) = false
-isOwn (Back j) = false
-isOwn (Write i offset value) = false
-
-abbrev pub isTake : Step → Bool
-isTake (Order doors) = false
-isTake (Send i) = false
-isTake (Take place) = true
-isTake (Ack i) = false
-isTake (All i) = false
-isTake (Note i j) = false
-isTake (Halt m) = false
-isTake (Back j) = false
-isTake (Write i offset value) = false
-
-abbrev pub isMove : Step → Bool
-isMove x = isTake x || isOwn x
 
 abbrev pub StepsPart : Part → Tested → Tree → Step → ℕ → Column → ℕ → List ℕ → List ℕ → List ℕ → List ℕ → Type 0
 StepsPart r v t x i c count heads doors heads' doors' =

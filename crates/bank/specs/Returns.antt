@@ -1,6 +1,6 @@
 -- The step back, after document 02, Point 7: "`back=` with a column is accepted only at rest."
 use Prim.Native.Nat.{ℕ}
-use mathlib.Core.Bool.{Bool, not, true, false}
+use mathlib.Core.Bool.{Bool, not}
 use mathlib.Core.List.{List, [], _∷_}
 use lib.Dec.{eqb, leb, ltb}
 use Rattle.column.specs.Refusals.{first, earlier}
@@ -11,8 +11,6 @@ use Rattle.bank.specs.Banks.{State, state, columnAt, runs, runningOf, ha
 use Rattle.bank.specs.Steps.{Result, accepted, unless, withPlace, withRewritten}
 use Rattle.bank.specs.Rest.{atRest}
 use Rattle.bank.specs.declared.bank.Bank.{Bank}
-use Rattle.bank.specs.declared.bank.Step.{Step}
-use Rattle.bank.specs.declared.bank.Step.the-variants.{Order, Send, Take, Ack, All, Note, Halt, Back, Write}
 
 -- "14 not at rest, 15 the root, 16 no column runs; order 4, then 6 for a running column, then 15, 14, 16"
 abbrev pub backConditions : State → ℕ → List (ℕ × Bool)
@@ -48,14 +46,3 @@ returned b j = withPlace (withStruck b j) j (comeBack b j)
 
 abbrev pub back : State → ℕ → Result State
 back s j = unless (backRefusal s j) s (accepted (state (returned (s .bank) j) (s .heads) (s .doors)))
-
-abbrev pub isBack : Step → Bool
-isBack (Order doors) = false
-isBack (Send i) = false
-isBack (Take place) = false
-isBack (Ack i) = false
-isBack (All i) = false
-isBack (Note i j) = false
-isBack (Halt m) = false
-isBack (Back j) = true
-isBack (Write i offset value) = false

@@ -6,10 +6,10 @@ pub mod ValidityLaws
 pub mod HeadLaws
 pub mod SetsWordLaws
 pub mod SurveyLaws
+pub mod Kinds
 pub mod StepLaws
 pub mod ChangeLaws
 pub mod MoveLaws
-pub mod Kinds
 pub mod Places
 pub mod Steady
 pub mod ColumnOn

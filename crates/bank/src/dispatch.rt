@@ -3,13 +3,13 @@ use crate::bank::Answer;
 use crate::bank::Bank;
 use crate::bank::Step;
 use crate::bank::Words;
+use crate::kind::is_take;
 use crate::settling::Change;
 use crate::settling::is_refusal;
 use crate::settling::settle;
 use crate::settling::settle_taken;
 use crate::survey::halted;
 use crate::survey::survey;
-use crate::turn::is_take;
 use crate::turn::ready_after;
 use crate::turn::ready_columns;
 use crate::turn::step_of;
@@ -32,7 +32,7 @@ ghost use Rattle.column.specs.Steps.{outcomeMeant as core·outcomeMeant, refuse
 ghost use Rattle.bank.specs.Banks.{state, runningOf, bankRefusal};
 ghost use Rattle.bank.specs.Dispatch.{dispatch, dispatchOutcome, Dispatches};
 ghost use Rattle.bank.specs.Steps.{accepted};
-ghost use Rattle.bank.specs.Parts.{isTake};
+ghost use Rattle.bank.specs.StepKinds.{isTake};
 ghost use Rattle.bank.specs.inner.Turning.{actingIn, turnEffect, TakesTurn, Ended};
 
 // The bank after the steps that were taken, and how many they were.

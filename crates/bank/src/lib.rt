@@ -2,6 +2,7 @@
 // that has tested: `unchecked_for_script`.
 pub mod bank;
 pub mod dispatch;
+pub mod kind;
 mod network;
 mod opening;
 pub mod page;

@@ -1,7 +1,7 @@
 // What a step tests of itself before it changes the place of one column: that the bank has the column, or the packet that is to be taken.
 use crate::bank::Step;
 use crate::bank::Words;
-use crate::turn::is_take;
+use crate::kind::is_take;
 use crate::words::receiver_in;
 use column::packet::CAPACITY;
 use column::precedence::refuse_if;

@@ -1,6 +1,7 @@
 // The step of a turn, found by the sets alone, without a test of each candidate.
 use crate::bank::Bank;
 use crate::bank::Step;
+use crate::kind::is_take;
 use column::choice::choose;
 use column::members::has;
 use column::members::lowest;
@@ -15,7 +16,6 @@ ghost use mathlib.Core.Bool.{cond};
 ghost use Rattle.column.specs.Sets.{insert, without};
 ghost use Rattle.bank.specs.Banks.{haltedOf};
 ghost use Rattle.bank.specs.inner.Turning.{fits, canSend, canAck, canTakeOver, stepOf, isReady, readyOf};
-ghost use Rattle.bank.specs.Parts.{isTake};
 ghost use Rattle.bank.specs.declared.bank.Step.the-variants.{Take};
 
 fn fits(full: bool, halted: u16, j: usize) -> bool
@@ -55,23 +55,6 @@ fn can_take_over(t: Tree, i: usize, c: Column) -> bool
     ensures { λ r. ⌜ r ≡ canTakeOver t i c ⌝ }
 {
     (i != t.root) & (has(c.noted, watched(t, c)) & (!c.whole & ((c.send == 0) & (c.awaited == 0))))
-}
-
-// Whether the step takes a packet.
-pub fn is_take(x: Step) -> bool
-    ensures { λ r. ⌜ r ≡ isTake x ⌝ }
-{
-    match x {
-        Step::Order(_) => false,
-        Step::Send(_) => false,
-        Step::Take(_) => true,
-        Step::Ack(_) => false,
-        Step::All(_) => false,
-        Step::Note(_, _) => false,
-        Step::Halt(_) => false,
-        Step::Back(_) => false,
-        Step::Write(_, _, _) => false,
-    }
 }
 
 // What column i, which is c, does: it notes the lowest column that is halted and not noted, sends, acknowledges, or takes over the bank. Where

@@ -5,6 +5,7 @@ use crate::bank::Answer;
 use crate::bank::Bank;
 use crate::bank::Step;
 use crate::bank::Words;
+use crate::kind::is_move;
 use crate::opening::opening;
 use crate::opening::receiver_at;
 use crate::settling::is_refusal;
@@ -15,7 +16,7 @@ use column::packet::CAPACITY;
 use column::state::Column;
 use column::tree::Tree;
 ghost use mathlib.Core.Path.{_≡_};
-ghost use Rattle.bank.specs.Parts.{isMove, untested, Tests, actorOf, StepsPart};
+ghost use Rattle.bank.specs.Parts.{untested, Tests, actorOf, StepsPart};
 ghost use Rattle.bank.specs.inner.Moves.{PartIs, RefusesAfter};
 
 // What is known of a bank: nothing, or by which of 2, 3 and 4 it is refused, else 0, and who runs, where it is 0.
@@ -53,23 +54,6 @@ pub fn test_bank(b: Bank, heads: &Words) -> Tested
         known: true,
         refusal: v.refusal,
         running: v.running,
-    }
-}
-
-// Whether the step rewrites the place of one column alone, whose step it is.
-pub fn is_move(x: Step) -> bool
-    ensures { λ r. ⌜ r ≡ isMove x ⌝ }
-{
-    match x {
-        Step::Order(_) => true,
-        Step::Send(_) => true,
-        Step::Take(_) => true,
-        Step::Ack(_) => true,
-        Step::All(_) => true,
-        Step::Note(_, _) => true,
-        Step::Halt(_) => false,
-        Step::Back(_) => false,
-        Step::Write(_, _, _) => false,
     }
 }
 

@@ -10,7 +10,7 @@ use Rattle.column.specs.Refusals.{first, earlier}
 use Rattle.column.specs.declared.tree.Tree.{Tree}
 use Rattle.column.specs.declared.state.Column.{Column}
 use Rattle.bank.specs.Banks.{State, packetAt, capacity, state, columnAt, bankRefusal, joined}
-use Rattle.bank.specs.Parts.{isTake, isMove}
+use Rattle.bank.specs.StepKinds.{isTake, isMove}
 use Rattle.bank.specs.Performs.{perform}
 use Rattle.bank.specs.inner.Changes.{RunningIs, changed}
 use Rattle.bank.specs.inner.Surveys.{newestValid}

@@ -15,7 +15,7 @@ use Rattle.column.specs.declared.tree.Tree.{Tree}
 use Rattle.column.specs.declared.state.Column.{Column}
 use Rattle.bank.specs.Words.{receiverIn}
 use Rattle.bank.specs.Banks.{columnAt, haltedOf, capacity, state, bankRefusal}
-use Rattle.bank.specs.Parts.{isTake}
+use Rattle.bank.specs.StepKinds.{isTake}
 use Rattle.bank.specs.Performs.{perform}
 use Rattle.bank.specs.inner.Changes.{changed, Handed}
 use Rattle.bank.specs.declared.bank.Bank.{Bank}

@@ -36,7 +36,7 @@ use Rattle.bank.specs.Performs.{perform}
 use Rattle.bank.specs.laws.StepLaws.{fits, put-halted, put-running, put-full, put-count, settled-off, acted-refused, acted-settled}
 use Rattle.bank.specs.inner.Changes.{takesOff, Steady, Aimed, Becomes, stored, changed, changeBy, RunningIs, coreStep, isRefusal}
 use Rattle.bank.specs.laws.Steady.{steady-cond, steady-send, steady-take, aimed-unless, aimed-send, aimed-ack, aimed-take}
-use Rattle.bank.specs.Parts.{isOwn}
+use Rattle.bank.specs.StepKinds.{isOwn}
 use Rattle.bank.specs.Rest.{isRefused}
 use Rattle.bank.specs.inner.Moves.{acts}
 use Rattle.bank.specs.declared.bank.Bank.{Bank}

@@ -24,7 +24,9 @@ use Rattle.bank.specs.Rest.{isRefused, quiet, atRest}
 use Rattle.bank.specs.laws.RestSteps.{refused-exactly}
 use Rattle.bank.specs.Exact.{raised, overfull}
 use Rattle.bank.specs.Dispatch.{offers, offered, firstAccepted, turn}
-use Rattle.bank.specs.Parts.{isTake}
+use Rattle.bank.specs.StepKinds.{isTake}
+use Rattle.bank.specs.inner.Moves.{placeIn}
+use Rattle.bank.specs.laws.Kinds.{take-is}
 use Rattle.bank.specs.declared.bank.Step.{Step}
 use Rattle.bank.specs.declared.bank.Step.the-variants.{Order, Send, Take, Ack, All, Note, Halt, Back, Write}
 
@@ -126,15 +128,7 @@ module _ (s : State) where
   module _ (none : s .bank .count ≡ 0) where
     take-refused : (x : Step) → isTake x ≡ true → isRefused (perform s x) ≡ true
     unfolding perform
-    take-refused (Order doors) e = absurd (true≢false (sym e))
-    take-refused (Send i) e = absurd (true≢false (sym e))
-    take-refused (Take place) e = none-taken none place
-    take-refused (Ack i) e = absurd (true≢false (sym e))
-    take-refused (All i) e = absurd (true≢false (sym e))
-    take-refused (Note i j) e = absurd (true≢false (sym e))
-    take-refused (Halt m) e = absurd (true≢false (sym e))
-    take-refused (Back j) e = absurd (true≢false (sym e))
-    take-refused (Write i offset value) e = absurd (true≢false (sym e))
+    take-refused x e = ap (λ (y : Step). isRefused (perform s y)) (take-is x e) ∙ none-taken none (placeIn x)
 
     -- where no packet is under way, the bank is at rest exactly where the turn's step is a take
     pub take-rests : isTake (turn s) ≡ atRest s

@@ -1,6 +1,6 @@
 -- A step that rewrites the place of one column: one of the core's, or a take, which takes its packet off. Assumes nothing.
 use Prim.Native.Nat.{ℕ, _<_}
-use mathlib.Core.Path.{_≡_, refl, sym, ap, _∙_}
+use mathlib.Core.Path.{_≡_, refl, sym, ap, subst, _∙_}
 use mathlib.Core.Logic.{_⊎_, inl, inr}
 use mathlib.Core.Bool.{Bool, true, false, _||_, true≢false}
 use mathlib.Core.List.{List, [], _∷_}
@@ -20,12 +20,14 @@ use Rattle.bank.specs.laws.ValidityLaws.{Valid, valid, acting}
 use Rattle.bank.specs.Steps.{refused, answered, outcomeMeant, delivered, takeRefusal}
 use Rattle.bank.specs.laws.StepLaws.{unless-refused, unless-goes}
 use Rattle.bank.specs.Performs.{perform}
+use Rattle.bank.specs.laws.Kinds.{take-is}
 use Rattle.bank.specs.inner.Moves.{acts, openingRefusal, Moving, placeIn}
-use Rattle.bank.specs.Parts.{isTake, isOwn, receiverAt, isMove}
+use Rattle.bank.specs.Parts.{receiverAt}
+use Rattle.bank.specs.StepKinds.{isTake, isOwn, isMove}
 use Rattle.bank.specs.laws.ChangeLaws.{own-refused}
 use Rattle.bank.specs.declared.bank.Outcome.{Outcome}
 use Rattle.bank.specs.declared.bank.Step.{Step}
-use Rattle.bank.specs.declared.bank.Step.the-variants.{Order, Send, Take, Ack, All, Note, Halt, Back, Write}
+use Rattle.bank.specs.declared.bank.Step.the-variants.{Take}
 
 abbrev pub opening : State → Step → ℕ → ℕ
 opening s x i = openingRefusal (bankRefusal s) (s .bank .tree .columns) x i (s .bank .count)
@@ -51,26 +53,7 @@ module _ (n columns : ℕ) (x : Step) (i count : ℕ) where
   opening-own e = rw e
 
 pub take-acts : (s : State) (x : Step) (i : ℕ) → isTake x ≡ true → acts s x i ≡ true → i ≡ receiver (packetAt s (placeIn x))
-take-acts s (Order doors) i e a = absurd (true≢false (sym e))
-take-acts s (Send k) i e a = absurd (true≢false (sym e))
-take-acts s (Take place) i e a = eqb-true i (receiver (packetAt s place)) a
-take-acts s (Ack k) i e a = absurd (true≢false (sym e))
-take-acts s (All k) i e a = absurd (true≢false (sym e))
-take-acts s (Note k j) i e a = absurd (true≢false (sym e))
-take-acts s (Halt m) i e a = absurd (true≢false (sym e))
-take-acts s (Back j) i e a = absurd (true≢false (sym e))
-take-acts s (Write k offset value) i e a = absurd (true≢false (sym e))
-
-take-is : (x : Step) → isTake x ≡ true → x ≡ Take (placeIn x)
-take-is (Order doors) e = absurd (true≢false (sym e))
-take-is (Send k) e = absurd (true≢false (sym e))
-take-is (Take place) e = refl
-take-is (Ack k) e = absurd (true≢false (sym e))
-take-is (All k) e = absurd (true≢false (sym e))
-take-is (Note k j) e = absurd (true≢false (sym e))
-take-is (Halt m) e = absurd (true≢false (sym e))
-take-is (Back j) e = absurd (true≢false (sym e))
-take-is (Write k offset value) e = absurd (true≢false (sym e))
+take-acts s x i e a = eqb-true i (receiver (packetAt s (placeIn x))) (subst (λ (y : Step). acts s y i ≡ true) (take-is x e) a)
 
 pub own-is : (x : Step) → isMove x ≡ true → isTake x ≡ false → isOwn x ≡ true
 own-is x m e = ap (λ (b : Bool). b || isOwn x) (sym e) ∙ m

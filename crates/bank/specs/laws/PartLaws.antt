@@ -21,7 +21,8 @@ use Rattle.bank.specs.Steps.{accepted, answered}
 use Rattle.bank.specs.Performs.{perform}
 use Rattle.bank.specs.laws.RestSteps.{unchanged}
 use Rattle.bank.specs.laws.Kinds.{byNoColumn}
-use Rattle.bank.specs.Parts.{isTake, isMove, Tells, actorOf, withPart, PartOf}
+use Rattle.bank.specs.Parts.{Tells, actorOf, withPart, PartOf}
+use Rattle.bank.specs.StepKinds.{isTake, isMove}
 use Rattle.bank.specs.inner.Changes.{isRefusal, stored, changed, RunningIs}
 use Rattle.bank.specs.laws.ChangeLaws.{changed-refused, changed-done, running-is-of, running-is-on}
 use Rattle.bank.specs.inner.Moves.{placeIn, Moving, openingRefusal, PartIs, RefusesAfter}

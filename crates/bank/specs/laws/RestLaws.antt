@@ -23,7 +23,7 @@ use Rattle.bank.specs.laws.ValidityLaws.{valid, valid-passes, fresh-at, 
 use Rattle.bank.specs.Rest.{isRefused, Refused, Running, AtRest, quiet, atRest}
 use Rattle.bank.specs.laws.RestSteps.{refuses, met, broken-refused, send-refused, ack-refused, all-refused, note-refused, any-note-refused}
 use Rattle.bank.specs.laws.DispatchLaws.{take-rests}
-use Rattle.bank.specs.Parts.{isTake}
+use Rattle.bank.specs.StepKinds.{isTake}
 use Rattle.bank.specs.laws.turns.FirstAccepted.{quick-turn}
 use Rattle.bank.specs.laws.turns.LowestReady.{ready-none}
 use Rattle.bank.specs.inner.Returning.{columnsRest}

@@ -8,7 +8,8 @@ use Rattle.column.specs.declared.state.Column.{Column}
 use Rattle.text.specs.Text.{Writes}
 use Rattle.text.specs.Pieces.{cut}
 use Rattle.bank.specs.Banks.{State, state, columnAt}
-use Rattle.bank.specs.Parts.{isMove, Tells}
+use Rattle.bank.specs.Parts.{Tells}
+use Rattle.bank.specs.StepKinds.{isMove}
 use Rattle.bank.specs.Steps as steps
 use Rattle.bank.specs.declared.bank.Bank.{Bank}
 use Rattle.bank.specs.declared.bank.Step.the-variants.{Send, Take, Ack, All, Back}

@@ -16,7 +16,7 @@ use Rattle.bank.specs.Banks.{State, state, haltedOf, bankRefusal}
 use Rattle.bank.specs.Performs.{perform}
 use Rattle.bank.specs.inner.Changes.{stored, changed, RunningIs}
 use Rattle.bank.specs.laws.ChangeLaws.{changed-refused, changed-done, running-is-of, running-is-on, halted-on}
-use Rattle.bank.specs.Parts.{isTake}
+use Rattle.bank.specs.StepKinds.{isTake}
 use Rattle.bank.specs.inner.Turning.{readyOf, quickTurn}
 use Rattle.bank.specs.laws.turns.LowestReady.{ready-some, ready-turn}
 use Rattle.bank.specs.laws.turns.ReadyAfter.{ready-kept}

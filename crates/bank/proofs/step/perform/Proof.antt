@@ -3,7 +3,7 @@ use mathlib.Core.Path.{_≡_, refl, sym, ap, _∙_, subst}
 use borrow.Author.Tests.{eq-eqb}
 use Rattle.bank.specs.Banks.{state}
 use Rattle.bank.specs.Performs.{perform}
-use Rattle.bank.specs.Parts.{isMove}
+use Rattle.bank.specs.StepKinds.{isMove}
 use Rattle.bank.specs.laws.MoveLaws.{taker}
 use mathlib.Core.Bool.{true}
 use Rattle.bank.specs.inner.Moves.{acts}

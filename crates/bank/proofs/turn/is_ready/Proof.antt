@@ -1,7 +1,7 @@
 use borrow.Author.Needs.{needs}
 use mathlib.Core.Path.{ap, _∙_}
 use mathlib.Core.Bool.{not}
-use Rattle.bank.specs.Parts.{isTake}
+use Rattle.bank.specs.StepKinds.{isTake}
 use Rattle.bank.proofs.turn.is_ready.Statement.{statement}
 use Rattle.bank.proofs.turn.is_ready.Tie as tie
 

@@ -10,7 +10,8 @@ use Rattle.column.specs.declared.state.Column.{Column}
 use Rattle.bank.specs.Banks.{State, state, columnAt, joined}
 use Rattle.bank.specs.inner.Changes.{changed}
 use Rattle.bank.specs.Performs.{perform}
-use Rattle.bank.specs.Parts.{isMove, Tells, actorOf}
+use Rattle.bank.specs.Parts.{Tells, actorOf}
+use Rattle.bank.specs.StepKinds.{isMove}
 use Rattle.bank.specs.inner.Moves.{openingRefusal}
 use Rattle.bank.specs.laws.PartLaws.{opening-there, part-closed, part-opened, stood, who-runs, place-is, part-refused, part-accepted}
 use Rattle.bank.proofs.unchecked_for_script.step_on.Statement.{statement}

@@ -18,7 +18,7 @@ use Rattle.column.specs.declared.tree.Tree.{Tree}
 use Rattle.column.specs.declared.state.Column.{Column}
 use Rattle.bank.specs.Banks.{columnAt, haltedOf}
 use Rattle.bank.specs.inner.Turning.{stepOf, stepFrom, isFull, isReady, readyOf, quickTurn, canSend, canAck, canTakeOver}
-use Rattle.bank.specs.Parts.{isTake}
+use Rattle.bank.specs.StepKinds.{isTake}
 use Rattle.bank.specs.declared.bank.Bank.{Bank}
 use Rattle.bank.specs.declared.bank.Step.{Step}
 use Rattle.bank.specs.declared.bank.Step.the-variants.{Take, Send, Ack, All, Note}

@@ -27,7 +27,7 @@ use Rattle.bank.specs.Networks.{removed}
 use Rattle.bank.specs.laws.StepLaws.{note-halted}
 use Rattle.bank.specs.Performs.{perform}
 use Rattle.bank.specs.inner.Changes.{Steady, Aimed, RunningIs, Handed, coreStep}
-use Rattle.bank.specs.Parts.{isOwn, isTake}
+use Rattle.bank.specs.StepKinds.{isOwn, isTake}
 use Rattle.bank.specs.laws.ChangeLaws.{valid-at, own-done, taken-done}
 use Rattle.bank.specs.Rest.{isRefused}
 use Rattle.bank.specs.laws.RestSteps.{refused-exactly}

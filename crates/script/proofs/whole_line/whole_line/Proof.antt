@@ -8,33 +8,6 @@ use Rattle.script.specs.inner.ScriptLines.{byPlace}
 use Rattle.script.proofs.whole_line.whole_line.Statement.{statement}
 use Rattle.script.proofs.whole_line.whole_line.Tie as tie
 
-enum-known-line : tie.Need-enum-known-line
-enum-known-line c = search needs
-
-whole-step-requires : tie.Need-whole-step-requires
-whole-step-requires c κs = search needs
-
-put-step-requires : tie.Need-put-step-requires
-put-step-requires c κs = search needs
-
-enum-known-line-2 : tie.Need-enum-known-line-2
-enum-known-line-2 c = search needs
-
-dispatch-requires : tie.Need-dispatch-requires
-dispatch-requires c κs = search needs
-
-put-dispatched-requires : tie.Need-put-dispatched-requires
-put-dispatched-requires c κs = search needs
-
-enum-told : tie.Need-enum-told
-enum-told c = search needs
-
-enum-told-2 : tie.Need-enum-told-2
-enum-told-2 c = search needs
-
-same-length : tie.Need-same-length
-same-length c = search needs
-
 returns : tie.Need-returns
 unfolding answered
 returns c =
@@ -44,9 +17,6 @@ returns c =
     let s = x .before .before .before in
     rw (x .line .given .1)
     (step-answers (d .whole-step .result) _ (d .whole-step .ensures (sym (ap byPlace (x .line .given .1)) ∙ s .pre .0)) (p .put-step .ensures))
-
-same-length-2 : tie.Need-same-length-2
-same-length-2 c = search needs
 
 returns-2 : tie.Need-returns-2
 unfolding answered
@@ -68,17 +38,17 @@ pub whole-line-spec : {M : Type 1} → statement M
 whole-line-spec =
     tie.close
     (tie.spec
-    enum-known-line
-    whole-step-requires
-    put-step-requires
-    enum-known-line-2
-    dispatch-requires
-    put-dispatched-requires
-    enum-told
-    enum-told-2
-    same-length
+    (search needs)
+    (search needs)
+    (search needs)
+    (search needs)
+    (search needs)
+    (search needs)
+    (search needs)
+    (search needs)
+    (search needs)
     returns
-    same-length-2
+    (search needs)
     returns-2
     returns-3
     returns-4)

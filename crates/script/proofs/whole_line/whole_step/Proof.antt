@@ -1,64 +1,10 @@
 use mathlib.Core.Path.{sym, ap, _∙_}
 use mathlib.Core.Bool.{true≢false}
 use borrow.Author.Needs.{needs}
-use Rattle.bank.specs.Parts.{isMove}
+use Rattle.bank.specs.StepKinds.{isMove}
 use Rattle.bank.specs.Performs.{perform}
 use Rattle.script.proofs.whole_line.whole_step.Statement.{statement}
 use Rattle.script.proofs.whole_line.whole_step.Tie as tie
-
-enum-known-x : tie.Need-enum-known-x
-enum-known-x c = search needs
-
-halt-requires : tie.Need-halt-requires
-halt-requires c κs = search needs
-
-enum-known-x-2 : tie.Need-enum-known-x-2
-enum-known-x-2 c = search needs
-
-back-requires : tie.Need-back-requires
-back-requires c κs = search needs
-
-enum-known-x-3 : tie.Need-enum-known-x-3
-enum-known-x-3 c = search needs
-
-write-requires : tie.Need-write-requires
-write-requires c κs = search needs
-
-enum-told : tie.Need-enum-told
-enum-told c = search needs
-
-no-step-requires : tie.Need-no-step-requires
-no-step-requires c κs = search needs
-
-enum-told-2 : tie.Need-enum-told-2
-enum-told-2 c = search needs
-
-no-step-requires-2 : tie.Need-no-step-requires-2
-no-step-requires-2 c κs = search needs
-
-enum-told-3 : tie.Need-enum-told-3
-enum-told-3 c = search needs
-
-no-step-requires-3 : tie.Need-no-step-requires-3
-no-step-requires-3 c κs = search needs
-
-enum-told-4 : tie.Need-enum-told-4
-enum-told-4 c = search needs
-
-no-step-requires-4 : tie.Need-no-step-requires-4
-no-step-requires-4 c κs = search needs
-
-enum-told-5 : tie.Need-enum-told-5
-enum-told-5 c = search needs
-
-no-step-requires-5 : tie.Need-no-step-requires-5
-no-step-requires-5 c κs = search needs
-
-enum-told-6 : tie.Need-enum-told-6
-enum-told-6 c = search needs
-
-no-step-requires-6 : tie.Need-no-step-requires-6
-no-step-requires-6 c κs = search needs
 
 returns : tie.Need-returns
 unfolding perform
@@ -94,24 +40,24 @@ pub whole-step-spec : {M : Type 1} → statement M
 whole-step-spec =
     tie.close
     (tie.spec
-    enum-known-x
-    halt-requires
-    enum-known-x-2
-    back-requires
-    enum-known-x-3
-    write-requires
-    enum-told
-    no-step-requires
-    enum-told-2
-    no-step-requires-2
-    enum-told-3
-    no-step-requires-3
-    enum-told-4
-    no-step-requires-4
-    enum-told-5
-    no-step-requires-5
-    enum-told-6
-    no-step-requires-6
+    (search needs)
+    (search needs)
+    (search needs)
+    (search needs)
+    (search needs)
+    (search needs)
+    (search needs)
+    (search needs)
+    (search needs)
+    (search needs)
+    (search needs)
+    (search needs)
+    (search needs)
+    (search needs)
+    (search needs)
+    (search needs)
+    (search needs)
+    (search needs)
     returns
     returns-2
     returns-3
