@@ -86,7 +86,7 @@ class Repository(unittest.TestCase):
 
     def test_nothing_but_the_script_calls_what_the_bank_leaves_untested(self):
         callers = {os.path.relpath(path, os.path.join(ROOT, "crates")) for path in sources("*/src/*.rt") if "unchecked_for_script::" in read(path)}
-        self.assertEqual(callers, {"script/src/answer.rt", "script/src/script.rt", "script/src/whole_line.rt"})
+        self.assertEqual(callers, {"script/src/answer.rt", "script/src/script.rt"})
 
     def test_no_module_rests_on_one_that_rests_on_it(self):
         for crate in CRATES:

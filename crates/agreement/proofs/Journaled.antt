@@ -11,7 +11,7 @@ use Rattle.column.specs.declared.packet.Packet.{Packet}
 use Rattle.bank.specs.Banks.{State}
 use Rattle.bank.specs.Steps.{Result, accepted, refused, haltRefusal, halt}
 use Rattle.bank.specs.Performs.{perform}
-use Rattle.bank.specs.Returns.{isBack}
+use Rattle.bank.specs.StepKinds.{isBack}
 use Rattle.bank.specs.Strips.{haltOne, andThen, singles}
 use Rattle.bank.specs.laws.strips.StripLaws.{singly, listed, distinct-listed, members-listed}
 use Rattle.bank.specs.laws.RestSteps.{unchanged}

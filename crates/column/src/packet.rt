@@ -12,7 +12,7 @@ pub const HIGHEST: Number = 4294967295;
 // How many numbers there are.
 pub const NUMBERS: u64 = HIGHEST as u64 + 1;
 
-// Most packets of a network, and of a frame.
+// Most packets that are held at once, and most of a frame.
 pub const CAPACITY: usize = 512;
 
 pub enum Packet {

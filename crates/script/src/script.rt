@@ -18,7 +18,6 @@ use bank::unchecked_for_script::step_on;
 use bank::unchecked_for_script::test_bank;
 use bank::unchecked_for_script::untested;
 use bytes::scan::find;
-use column::packet::CAPACITY;
 use column::tree::ASCENDING;
 use column::tree::Tree;
 use list::list::LONGEST;
@@ -39,9 +38,6 @@ ghost use Rattle.script.specs.inner.ScriptLines.{ReadsLine, AdvancedFirs
 pub const BUFFER: usize = 16384;
 // Up to here the longest text fits.
 const ROOM: usize = BUFFER - LONGEST;
-
-// The words of a network.
-type Words = [u64; CAPACITY];
 
 pub struct Run {
     pub bank: Bank,
