@@ -58,7 +58,7 @@ capacity = 512
 -- the values of a function at 0, 1, .., in order
 unfoldable pub places : {A : Type 0} → (ℕ → A) → ℕ → List A
 places f zero = []
-places f (suc n) = places f n ++ (f n ∷ [])
+places f (suc k) = places f k ++ (f k ∷ [])
 
 -- "All sixteen places are held, whatever the count"
 unfoldable pub freshPlace : Tree → ℕ → Column

@@ -14,9 +14,9 @@ use Rattle.bank.specs.declared.bank.Step.{Step}
 use Rattle.bank.specs.declared.bank.Step.the-variants.{Send, Take, Ack, All, Note}
 use Rattle.bank.specs.declared.dispatch.Dispatched.{Dispatched}
 
--- what column i of n can be given to do
+-- what column i can be given to do
 abbrev pub offers : ℕ → ℕ → List Step
-offers n i = places (λ j. Note i j) n ++ (Send i ∷ Ack i ∷ All i ∷ [])
+offers columns i = places (λ j. Note i j) columns ++ (Send i ∷ Ack i ∷ All i ∷ [])
 
 -- the same for the running columns below k
 unfoldable pub offered : State → ℕ → List Step

@@ -11,7 +11,7 @@ use Rattle.bank.specs.Banks.{State, state, runs}
 use Rattle.bank.specs.declared.bank.Bank.{Bank}
 
 abbrev pub counting : Bank → ℕ → Bank
-counting b n = record { tree = b .tree; columns = b .columns; count = n }
+counting b count = record { tree = b .tree; columns = b .columns; count = count }
 
 abbrev pub withPacket : State → Packet → State
 withPacket s p =
@@ -27,9 +27,9 @@ unfoldable pub puts : State → List Packet → State
 puts s [] = s
 puts s (p ∷ l) = puts (put s p) l
 
--- The first c of s without place p; place c - 1, which is free now, holds v
+-- the first `count` of s without place p; the last of these places, which is free now, holds v
 unfoldable pub closedUp : {A : Type 0} → List A → ℕ → ℕ → A → List A
-closedUp s p c v = (take p s ++ take (c - 1 - p) (drop (p + 1) s)) ++ (v ∷ drop c s)
+closedUp s p count v = (take p s ++ take (count - 1 - p) (drop (p + 1) s)) ++ (v ∷ drop count s)
 
 -- "the packet is gone and later ones move up"; the place that is free now holds words 0 and 0
 abbrev pub removed : State → ℕ → State
@@ -52,9 +52,9 @@ keeping f [] xs = []
 keeping f (h ∷ hs) [] = []
 keeping f (h ∷ hs) (x ∷ xs) = cond (f h) (x ∷ keeping f hs xs) (keeping f hs xs)
 
--- The first c places of `old` hold w and then v, the others are as they were
+-- the first `count` places of `old` hold w and then v, the others are as they were
 unfoldable pub padded : {A : Type 0} → List A → ℕ → A → List A → List A
-padded w c v old = w ++ (replicate (c - length w) v ++ drop c old)
+padded w count v old = w ++ (replicate (count - length w) v ++ drop count old)
 
 -- "packets to it vanish, packets from it remain", of every member at once: the words of the others move up, and places that are free now
 -- hold words 0 and 0

@@ -11,8 +11,8 @@ use Rattle.column.specs.declared.codec.Width.{Width}
 
 -- "one packet (any byte after it is 12)"
 abbrev pub exactly : Given Part → ℕ → Given Packet
-exactly (given q) n = cond (eqb (q .used) n) (given (q .packet)) (refused 12)
-exactly (refused k) n = refused 12
+exactly (given q) size = cond (eqb (q .used) size) (given (q .packet)) (refused 12)
+exactly (refused n) size = refused 12
 
 abbrev pub aloneIn : Width → List ℕ → Given Packet
 aloneIn w s = exactly (readIn w s) (length s)

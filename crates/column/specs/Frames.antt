@@ -27,10 +27,10 @@ abbrev pub followed : Given Part → (ℕ → Given (List Packet)) → Given (Li
 followed (given q) rest = prefixed (q .packet) (rest (q .used))
 followed (refused n) rest = refused 12
 
--- at most n packets: "takes packets until the frame ends", "An empty frame yields none and is accepted."
+-- at most so many packets: "takes packets until the frame ends", "An empty frame yields none and is accepted."
 unfoldable pub packetsIn : ℕ → List ℕ → Given (List Packet)
 packetsIn zero s = cond (eqb (length s) 0) (given []) (refused 12)
-packetsIn (suc n) s = cond (eqb (length s) 0) (given []) (followed (read s) (λ used. packetsIn n (drop used s)))
+packetsIn (suc most) s = cond (eqb (length s) 0) (given []) (followed (read s) (λ used. packetsIn most (drop used s)))
 
 abbrev pub readFrame : List ℕ → Given (List Packet)
 readFrame s = packetsIn framePackets s
@@ -54,14 +54,14 @@ pub record Framed : Type 0 where
 
 -- the values of each case of `Count`
 abbrev pub countMeant : Count → Given ℕ
-countMeant (count.Is n) = given n
+countMeant (count.Is k) = given k
 countMeant (count.Refused n) = refused n
 
 abbrev pub frameMeant : Frame → Framed
 frameMeant f = record { count = countMeant (f .count); packets = f .packets }
 
 abbrev pub framed : ℕ → List Slot → Framed
-framed n slots = record { count = given n; packets = slots }
+framed k slots = record { count = given k; packets = slots }
 
 -- the packets come first, past them nothing; "yields no packet" where it is refused
 abbrev pub frameOf : Given (List Packet) → Framed

@@ -42,8 +42,8 @@ doorsOf (Acknowledgement from to number) = 0
 
 -- the lowest byte first
 unfoldable pub lowFirst : ℕ → ℕ → List ℕ
-lowFirst zero n = []
-lowFirst (suc count) n = n % 256 ∷ lowFirst count (n / 256)
+lowFirst zero value = []
+lowFirst (suc count) value = value % 256 ∷ lowFirst count (value / 256)
 
 -- what bytes mean, the lowest first
 unfoldable pub lowValue : List ℕ → ℕ
@@ -52,7 +52,7 @@ lowValue (b ∷ s) = b + 256 * lowValue s
 
 -- the highest byte first
 abbrev pub highFirst : ℕ → ℕ → List ℕ
-highFirst count n = reverse (lowFirst count n)
+highFirst count value = reverse (lowFirst count value)
 
 abbrev pub highValue : List ℕ → ℕ
 highValue s = lowValue (reverse s)
@@ -63,7 +63,7 @@ word value s = cond (leb (length s) 8) (value s) 0
 
 -- "Door d, 1 to 64, is occupied when bit (d−1) mod 8, lowest bit 0, of byte (d−1)/8 rounded down is 1"
 abbrev pub occupied : List ℕ → ℕ → Bool
-occupied bytes d = has (getD bytes ((d - 1) / 8) 0) ((d - 1) % 8)
+occupied bytes door = has (getD bytes ((door - 1) / 8) 0) ((door - 1) % 8)
 
 -- ---- widths: the kinds, and how many bytes a number has
 
@@ -112,7 +112,7 @@ pub record Wrote : Type 0 where
 
 -- the values of each case of `Size`
 abbrev pub sizeMeant : Size → Given ℕ
-sizeMeant (size.Is n) = given n
+sizeMeant (size.Is count) = given count
 sizeMeant (size.Refused n) = refused n
 
 abbrev pub writeMeant : Written → Wrote
@@ -138,11 +138,11 @@ pub record Part : Type 0 where
   pub used : ℕ
 
 abbrev pub part : Packet → ℕ → Part
-part p n = record { packet = p; used = n }
+part p used = record { packet = p; used = used }
 
 -- the values of each case of `Reading`
 abbrev pub readMeant : Reading → Given Part
-readMeant (reading.Is p n) = given (part p n)
+readMeant (reading.Is p used) = given (part p used)
 readMeant (reading.Refused n) = refused n
 
 abbrev pub numberIn : Width → List ℕ → ℕ

@@ -42,15 +42,15 @@ lowestIn width m = trailingZeros width m
 abbrev pub lowest : ℕ → ℕ
 lowest m = lowestIn 16 m
 
--- every member of m is below n
+-- every member of m is below `count`
 abbrev pub within : ℕ → ℕ → Bool
-within m n = eqb (m / 2 ^ n) 0
+within m count = eqb (m / 2 ^ count) 0
 
--- all columns below n
+-- all columns below `count`
 abbrev pub whole : ℕ → ℕ
-whole n = 2 ^ n - 1
+whole count = 2 ^ count - 1
 
--- those below n that pass a test
+-- those below a number that pass a test
 unfoldable pub selected : (ℕ → Bool) → ℕ → ℕ
 selected f zero = 0
-selected f (suc n) = cond (f n) (insert (selected f n) n) (selected f n)
+selected f (suc count) = cond (f count) (insert (selected f count) count) (selected f count)

@@ -11,10 +11,10 @@ use Rattle.column.specs.declared.tree.Tree.{Tree}
 use Rattle.column.specs.declared.topology.Members.{Members}
 use Rattle.column.specs.declared.topology.Members.the-variants.{Set, Refused}
 
--- k numbers from n on
+-- k numbers from `at` on
 abbrev pub risingFrom : ℕ → ℕ → List ℕ
-risingFrom n zero = []
-risingFrom n (suc k) = n ∷ risingFrom (suc n) k
+risingFrom at zero = []
+risingFrom at (suc k) = at ∷ risingFrom (suc at) k
 
 -- document 02, Point 6: "Without it, ascending numbers"
 abbrev pub ascending : List ℕ
@@ -34,12 +34,12 @@ treeOf columns root up = treeInSequence columns root up ascending
 
 -- "`up` names each column's parent in order"
 abbrev pub parent : Tree → ℕ → ℕ
-parent t c = getD (t .up) c 0
+parent t i = getD (t .up) i 0
 
--- where a climb of k parents leads from c
+-- where a climb of k parents leads from i
 unfoldable pub climb : Tree → ℕ → ℕ → ℕ
-climb t zero c = c
-climb t (suc k) c = climb t k (parent t c)
+climb t zero i = i
+climb t (suc k) i = climb t k (parent t i)
 
 -- which column stands at place k of the sequence
 abbrev pub listedAt : Tree → ℕ → ℕ
@@ -52,29 +52,29 @@ pub record IsTree (t : Tree) : Type 0 where
   pub sixteen : t .columns ≤ 16
   -- row 3: "root or parent not below columns .. root not its own parent"
   pub root-below : t .root < t .columns
-  pub parent-below : (c : ℕ) → c < t .columns → parent t c < t .columns
+  pub parent-below : (i : ℕ) → i < t .columns → parent t i < t .columns
   pub root-own : parent t (t .root) ≡ t .root
   -- "Every climb by parents must end at the root", however long it is
-  pub climbs : (c : ℕ) → c < t .columns → (k : ℕ) × (climb t k c ≡ t .root)
+  pub climbs : (i : ℕ) → i < t .columns → (k : ℕ) × (climb t k i ≡ t .root)
   -- "listing .. every column exactly once": it misses none, repeats none and exceeds none
-  pub listed : (c : ℕ) → c < t .columns → (k : ℕ) × (k < t .columns) × (listedAt t k ≡ c)
+  pub listed : (i : ℕ) → i < t .columns → (k : ℕ) × (k < t .columns) × (listedAt t k ≡ i)
   pub listed-once : (k m : ℕ) → k < t .columns → m < t .columns → listedAt t k ≡ listedAt t m → k ≡ m
   pub listed-below : (k : ℕ) → k < t .columns → listedAt t k < t .columns
 
 -- ---- the check of rows 2 and 3, which computes; `check-exact` of TreeLaws says that it decides `IsTree`
 
--- a test of every column below n
+-- a test of every column below a number
 unfoldable pub every : (ℕ → Bool) → ℕ → Bool
 every f zero = true
-every f (suc n) = every f n && f n
+every f (suc k) = every f k && f k
 
 abbrev pub parentBelow : Tree → ℕ → Bool
-parentBelow t c = ltb (parent t c) (t .columns)
+parentBelow t i = ltb (parent t i) (t .columns)
 
--- a climb of fewer than `budget` parents from c meets the root
+-- a climb of fewer than `budget` parents from i meets the root
 unfoldable pub climbsIn : Tree → ℕ → ℕ → Bool
-climbsIn t zero c = false
-climbsIn t (suc budget) c = eqb c (t .root) || climbsIn t budget (parent t c)
+climbsIn t zero i = false
+climbsIn t (suc budget) i = eqb i (t .root) || climbsIn t budget (parent t i)
 
 abbrev pub listedBelow : Tree → ℕ → Bool
 listedBelow t k = ltb (listedAt t k) (t .columns)
@@ -110,8 +110,8 @@ treeRefusal t = first (treeConditions t)
 abbrev pub earliestFrom : List ℕ → ℕ → ℕ → ℕ → ℕ
 earliestFrom first m at zero = 16
 earliestFrom first m at (suc k) =
-    let c = getD first at 0 in
-    cond (has m c) c (earliestFrom first m (suc at) k)
+    let i = getD first at 0 in
+    cond (has m i) i (earliestFrom first m (suc at) k)
 
 -- a sequence has sixteen places, of which as many count as there are columns
 abbrev pub places : Tree → ℕ
@@ -124,30 +124,30 @@ choose t m = earliestFrom (t .first) m 0 (places t)
 
 -- "the root names itself, but is nobody's child"
 abbrev pub isChild : Tree → ℕ → ℕ → Bool
-isChild t c j = eqb (parent t j) c && not (eqb j (t .root))
+isChild t i j = eqb (parent t j) i && not (eqb j (t .root))
 
 abbrev pub children : Tree → ℕ → ℕ
-children t c = selected (isChild t c) (t .columns)
+children t i = selected (isChild t i) (t .columns)
 
 -- "The subtree of a column is the column with the subtrees of its children, and the subtrees of a list are its first member's
 -- with those of the rest": the number `calls` falls at each call
 unfoldable mutual
   pub subtreeIn : ℕ → Tree → ℕ → ℕ
-  subtreeIn zero t c = 0
-  subtreeIn (suc calls) t c = join (single c) (subtreesIn calls t (children t c))
+  subtreeIn zero t i = 0
+  subtreeIn (suc calls) t i = join (single i) (subtreesIn calls t (children t i))
 
   pub subtreesIn : ℕ → Tree → ℕ → ℕ
   subtreesIn zero t s = 0
   subtreesIn (suc calls) t s =
-      let c = lowest s in
-      cond (eqb s 0) 0 (join (subtreeIn calls t c) (subtreesIn calls t (without s c)))
+      let i = lowest s in
+      cond (eqb s 0) 0 (join (subtreeIn calls t i) (subtreesIn calls t (without s i)))
 
 -- calls enough for a tree: sixteen levels, each of at most sixteen columns in its list, and two more
 abbrev pub descent : ℕ
 descent = 288
 
 abbrev pub subtree : Tree → ℕ → ℕ
-subtree t c = subtreeIn descent t c
+subtree t i = subtreeIn descent t i
 
 abbrev pub subtrees : Tree → ℕ → ℕ
 subtrees t s = subtreesIn descent t s
@@ -161,16 +161,16 @@ membersMeant (Refused n) = refused n
 
 -- "Before all else a tree that breaks row 2 or 3 gives that number. Next, 4 meets a column number or set member not below columns"
 abbrev pub columnRefusal : Tree → ℕ → ℕ
-columnRefusal t c = earlier (treeRefusal t) (first ((4, leb (t .columns) c) ∷ []))
+columnRefusal t i = earlier (treeRefusal t) (first ((4, leb (t .columns) i) ∷ []))
 
 abbrev pub setRefusal : Tree → ℕ → ℕ
 setRefusal t s = earlier (treeRefusal t) (first ((4, not (within s (t .columns))) ∷ []))
 
 abbrev pub childrenGiven : Tree → ℕ → Given ℕ
-childrenGiven t c = givenUnless (columnRefusal t c) (children t c)
+childrenGiven t i = givenUnless (columnRefusal t i) (children t i)
 
 abbrev pub subtreeGiven : Tree → ℕ → Given ℕ
-subtreeGiven t c = givenUnless (columnRefusal t c) (subtree t c)
+subtreeGiven t i = givenUnless (columnRefusal t i) (subtree t i)
 
 abbrev pub subtreesGiven : Tree → ℕ → Given ℕ
 subtreesGiven t s = givenUnless (setRefusal t s) (subtrees t s)

@@ -18,10 +18,10 @@ use Rattle.list.specs.declared.list.Listing.the-variants.{Length, Refuse
 abbrev pub longestList : ℕ
 longestList = 229
 
--- "Doors rise": the occupied doors among 1 to n
+-- "Doors rise": the occupied doors among the first, as many as are given
 unfoldable pub doorsUpTo : ℕ → ℕ → List ℕ
 doorsUpTo zero doors = []
-doorsUpTo (suc n) doors = cond (has doors n) (doorsUpTo n doors ++ (suc n ∷ [])) (doorsUpTo n doors)
+doorsUpTo (suc k) doors = cond (has doors k) (doorsUpTo k doors ++ (suc k ∷ [])) (doorsUpTo k doors)
 
 -- "`column` is the lister, `number` its order number, `occupied` the count of set bits"; "with none, the last line is `doors=`"
 unfoldable pub listText : ℕ → Column → List ℕ
@@ -38,7 +38,7 @@ pub record Listed : Type 0 where
 
 -- the values of each case of `Listing`
 abbrev pub listingMeant : Listing → Given ℕ
-listingMeant (Length n) = given n
+listingMeant (Length size) = given size
 listingMeant (Refused n) = refused n
 
 abbrev pub listedMeant : Listing → List ℕ → Listed

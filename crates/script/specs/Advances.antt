@@ -110,12 +110,12 @@ startRun = record { bank = noBank (noTree .tree); position = 0; begun = false; o
 abbrev pub start : Progress
 start = progressOf startRun (replicate capacity 0) (replicate capacity 0) []
 
--- the run after n calls that fill the buffer
+-- the run after so many calls that fill the buffer
 unfoldable pub filledBy : ℕ → List ℕ → Progress → Progress
 filledBy zero input p = p
-filledBy (suc n) input p = filledBy n input (fill input p)
+filledBy (suc calls) input p = filledBy calls input (fill input p)
 
 -- what these calls leave in it, joined
 unfoldable pub printedBy : ℕ → List ℕ → Progress → List ℕ
 printedBy zero input p = []
-printedBy (suc n) input p = let q = fill input p in q .text ++ printedBy n input q
+printedBy (suc calls) input p = let q = fill input p in q .text ++ printedBy calls input q

@@ -53,7 +53,7 @@ doorsIn unread = unread
 -- digits"; of `run=` "The limit numeral has up to four digits, no leading zero."
 
 unfoldable pub asking : (ℕ → Command) → Reading ℕ → Reading Command
-asking command (read n) = read (command n)
+asking command (read number) = read (command number)
 asking command unread = unread
 
 unfoldable pub noteOf : Reading ℕ → Reading ℕ → Reading Command
@@ -75,12 +75,12 @@ noteIn unread = unread
 
 -- a number as a member of a set: 16, which no bank has, stands for every number that none has
 abbrev pub memberOf : ℕ → ℕ
-memberOf n = cond (ltb n 16) n 16
+memberOf number = cond (ltb number 16) number 16
 
 -- the set with these numbers; `members-named` of LineLaws says that it has them and no others
 unfoldable pub withMembers : ℕ → List ℕ → ℕ
 withMembers m [] = m
-withMembers m (n ∷ l) = withMembers (insert m (memberOf n)) l
+withMembers m (number ∷ l) = withMembers (insert m (memberOf number)) l
 
 -- the set with the numerals still to be read
 unfoldable pub haltAfter : ℕ → Reading (List ℕ) → Reading Command
@@ -94,7 +94,7 @@ haltIn unread = unread
 -- ---- a line, without its byte 10
 
 unfoldable pub orElse : Reading Command → Reading Command → Reading Command
-orElse (read c) r = read c
+orElse (read command) r = read command
 orElse unread r = r
 
 unfoldable pub commandOf : List ℕ → Reading Command

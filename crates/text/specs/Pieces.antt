@@ -32,8 +32,8 @@ pieces (b ∷ l) = cond (eqb b comma) ([] ∷ pieces l) (longer b (pieces l))
 
 -- the numerals of all pieces
 unfoldable pub withNumber : Reading ℕ → Reading (List ℕ) → Reading (List ℕ)
-withNumber (read n) (read l) = read (n ∷ l)
-withNumber (read n) unread = unread
+withNumber (read number) (read l) = read (number ∷ l)
+withNumber (read number) unread = unread
 withNumber unread r = unread
 
 unfoldable pub numerals : List (List ℕ) → Reading (List ℕ)

@@ -17,7 +17,7 @@ use Rattle.text.specs.declared.reading.Number.the-variants.{Is, Unread}
 -- the bytes of a text of ASCII characters
 abbrev pub bytes : String → List ℕ
 bytes string.[] = []
-bytes (string._∷_ c s) = code c ∷ bytes s
+bytes (string._∷_ character s) = code character ∷ bytes s
 
 abbrev pub columnsKey : List ℕ
 columnsKey = bytes "columns="
@@ -115,18 +115,18 @@ comma = 44
 
 -- ---- written
 
--- "Numerals are decimal": the digits of n, at most `width` of them
+-- "Numerals are decimal": the digits of a number, at most `width` of them
 unfoldable pub decimalIn : ℕ → ℕ → List ℕ
-decimalIn zero n = []
-decimalIn (suc width) n = cond (ltb n 10) ((48 + n) ∷ []) (decimalIn width (n / 10) ++ ((48 + n % 10) ∷ []))
+decimalIn zero number = []
+decimalIn (suc width) number = cond (ltb number 10) ((48 + number) ∷ []) (decimalIn width (number / 10) ++ ((48 + number % 10) ∷ []))
 
 -- twenty digits hold every number of 64 bits
 abbrev pub decimal : ℕ → List ℕ
-decimal n = decimalIn 20 n
+decimal number = decimalIn 20 number
 
 -- a line of a key and a number
 abbrev pub field : List ℕ → ℕ → List ℕ
-field key n = key ++ (decimal n ++ (newline ∷ []))
+field key number = key ++ (decimal number ++ (newline ∷ []))
 
 -- a buffer with the bytes w from a place on; "other bytes keep their values"
 unfoldable pub written : List ℕ → ℕ → List ℕ → List ℕ
@@ -176,7 +176,7 @@ afterKey key l = cond (startsWith key l) (read (drop (length key) l)) unread
 
 -- the values of each case of `Number`
 abbrev pub numberMeant : Number → Reading ℕ
-numberMeant (Is n) = read n
+numberMeant (Is number) = read number
 numberMeant Unread = unread
 
 -- a writer that was lent `old` wrote w from `at` on: it left `new`, and answers the place after w
@@ -187,18 +187,18 @@ pub record Writes (r : ℕ) (new old : List ℕ) (at : ℕ) (w : List ℕ) : Typ
 -- numbers divided by commas
 unfoldable pub moreDivided : List ℕ → List ℕ
 moreDivided [] = []
-moreDivided (d ∷ l) = comma ∷ (decimal d ++ moreDivided l)
+moreDivided (number ∷ l) = comma ∷ (decimal number ++ moreDivided l)
 
 unfoldable pub divided : List ℕ → List ℕ
 divided [] = []
-divided (d ∷ l) = decimal d ++ moreDivided l
+divided (number ∷ l) = decimal number ++ moreDivided l
 
 abbrev pub refusedText : ℕ → List ℕ
 refusedText n = field refusedKey n
 
 -- what a number adds: itself, after a comma unless it is the first
 abbrev pub nextText : Bool → ℕ → List ℕ
-nextText first n = cond first (decimal n) (comma ∷ decimal n)
+nextText first number = cond first (decimal number) (comma ∷ decimal number)
 
 -- as much of a text as has room from a place on
 abbrev pub fitting : List ℕ → ℕ → List ℕ → List ℕ
