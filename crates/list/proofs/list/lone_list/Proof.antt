@@ -25,24 +25,12 @@ module _ (c : tie.Else1) where
   good : loneRefusal (start .args .t) (start .args .i) (start .args .c) ≡ 0
   good = sym (found (c .before)) ∙ c .if1 .left
 
-validity-refusal-requires : tie.Need-validity-refusal-requires
-validity-refusal-requires c κs = search needs
-
-refuse-if-requires : tie.Need-refuse-if-requires
-refuse-if-requires c κs = search needs
-
 returns : tie.Need-returns
 unfolding loneList
 returns c =
     let a = c .before .before .before .before .before .args in
     let e = found (c .before) in
     rw (ne-eqb (loneRefusal (a .t) (a .i) (a .c)) 0 (λ z. c .if1 .taken (e ∙ z)), ← e)
-
-write-list-requires : tie.Need-write-list-requires
-write-list-requires c κs = search needs
-
-same-length : tie.Need-same-length
-same-length c = search needs
 
 returns-2 : tie.Need-returns-2
 unfolding loneList
@@ -53,12 +41,4 @@ returns-2 c =
     rw (eq-eqb (loneRefusal (a .t) (a .i) (a .c)) 0 (good e)) (w .write-list .ensures)
 
 pub lone-list-spec : {M : Type 1} → statement M
-lone-list-spec =
-    tie.close
-    (tie.spec
-    validity-refusal-requires
-    refuse-if-requires
-    returns
-    write-list-requires
-    same-length
-    returns-2)
+lone-list-spec = tie.close (tie.spec (search needs) (search needs) returns (search needs) (search needs) returns-2)

@@ -34,47 +34,11 @@ few s h =
     let doors : s .args .c .doors < 2 ^ 64 = search needs in
     list-longest (s .args .i) (s .args .c) h (omega (arith, number)) doors
 
-slice-aggregate-put-field : tie.Need-slice-aggregate-put-field
-slice-aggregate-put-field c = search needs
-
-put-field-requires : tie.Need-put-field-requires
-put-field-requires c κs = search needs
-
-slice-aggregate-put-field-2 : tie.Need-slice-aggregate-put-field-2
-slice-aggregate-put-field-2 c = search needs
-
-cast-put-field : tie.Need-cast-put-field
-cast-put-field c = search needs
-
-put-field-requires-2 : tie.Need-put-field-requires-2
-put-field-requires-2 c κs = search needs
-
-slice-aggregate-put-field-3 : tie.Need-slice-aggregate-put-field-3
-slice-aggregate-put-field-3 c = search needs
-
 cast-put-field-2 : tie.Need-cast-put-field-2
 cast-put-field-2 c =
     let x = start (first (c .before .before .before .before .before)) .args .c in
     let fits : x .doors < 2 ^ 64 = search needs in
     omega (arith, ones-le 64 (x .doors) fits)
-
-put-field-requires-3 : tie.Need-put-field-requires-3
-put-field-requires-3 c κs = search needs
-
-slice-aggregate-put-all : tie.Need-slice-aggregate-put-all
-slice-aggregate-put-all c = search needs
-
-put-all-requires : tie.Need-put-all-requires
-put-all-requires c κs = search needs
-
-put-doors-requires : tie.Need-put-doors-requires
-put-doors-requires c κs = search needs
-
-slice-aggregate-put-all-2 : tie.Need-slice-aggregate-put-all-2
-slice-aggregate-put-all-2 c = search needs
-
-put-all-requires-2 : tie.Need-put-all-requires-2
-put-all-requires-2 c κs = search needs
 
 same-length : tie.Need-same-length
 same-length c =
@@ -109,18 +73,18 @@ pub put-list-spec : {M : Type 1} → statement M
 put-list-spec =
     tie.close
     (tie.spec
-    slice-aggregate-put-field
-    put-field-requires
-    slice-aggregate-put-field-2
-    cast-put-field
-    put-field-requires-2
-    slice-aggregate-put-field-3
+    (search needs)
+    (search needs)
+    (search needs)
+    (search needs)
+    (search needs)
+    (search needs)
     cast-put-field-2
-    put-field-requires-3
-    slice-aggregate-put-all
-    put-all-requires
-    put-doors-requires
-    slice-aggregate-put-all-2
-    put-all-requires-2
+    (search needs)
+    (search needs)
+    (search needs)
+    (search needs)
+    (search needs)
+    (search needs)
     same-length
     returns)

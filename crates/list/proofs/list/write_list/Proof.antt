@@ -37,12 +37,6 @@ module _ (c : tie.After-put-list) where
   begins : take (c .put-list .result) (c .put-list .last .0) ≡ text
   begins = ap₂ (λ k l. take k l) size (writes .left) ∙ written-taken scratch text
 
-slice-aggregate-put-list : tie.Need-slice-aggregate-put-list
-slice-aggregate-put-list c = search needs
-
-put-list-requires : tie.Need-put-list-requires
-put-list-requires c κs = search needs
-
 returns : tie.Need-returns
 unfolding placed
 returns c =
@@ -59,12 +53,6 @@ slice-aggregate-put-all c =
     let p = c .before .before .before .before in
     size p ∙ sym (ap length (begins p))
 
-put-all-requires : tie.Need-put-all-requires
-put-all-requires c κs = search needs
-
-same-length : tie.Need-same-length
-same-length c = search needs
-
 returns-2 : tie.Need-returns-2
 unfolding placed
 returns-2 c =
@@ -78,11 +66,11 @@ pub write-list-spec : {M : Type 1} → statement M
 write-list-spec =
     tie.close
     (tie.spec
-    slice-aggregate-put-list
-    put-list-requires
+    (search needs)
+    (search needs)
     returns
     array-share-prefix-scratch
     slice-aggregate-put-all
-    put-all-requires
-    same-length
+    (search needs)
+    (search needs)
     returns-2)

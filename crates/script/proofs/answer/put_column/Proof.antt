@@ -8,12 +8,6 @@ use Rattle.script.specs.laws.PlaceLineLaws.{same-text, listed-bank, list
 use Rattle.script.proofs.answer.put_column.Statement.{statement}
 use Rattle.script.proofs.answer.put_column.Tie as tie
 
-put-refused-requires : tie.Need-put-refused-requires
-put-refused-requires c κs = search needs
-
-same-length : tie.Need-same-length
-same-length c = search needs
-
 returns : tie.Need-returns
 returns c =
     λ s tells columns place.
@@ -21,12 +15,6 @@ returns c =
     let t = p .before .before in
     let a = t .before .before .args in
     same-text (listed-bank s (a .i) (tells .refuses) (t .if1 .taken)) (p .put-refused .ensures)
-
-put-refused-requires-2 : tie.Need-put-refused-requires-2
-put-refused-requires-2 c κs = search needs
-
-same-length-2 : tie.Need-same-length-2
-same-length-2 c = search needs
 
 returns-2 : tie.Need-returns-2
 returns-2 c =
@@ -36,12 +24,6 @@ returns-2 c =
     let e = t .before in
     let a = e .before .before .args in
     same-text (listed-none s (a .i) (sym (tells .refuses) ∙ e .if1 .left) (subst (λ (n : ℕ). n ≤ a .i) (sym columns) (t .if2 .taken))) (p .put-refused2 .ensures)
-
-put-refused-requires-3 : tie.Need-put-refused-requires-3
-put-refused-requires-3 c κs = search needs
-
-same-length-3 : tie.Need-same-length-3
-same-length-3 c = search needs
 
 returns-3 : tie.Need-returns-3
 returns-3 c =
@@ -56,12 +38,6 @@ returns-3 c =
 
 below : (i : ℕ) → i % 16 < 16
 below i = omega arith
-
-put-list-requires : tie.Need-put-list-requires
-put-list-requires c κs = search needs
-
-same-length-4 : tie.Need-same-length-4
-same-length-4 c = search needs
 
 returns-4 : tie.Need-returns-4
 returns-4 c =
@@ -78,15 +54,15 @@ pub put-column-spec : {M : Type 1} → statement M
 put-column-spec =
     tie.close
     (tie.spec
-    put-refused-requires
-    same-length
+    (search needs)
+    (search needs)
     returns
-    put-refused-requires-2
-    same-length-2
+    (search needs)
+    (search needs)
     returns-2
-    put-refused-requires-3
-    same-length-3
+    (search needs)
+    (search needs)
     returns-3
-    put-list-requires
-    same-length-4
+    (search needs)
+    (search needs)
     returns-4)

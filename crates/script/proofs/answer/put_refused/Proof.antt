@@ -6,15 +6,6 @@ use Rattle.text.specs.laws.WritingLaws.{puts-all}
 use Rattle.script.proofs.answer.put_refused.Statement.{statement}
 use Rattle.script.proofs.answer.put_refused.Tie as tie
 
-slice-aggregate-put-field : tie.Need-slice-aggregate-put-field
-slice-aggregate-put-field c = search needs
-
-put-field-requires : tie.Need-put-field-requires
-put-field-requires c κs = search needs
-
-same-length : tie.Need-same-length
-same-length c = search needs
-
 returns : tie.Need-returns
 returns c =
     let p = c .before .before in
@@ -22,5 +13,4 @@ returns c =
     puts-all (refusedText (s .args .n)) (omega (arith, s .pre, refused-length (s .args .n) (s .fits .n .fits))) (p .put-field .ensures)
 
 pub put-refused-spec : {M : Type 1} → statement M
-put-refused-spec =
-    tie.close (tie.spec slice-aggregate-put-field put-field-requires same-length returns)
+put-refused-spec = tie.close (tie.spec (search needs) (search needs) (search needs) returns)

@@ -7,21 +7,6 @@ use Rattle.script.specs.laws.ScriptLaws.{steps-length}
 use Rattle.script.proofs.answer.put_steps.Statement.{statement}
 use Rattle.script.proofs.answer.put_steps.Tie as tie
 
-slice-aggregate-put-field : tie.Need-slice-aggregate-put-field
-slice-aggregate-put-field c = search needs
-
-put-field-requires : tie.Need-put-field-requires
-put-field-requires c κs = search needs
-
-slice-aggregate-put-all : tie.Need-slice-aggregate-put-all
-slice-aggregate-put-all c = search needs
-
-put-all-requires : tie.Need-put-all-requires
-put-all-requires c κs = search needs
-
-same-length : tie.Need-same-length
-same-length c = search needs
-
 returns : tie.Need-returns
 returns c =
     let e = c .before .before in
@@ -32,12 +17,4 @@ returns c =
     (puts-more (field stepsKey n) stepOk (p .put-field .ensures) (e .put-all .ensures))
 
 pub put-steps-spec : {M : Type 1} → statement M
-put-steps-spec =
-    tie.close
-    (tie.spec
-    slice-aggregate-put-field
-    put-field-requires
-    slice-aggregate-put-all
-    put-all-requires
-    same-length
-    returns)
+put-steps-spec = tie.close (tie.spec (search needs) (search needs) (search needs) (search needs) (search needs) returns)

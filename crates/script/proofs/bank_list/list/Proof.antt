@@ -35,9 +35,6 @@ module _ (c : tie.Else1) where
   unfolding list
   passed = rw (eq-eqb (listRefusal (given start) (start .args .i)) 0 good)
 
-list-refusal-requires : tie.Need-list-refusal-requires
-list-refusal-requires c κs = search needs
-
 returns : tie.Need-returns
 unfolding list
 returns c =
@@ -58,21 +55,6 @@ mul-write-list c = omega (arith, sixteen (c .before))
 element-copy-out-write-list : tie.Need-element-copy-out-write-list
 element-copy-out-write-list c = sixteen (c .before)
 
-sub-write-list : tie.Need-sub-write-list
-sub-write-list c = search needs
-
-part-write-list-start : tie.Need-part-write-list-start
-part-write-list-start c = search needs
-
-part-write-list-end : tie.Need-part-write-list-end
-part-write-list-end c = search needs
-
-write-list-requires : tie.Need-write-list-requires
-write-list-requires c κs = search needs
-
-same-length : tie.Need-same-length
-same-length c = search needs
-
 returns-3 : tie.Need-returns-3
 returns-3 c =
     let k = c .before .before in
@@ -87,14 +69,14 @@ pub list-spec : {M : Type 1} → statement M
 list-spec =
     tie.close
     (tie.spec
-    list-refusal-requires
+    (search needs)
     returns
     returns-2
     mul-write-list
     element-copy-out-write-list
-    sub-write-list
-    part-write-list-start
-    part-write-list-end
-    write-list-requires
-    same-length
+    (search needs)
+    (search needs)
+    (search needs)
+    (search needs)
+    (search needs)
     returns-3)

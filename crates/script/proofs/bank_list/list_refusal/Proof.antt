@@ -20,9 +20,6 @@ module _ (c : tie.Else1) where
       let a = c .before .before .args in
       acting-sixteen (state (a .t1) (a .heads .now) []) (a .i) (good [])
 
-acting-refusal-requires : tie.Need-acting-refusal-requires
-acting-refusal-requires c κs = search needs
-
 returns : tie.Need-returns
 returns c doors =
     let a = c .before .before .args in
@@ -48,5 +45,4 @@ returns-3 c doors =
     rw (eq-eqb (actingRefusal (state (a .t1) (a .heads .now) doors) (a .i)) 0 (good e doors), c .if2 .left)
 
 pub list-refusal-spec : {M : Type 1} → statement M
-list-refusal-spec =
-    tie.close (tie.spec acting-refusal-requires returns mul-c element-copy-out-c returns-2 returns-3)
+list-refusal-spec = tie.close (tie.spec (search needs) returns mul-c element-copy-out-c returns-2 returns-3)

@@ -13,24 +13,6 @@ above-is c = sym (c .before .before .digit .ensures) ∙ ap numberMeant (c .abov
 below-is : (c : tie.After-below) → digitRead (c .before .before .before .before .before .before .before .args .low) ≡ read (c .below .given .0 .0)
 below-is c = sym (c .before .before .digit2 .ensures) ∙ ap numberMeant (c .below .given .1)
 
-digit-requires : tie.Need-digit-requires
-digit-requires c κs = search needs
-
-enum-told : tie.Need-enum-told
-enum-told c = search needs
-
-enum-known-above : tie.Need-enum-known-above
-enum-known-above c = search needs
-
-digit-requires-2 : tie.Need-digit-requires-2
-digit-requires-2 c κs = search needs
-
-enum-told-2 : tie.Need-enum-told-2
-enum-told-2 c = search needs
-
-enum-known-below : tie.Need-enum-known-below
-enum-known-below c = search needs
-
 mul-value : tie.Need-mul-value
 mul-value c = let k = c .before .before .before .before .before in omega (arith, digit-lt _ _ (above-is k))
 
@@ -62,12 +44,12 @@ pub byte-spec : {M : Type 1} → statement M
 byte-spec =
     tie.close
     (tie.spec
-    digit-requires
-    enum-told
-    enum-known-above
-    digit-requires-2
-    enum-told-2
-    enum-known-below
+    (search needs)
+    (search needs)
+    (search needs)
+    (search needs)
+    (search needs)
+    (search needs)
     mul-value
     add-value
     returns

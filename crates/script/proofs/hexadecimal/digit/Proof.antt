@@ -5,15 +5,6 @@ use Rattle.script.specs.inner.Hexadecimals.{digitRead}
 use Rattle.script.proofs.hexadecimal.digit.Statement.{statement}
 use Rattle.script.proofs.hexadecimal.digit.Tie as tie
 
-cast-t5 : tie.Need-cast-t5
-cast-t5 c = search needs
-
-sub-t6 : tie.Need-sub-t6
-sub-t6 c = search needs
-
-cast-t7 : tie.Need-cast-t7
-cast-t7 c = search needs
-
 returns : tie.Need-returns
 unfolding digitRead
 returns c =
@@ -45,5 +36,4 @@ returns-5 c =
     simp (le-ltb b 58 (omega arith), le-leb 48 b (omega arith), le-leb 97 b (omega arith), le-ltb b 103 (omega arith))
 
 pub digit-spec : {M : Type 1} → statement M
-digit-spec =
-    tie.close (tie.spec cast-t5 sub-t6 cast-t7 returns returns-2 returns-3 returns-4 returns-5)
+digit-spec = tie.close (tie.spec (search needs) (search needs) (search needs) returns returns-2 returns-3 returns-4 returns-5)

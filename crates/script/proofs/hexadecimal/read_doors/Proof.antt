@@ -55,30 +55,6 @@ loop-holds c =
     let e : drop 16 text ≡ [] = drop-of-length-le text few in
     (omega arith, sym (ap (λ t. lowValue (hexadecimalBytes t)) e), ap allHexadecimal e, omega arith)
 
-sub-i : tie.Need-sub-i Inv-loop μ-loop
-sub-i c = search needs
-
-mul-byte : tie.Need-mul-byte Inv-loop μ-loop
-mul-byte c = search needs
-
-shared-slice-read-byte : tie.Need-shared-slice-read-byte Inv-loop μ-loop
-shared-slice-read-byte c = search needs
-
-mul-byte-2 : tie.Need-mul-byte-2 Inv-loop μ-loop
-mul-byte-2 c = search needs
-
-add-byte : tie.Need-add-byte Inv-loop μ-loop
-add-byte c = search needs
-
-shared-slice-read-byte-2 : tie.Need-shared-slice-read-byte-2 Inv-loop μ-loop
-shared-slice-read-byte-2 c = search needs
-
-byte-requires : tie.Need-byte-requires Inv-loop μ-loop
-byte-requires c κs = search needs
-
-enum-told : tie.Need-enum-told Inv-loop μ-loop
-enum-told c = search needs
-
 returns-2 : tie.Need-returns-2 Inv-loop μ-loop
 unfolding doorsRead
 returns-2 c =
@@ -91,9 +67,6 @@ returns-2 c =
       eq-eqb _ _ (l .before .if1 .left),
       all-part (2 * i) text (rw (all-more text i (omega arith), none)),
     )
-
-enum-known-value : tie.Need-enum-known-value Inv-loop μ-loop
-enum-known-value c = search needs
 
 mul-doors : tie.Need-mul-doors Inv-loop μ-loop
 mul-doors c = omega (arith, small c)
@@ -135,16 +108,16 @@ read-doors-spec =
     μ-loop
     returns
     loop-holds
-    sub-i
-    mul-byte
-    shared-slice-read-byte
-    mul-byte-2
-    add-byte
-    shared-slice-read-byte-2
-    byte-requires
-    enum-told
+    (search needs)
+    (search needs)
+    (search needs)
+    (search needs)
+    (search needs)
+    (search needs)
+    (search needs)
+    (search needs)
     returns-2
-    enum-known-value
+    (search needs)
     mul-doors
     add-doors
     loop-less

@@ -16,12 +16,6 @@ starts c = sym (c .before .starts-with .ensures) ∙ not-false _ (c .if1 .left)
 fits : (c : tie.Else1) → let a = c .before .before .before .before .args in 5 ≤ length (a .line .now)
 fits c = let a = c .before .before .before .before .args in starts-length haltKey (a .line .now) (starts c)
 
-slice-aggregate-starts-with : tie.Need-slice-aggregate-starts-with
-slice-aggregate-starts-with c = search needs
-
-starts-with-requires : tie.Need-starts-with-requires
-starts-with-requires c κs = search needs
-
 returns : tie.Need-returns
 unfolding haltIn
 returns c =
@@ -34,12 +28,6 @@ sub-members-in c = let h = fits c in search (needs, h)
 part-members-in-start : tie.Need-part-members-in-start
 part-members-in-start c = let h = fits c in search (needs, h)
 
-part-members-in-end : tie.Need-part-members-in-end
-part-members-in-end c = search needs
-
-members-in-requires : tie.Need-members-in-requires
-members-in-requires c κs = search needs
-
 returns-2 : tie.Need-returns-2
 unfolding haltIn
 returns-2 c =
@@ -48,14 +36,4 @@ returns-2 c =
     rw (after-rest haltKey (a .line .now) (starts e)) (c .members-in .ensures)
 
 pub halt-spec : {M : Type 1} → statement M
-halt-spec =
-    tie.close
-    (tie.spec
-    slice-aggregate-starts-with
-    starts-with-requires
-    returns
-    sub-members-in
-    part-members-in-start
-    part-members-in-end
-    members-in-requires
-    returns-2)
+halt-spec = tie.close (tie.spec (search needs) (search needs) returns sub-members-in part-members-in-start (search needs) (search needs) returns-2)

@@ -23,30 +23,6 @@ loop-holds c =
     let s = c .before .args .text .now in
     (omega arith, ap (λ l. haltAfter 0 (numerals l)) (sym (pieces-all s)))
 
-find-requires : tie.Need-find-requires Inv-loop μ-loop
-find-requires c κs = search needs
-
-sub-read-numeral : tie.Need-sub-read-numeral Inv-loop μ-loop
-sub-read-numeral c = search needs
-
-part-read-numeral-start : tie.Need-part-read-numeral-start Inv-loop μ-loop
-part-read-numeral-start c = search needs
-
-part-read-numeral-end : tie.Need-part-read-numeral-end Inv-loop μ-loop
-part-read-numeral-end c = search needs
-
-read-numeral-requires : tie.Need-read-numeral-requires Inv-loop μ-loop
-read-numeral-requires c κs = search needs
-
-enum-known-n : tie.Need-enum-known-n Inv-loop μ-loop
-enum-known-n c = search needs
-
-with-member-requires : tie.Need-with-member-requires Inv-loop μ-loop
-with-member-requires c κs = search needs
-
-enum-told : tie.Need-enum-told Inv-loop μ-loop
-enum-told c = search needs
-
 returns : tie.Need-returns Inv-loop μ-loop
 returns c =
     let m = c .before .before in
@@ -58,9 +34,6 @@ returns c =
     (f .before .loop-test .taken)
     (f .find .ensures)
     (sym (m .read-numeral .ensures) ∙ ap numberMeant (c .enum-told .given .1)))
-
-add-from : tie.Need-add-from Inv-loop μ-loop
-add-from c = search needs
 
 loop-less : tie.Need-loop-less Inv-loop μ-loop
 loop-less c = search needs
@@ -93,16 +66,16 @@ members-in-spec =
     Inv-loop
     μ-loop
     loop-holds
-    find-requires
-    sub-read-numeral
-    part-read-numeral-start
-    part-read-numeral-end
-    read-numeral-requires
-    enum-known-n
-    with-member-requires
-    enum-told
+    (search needs)
+    (search needs)
+    (search needs)
+    (search needs)
+    (search needs)
+    (search needs)
+    (search needs)
+    (search needs)
     returns
-    add-from
+    (search needs)
     loop-less
     loop-again
     returns-2)

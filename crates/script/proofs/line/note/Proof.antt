@@ -23,12 +23,6 @@ two : (c : tie.Else2) →
     noteIn (afterKey noteKey l) ≡ noteOf (numeral 2 (take (r - 5) (drop 5 l))) (numeral 2 (take (length l - (r + 1)) (drop (r + 1) l)))
 two c = note-two _ (starts (c .before .before)) _ (c .before .find .ensures .1) (c .before .find .ensures .0) (c .if2 .left)
 
-slice-aggregate-starts-with : tie.Need-slice-aggregate-starts-with
-slice-aggregate-starts-with c = search needs
-
-starts-with-requires : tie.Need-starts-with-requires
-starts-with-requires c κs = search needs
-
 returns : tie.Need-returns
 unfolding noteIn
 returns c =
@@ -41,45 +35,6 @@ find-requires c κs = (omega (arith, starts-length noteKey _ (starts c)), search
 
 returns-2 : tie.Need-returns-2
 returns-2 c = sym (note-one _ (starts (c .before .before)) _ (c .before .find .ensures .1) (c .before .find .ensures .0) (c .if2 .taken))
-
-sub-read-numeral : tie.Need-sub-read-numeral
-sub-read-numeral c = search needs
-
-part-read-numeral-start : tie.Need-part-read-numeral-start
-part-read-numeral-start c = search needs
-
-part-read-numeral-end : tie.Need-part-read-numeral-end
-part-read-numeral-end c = search needs
-
-read-numeral-requires : tie.Need-read-numeral-requires
-read-numeral-requires c κs = search needs
-
-enum-told : tie.Need-enum-told
-enum-told c = search needs
-
-enum-known-i : tie.Need-enum-known-i
-enum-known-i c = search needs
-
-add-read-numeral : tie.Need-add-read-numeral
-add-read-numeral c = search needs
-
-sub-read-numeral-2 : tie.Need-sub-read-numeral-2
-sub-read-numeral-2 c = search needs
-
-part-read-numeral-start-2 : tie.Need-part-read-numeral-start-2
-part-read-numeral-start-2 c = search needs
-
-part-read-numeral-end-2 : tie.Need-part-read-numeral-end-2
-part-read-numeral-end-2 c = search needs
-
-read-numeral-requires-2 : tie.Need-read-numeral-requires-2
-read-numeral-requires-2 c κs = search needs
-
-enum-told-2 : tie.Need-enum-told-2
-enum-told-2 c = search needs
-
-enum-known-j : tie.Need-enum-known-j
-enum-known-j c = search needs
 
 returns-3 : tie.Need-returns-3
 unfolding noteOf
@@ -113,24 +68,24 @@ pub note-spec : {M : Type 1} → statement M
 note-spec =
     tie.close
     (tie.spec
-    slice-aggregate-starts-with
-    starts-with-requires
+    (search needs)
+    (search needs)
     returns
     find-requires
     returns-2
-    sub-read-numeral
-    part-read-numeral-start
-    part-read-numeral-end
-    read-numeral-requires
-    enum-told
-    enum-known-i
-    add-read-numeral
-    sub-read-numeral-2
-    part-read-numeral-start-2
-    part-read-numeral-end-2
-    read-numeral-requires-2
-    enum-told-2
-    enum-known-j
+    (search needs)
+    (search needs)
+    (search needs)
+    (search needs)
+    (search needs)
+    (search needs)
+    (search needs)
+    (search needs)
+    (search needs)
+    (search needs)
+    (search needs)
+    (search needs)
+    (search needs)
     returns-3
     returns-4
     returns-5)

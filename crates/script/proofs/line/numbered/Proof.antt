@@ -16,18 +16,6 @@ read-is k =
     let few : s .args .width ≡ min (s .args .width) 10 = omega (arith, s .pre) in
     ap (λ (n : ℕ). keyed (s .args .key .now) n (s .args .line .now)) few ∙ sym (k .read-keyed .ensures)
 
-read-keyed-requires : tie.Need-read-keyed-requires
-read-keyed-requires c κs = search needs
-
-enum-known-n : tie.Need-enum-known-n
-enum-known-n c = search needs
-
-command-requires : tie.Need-command-requires
-command-requires c κs = search needs
-
-enum-told : tie.Need-enum-told
-enum-told c = search needs
-
 returns : tie.Need-returns
 unfolding asking
 returns c =
@@ -39,5 +27,4 @@ unfolding asking
 returns-2 c = rw (read-is (c .before .before) ∙ ap numberMeant (c .enum-told .given .1))
 
 pub numbered-spec : {M : Type 1} → statement M
-numbered-spec =
-    tie.close (tie.spec read-keyed-requires enum-known-n command-requires enum-told returns returns-2)
+numbered-spec = tie.close (tie.spec (search needs) (search needs) (search needs) (search needs) returns returns-2)

@@ -23,12 +23,6 @@ asked c =
     ∙ doors-asked _
     ∙ ap (asking (λ d. perform (Order d))) (sym (c .read-doors .ensures))
 
-slice-aggregate-starts-with : tie.Need-slice-aggregate-starts-with
-slice-aggregate-starts-with c = search needs
-
-starts-with-requires : tie.Need-starts-with-requires
-starts-with-requires c κs = search needs
-
 returns : tie.Need-returns
 unfolding doorsIn
 returns c =
@@ -42,18 +36,6 @@ sub-read-doors c = omega (arith, starts-length orderKey _ (starts c))
 part-read-doors-start : tie.Need-part-read-doors-start
 part-read-doors-start c = omega (arith, starts-length orderKey _ (starts c))
 
-part-read-doors-end : tie.Need-part-read-doors-end
-part-read-doors-end c = search needs
-
-read-doors-requires : tie.Need-read-doors-requires
-read-doors-requires c κs = search needs
-
-enum-known-doors : tie.Need-enum-known-doors
-enum-known-doors c = search needs
-
-enum-told : tie.Need-enum-told
-enum-told c = search needs
-
 returns-2 : tie.Need-returns-2
 unfolding asking
 returns-2 c = rw (asked (c .before .before .before), c .before .doors .given .1)
@@ -66,14 +48,14 @@ pub order-spec : {M : Type 1} → statement M
 order-spec =
     tie.close
     (tie.spec
-    slice-aggregate-starts-with
-    starts-with-requires
+    (search needs)
+    (search needs)
     returns
     sub-read-doors
     part-read-doors-start
-    part-read-doors-end
-    read-doors-requires
-    enum-known-doors
-    enum-told
+    (search needs)
+    (search needs)
+    (search needs)
+    (search needs)
     returns-2
     returns-3)

@@ -9,63 +9,6 @@ use Rattle.script.proofs.line.parse.Tie as tie
 returns : tie.Need-returns
 returns c = sym (short-line _ (c .if1 .taken))
 
-shared-slice-read-match : tie.Need-shared-slice-read-match
-shared-slice-read-match c = search needs
-
-order-requires : tie.Need-order-requires
-order-requires c κs = search needs
-
-slice-aggregate-numbered : tie.Need-slice-aggregate-numbered
-slice-aggregate-numbered c = search needs
-
-numbered-requires : tie.Need-numbered-requires
-numbered-requires c κs = search needs
-
-slice-aggregate-numbered-2 : tie.Need-slice-aggregate-numbered-2
-slice-aggregate-numbered-2 c = search needs
-
-numbered-requires-2 : tie.Need-numbered-requires-2
-numbered-requires-2 c κs = search needs
-
-shared-slice-read-match2 : tie.Need-shared-slice-read-match2
-shared-slice-read-match2 c = search needs
-
-slice-aggregate-numbered-3 : tie.Need-slice-aggregate-numbered-3
-slice-aggregate-numbered-3 c = search needs
-
-numbered-requires-3 : tie.Need-numbered-requires-3
-numbered-requires-3 c κs = search needs
-
-slice-aggregate-numbered-4 : tie.Need-slice-aggregate-numbered-4
-slice-aggregate-numbered-4 c = search needs
-
-numbered-requires-4 : tie.Need-numbered-requires-4
-numbered-requires-4 c κs = search needs
-
-note-requires : tie.Need-note-requires
-note-requires c κs = search needs
-
-halt-requires : tie.Need-halt-requires
-halt-requires c κs = search needs
-
-slice-aggregate-numbered-5 : tie.Need-slice-aggregate-numbered-5
-slice-aggregate-numbered-5 c = search needs
-
-numbered-requires-5 : tie.Need-numbered-requires-5
-numbered-requires-5 c κs = search needs
-
-slice-aggregate-numbered-6 : tie.Need-slice-aggregate-numbered-6
-slice-aggregate-numbered-6 c = search needs
-
-numbered-requires-6 : tie.Need-numbered-requires-6
-numbered-requires-6 c κs = search needs
-
-slice-aggregate-numbered-7 : tie.Need-slice-aggregate-numbered-7
-slice-aggregate-numbered-7 c = search needs
-
-numbered-requires-7 : tie.Need-numbered-requires-7
-numbered-requires-7 c κs = search needs
-
 returns-2 : tie.Need-returns-2
 returns-2 c = c .order .ensures ∙ sym (order-line _ (c .before .match .keys1))
 
@@ -117,25 +60,25 @@ parse-spec =
     tie.close
     (tie.spec
     returns
-    shared-slice-read-match
-    order-requires
-    slice-aggregate-numbered
-    numbered-requires
-    slice-aggregate-numbered-2
-    numbered-requires-2
-    shared-slice-read-match2
-    slice-aggregate-numbered-3
-    numbered-requires-3
-    slice-aggregate-numbered-4
-    numbered-requires-4
-    note-requires
-    halt-requires
-    slice-aggregate-numbered-5
-    numbered-requires-5
-    slice-aggregate-numbered-6
-    numbered-requires-6
-    slice-aggregate-numbered-7
-    numbered-requires-7
+    (search needs)
+    (search needs)
+    (search needs)
+    (search needs)
+    (search needs)
+    (search needs)
+    (search needs)
+    (search needs)
+    (search needs)
+    (search needs)
+    (search needs)
+    (search needs)
+    (search needs)
+    (search needs)
+    (search needs)
+    (search needs)
+    (search needs)
+    (search needs)
+    (search needs)
     returns-2
     returns-3
     returns-4

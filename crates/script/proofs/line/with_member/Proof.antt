@@ -8,12 +8,6 @@ use borrow.Author.Tests.{lt-ltb, le-ltb}
 use Rattle.script.proofs.line.with_member.Statement.{statement}
 use Rattle.script.proofs.line.with_member.Tie as tie
 
-cast-result : tie.Need-cast-result
-cast-result c = search needs
-
-shl-result : tie.Need-shl-result
-shl-result c = search needs
-
 returns : tie.Need-returns
 returns c =
     let a = c .before .args in
@@ -25,4 +19,4 @@ returns-2 : tie.Need-returns-2
 returns-2 c = let a = c .before .args in rw (le-ltb (a .n) 16 (c .if1 .left))
 
 pub with-member-spec : {M : Type 1} → statement M
-with-member-spec = tie.close (tie.spec cast-result shl-result returns returns-2)
+with-member-spec = tie.close (tie.spec (search needs) (search needs) returns returns-2)

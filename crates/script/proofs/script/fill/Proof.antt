@@ -17,18 +17,12 @@ returns c =
     let input = s .args .input .now in
     rw (filled-over input (mostTexts input) (saying [] (progressed s)) (c .if1 .taken)) (text-advanced [] (writes-none (s .args .out .now) 0))
 
-later-requires : tie.Need-later-requires
-later-requires c κs = search needs
-
 returns-2 : tie.Need-returns-2
 returns-2 c =
     let t = c .before .before .before .before in
     let s = t .before .before .before in
     let out = s .args .out .now in
     rw (fill-later (s .args .input .now) (progressed s) (t .if2 .taken) (t .before .if1 .left)) (c .later .ensures out [] (writes-none out 0) refl)
-
-first-requires : tie.Need-first-requires
-first-requires c κs = search needs
 
 returns-3 : tie.Need-returns-3
 returns-3 c =
@@ -37,9 +31,6 @@ returns-3 c =
     let s = t .before .before .before in
     let written = f .first .ensures (s .args .heads .now) (s .args .doors .now) in
     rw (fill-ends (s .args .input .now) (progressed s) (t .if2 .left) (t .before .if1 .left) written (c .if3 .taken)) written
-
-later-requires-2 : tie.Need-later-requires-2
-later-requires-2 c κs = search needs
 
 returns-4 : tie.Need-returns-4
 returns-4 c =
@@ -54,6 +45,4 @@ returns-4 c =
     (c .later2 .ensures (s .args .out .now) text (advanced-writes written) (f .first .kept .1 .1 .0))
 
 pub fill-spec : {M : Type 1} → statement M
-fill-spec =
-    tie.close
-    (tie.spec returns later-requires returns-2 first-requires returns-3 later-requires-2 returns-4)
+fill-spec = tie.close (tie.spec returns (search needs) returns-2 (search needs) returns-3 (search needs) returns-4)

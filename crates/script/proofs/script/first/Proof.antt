@@ -31,15 +31,6 @@ module _ (c : tie.After-read-table) where
         let a = start .args in
         first-read (a .input .now) (progressOf (a .r) heads doors (a .out .now)) (answered answer read) (c .before .if1 .left) is
 
-put-refused-requires : tie.Need-put-refused-requires
-put-refused-requires c κs = search needs
-
-run-to-requires : tie.Need-run-to-requires
-run-to-requires c κs = search needs
-
-same-length : tie.Need-same-length
-same-length c = search needs
-
 returns : tie.Need-returns
 returns c heads doors =
     let k = c .before .before .before in
@@ -48,36 +39,6 @@ returns c heads doors =
     rw (c .run-to .ensures, first-long (a .input .now) (progressOf (a .r) heads doors (a .out .now)) (t .if1 .taken))
     (text-advanced _ (k .put-refused .ensures))
 
-read-table-requires : tie.Need-read-table-requires
-read-table-requires c κs = search needs
-
-enum-known-answer : tie.Need-enum-known-answer
-enum-known-answer c = search needs
-
-put-refused-requires-2 : tie.Need-put-refused-requires-2
-put-refused-requires-2 c κs = search needs
-
-run-to-requires-2 : tie.Need-run-to-requires-2
-run-to-requires-2 c κs = search needs
-
-enum-told : tie.Need-enum-told
-enum-told c = search needs
-
-slice-aggregate-put-all : tie.Need-slice-aggregate-put-all
-slice-aggregate-put-all c = search needs
-
-put-all-requires : tie.Need-put-all-requires
-put-all-requires c κs = search needs
-
-fresh-requires : tie.Need-fresh-requires
-fresh-requires c κs = search needs
-
-run-to-requires-3 : tie.Need-run-to-requires-3
-run-to-requires-3 c κs = search needs
-
-same-length-2 : tie.Need-same-length-2
-same-length-2 c = search needs
-
 returns-2 : tie.Need-returns-2
 unfolding tableAdvance
 returns-2 c heads doors =
@@ -85,9 +46,6 @@ returns-2 c heads doors =
     let n = k .before .before .before in
     let t = n .before .before in
     rw (c .run-to2 .ensures, judged-as t _ (n .answer .given .1) heads doors) (text-advanced _ (k .put-refused2 .ensures))
-
-same-length-3 : tie.Need-same-length-3
-same-length-3 c = search needs
 
 returns-3 : tie.Need-returns-3
 unfolding tableAdvance
@@ -104,20 +62,20 @@ pub first-spec : {M : Type 1} → statement M
 first-spec =
     tie.close
     (tie.spec
-    put-refused-requires
-    run-to-requires
-    same-length
+    (search needs)
+    (search needs)
+    (search needs)
     returns
-    read-table-requires
-    enum-known-answer
-    put-refused-requires-2
-    run-to-requires-2
-    enum-told
-    slice-aggregate-put-all
-    put-all-requires
-    fresh-requires
-    run-to-requires-3
-    same-length-2
+    (search needs)
+    (search needs)
+    (search needs)
+    (search needs)
+    (search needs)
+    (search needs)
+    (search needs)
+    (search needs)
+    (search needs)
+    (search needs)
     returns-2
-    same-length-3
+    (search needs)
     returns-3)

@@ -116,26 +116,17 @@ no-form s (line-is.List i) k e = absurd (miss (2 ∷ 3 ∷ []) 1 tt k)
 no-form s (line-is.Dispatch limit) k e = absurd (true≢false (sym e))
 no-form s line-is.Unread k e = refl
 
-untested-requires : tie.Need-untested-requires Inv-loop μ-loop
-untested-requires c κs = search needs
-
 loop-holds : tie.Need-loop-holds Inv-loop μ-loop
 loop-holds c = (refl, (λ old text w same. record { text = text; left = w; same = refl }, λ k. absurd (true≢false (sym k ∙ ap (λ (v : Tested). v .known) (c .untested .ensures)))))
 
 next-line-requires : tie.Need-next-line-requires Inv-loop μ-loop
 next-line-requires c κs = more c
 
-by-place-requires : tie.Need-by-place-requires Inv-loop μ-loop
-by-place-requires c κs = search needs
-
 whole-line-requires : tie.Need-whole-line-requires Inv-loop μ-loop
 whole-line-requires c κs =
     let t = c .before .before .before in
     let p = t .before in
     (sym (p .by-place .ensures) ∙ not-true _ (t .if1 .taken), roomy (p .before .before))
-
-untested-requires-2 : tie.Need-untested-requires-2 Inv-loop μ-loop
-untested-requires-2 c κs = search needs
 
 loop-less : tie.Need-loop-less Inv-loop μ-loop
 loop-less c = on (c .before .before .before .before .before .before .before .before .before .before)
@@ -146,30 +137,6 @@ loop-again c =
     let n = w .before .before .before .before .before .before in
     carry n (read n) refl (w .whole-line .kept .1 .1 .1 .1 .0) (w .whole-line .ensures) (c .untested2 .result)
     (λ k. absurd (true≢false (sym k ∙ ap (λ (v : Tested). v .known) (c .untested2 .ensures))))
-
-test-bank-requires : tie.Need-test-bank-requires Inv-loop μ-loop
-test-bank-requires c κs = search needs
-
-enum-known-line : tie.Need-enum-known-line Inv-loop μ-loop
-enum-known-line c = search needs
-
-acting-requires : tie.Need-acting-requires Inv-loop μ-loop
-acting-requires c κs = search needs
-
-mul-step-on : tie.Need-mul-step-on Inv-loop μ-loop
-mul-step-on c = search needs
-
-element-copy-out-step-on : tie.Need-element-copy-out-step-on Inv-loop μ-loop
-element-copy-out-step-on c = search needs
-
-step-on-requires : tie.Need-step-on-requires Inv-loop μ-loop
-step-on-requires c κs = search needs
-
-mul-c : tie.Need-mul-c Inv-loop μ-loop
-mul-c c = search needs
-
-element-set-from-c : tie.Need-element-set-from-c Inv-loop μ-loop
-element-set-from-c c = search needs
 
 put-step-requires : tie.Need-put-step-requires Inv-loop μ-loop
 put-step-requires c κs = roomy (line (c .before .before .before .before .before .before .before .before .before .before .before .before) .before)
@@ -192,15 +159,6 @@ loop-again-2 c =
     let p = d .step-on .ensures (b .columns) (knows j .1) (sym (ap byPlace (x .line .given .1)) ∙ placed j) (g .acting .ensures) refl in
     carry n _ (x .line .given .1) (k .put-step .kept .1 .0)
     (step-answers (record { bank = withPart b (g .acting .result) r; answer = r .answer }) _ (p .performed) (k .put-step .ensures)) (retested v (r .refusal)) (λ known. p .told)
-
-enum-known-line-2 : tie.Need-enum-known-line-2 Inv-loop μ-loop
-enum-known-line-2 c = search needs
-
-mul-put-column : tie.Need-mul-put-column Inv-loop μ-loop
-mul-put-column c = search needs
-
-element-copy-out-put-column : tie.Need-element-copy-out-put-column Inv-loop μ-loop
-element-copy-out-put-column c = search needs
 
 put-column-requires : tie.Need-put-column-requires Inv-loop μ-loop
 put-column-requires c κs = roomy (line (c .before .before .before .before .before .before) .before)
@@ -233,12 +191,6 @@ loop-again-4 c =
     (same-answer (sym (no-form (here n) (read n) (m .match .keys3) (placed j)))
     (record { state-is = refl; text-is = k .put-refused .ensures })) (j .if2 .v) (λ known. knows j .1)
 
-run-to-requires : tie.Need-run-to-requires Inv-loop μ-loop
-run-to-requires c κs = search needs
-
-same-length : tie.Need-same-length Inv-loop μ-loop
-same-length c = search needs
-
 returns : tie.Need-returns Inv-loop μ-loop
 returns c =
     let a = c .before in
@@ -258,34 +210,34 @@ lines-spec =
     (tie.spec
     Inv-loop
     μ-loop
-    untested-requires
+    (search needs)
     loop-holds
     next-line-requires
-    by-place-requires
+    (search needs)
     whole-line-requires
-    untested-requires-2
+    (search needs)
     loop-less
     loop-again
-    test-bank-requires
-    enum-known-line
-    acting-requires
-    mul-step-on
-    element-copy-out-step-on
-    step-on-requires
-    mul-c
-    element-set-from-c
+    (search needs)
+    (search needs)
+    (search needs)
+    (search needs)
+    (search needs)
+    (search needs)
+    (search needs)
+    (search needs)
     put-step-requires
     loop-less-2
     loop-again-2
-    enum-known-line-2
-    mul-put-column
-    element-copy-out-put-column
+    (search needs)
+    (search needs)
+    (search needs)
     put-column-requires
     loop-less-3
     loop-again-3
     put-refused-requires
     loop-less-4
     loop-again-4
-    run-to-requires
-    same-length
+    (search needs)
+    (search needs)
     returns)

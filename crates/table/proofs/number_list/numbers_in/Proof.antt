@@ -27,32 +27,11 @@ loop-holds c =
     let s = c .before .args .text .now in
     (omega arith, omega arith, held-all (numerals (pieces s)) ∙ ap (λ l. heldAfter (listOf []) (numerals l)) (sym (pieces-all s)))
 
-find-requires : tie.Need-find-requires Inv-loop μ-loop
-find-requires c κs = search needs
-
-sub-read-numeral : tie.Need-sub-read-numeral Inv-loop μ-loop
-sub-read-numeral c = search needs
-
-part-read-numeral-start : tie.Need-part-read-numeral-start Inv-loop μ-loop
-part-read-numeral-start c = search needs
-
-part-read-numeral-end : tie.Need-part-read-numeral-end Inv-loop μ-loop
-part-read-numeral-end c = search needs
-
-read-numeral-requires : tie.Need-read-numeral-requires Inv-loop μ-loop
-read-numeral-requires c κs = search needs
-
-enum-known-number : tie.Need-enum-known-number Inv-loop μ-loop
-enum-known-number c = search needs
-
 with-number-requires : tie.Need-with-number-requires Inv-loop μ-loop
 with-number-requires c κs =
     let k = c .before in
     let h = numeral-two _ _ (sym (k .before .before .read-numeral .ensures) ∙ ap numberMeant (k .number .given .1)) in
     search (needs, h)
-
-enum-told : tie.Need-enum-told Inv-loop μ-loop
-enum-told c = search needs
 
 returns : tie.Need-returns Inv-loop μ-loop
 returns c =
@@ -65,9 +44,6 @@ returns c =
     (f .before .loop-test .taken)
     (f .find .ensures)
     (sym (m .read-numeral .ensures) ∙ ap numberMeant (c .enum-told .given .1)))
-
-add-from : tie.Need-add-from Inv-loop μ-loop
-add-from c = search needs
 
 loop-less : tie.Need-loop-less Inv-loop μ-loop
 loop-less c = search needs
@@ -102,16 +78,16 @@ numbers-in-spec =
     Inv-loop
     μ-loop
     loop-holds
-    find-requires
-    sub-read-numeral
-    part-read-numeral-start
-    part-read-numeral-end
-    read-numeral-requires
-    enum-known-number
+    (search needs)
+    (search needs)
+    (search needs)
+    (search needs)
+    (search needs)
+    (search needs)
     with-number-requires
-    enum-told
+    (search needs)
     returns
-    add-from
+    (search needs)
     loop-less
     loop-again
     returns-2)

@@ -17,9 +17,6 @@ starts c = sym (c .before .starts-with .ensures) ∙ not-false _ (c .if1 .left)
 fits : (c : tie.Else1) → let a = c .before .before .before .before .args in length (a .key .now) ≤ length (a .line .now)
 fits c = let a = c .before .before .before .before .args in starts-length (a .key .now) (a .line .now) (starts c)
 
-starts-with-requires : tie.Need-starts-with-requires
-starts-with-requires c κs = search needs
-
 returns : tie.Need-returns
 unfolding numbersIn held
 returns c =
@@ -32,12 +29,6 @@ sub-numbers-in c = let h = fits c in search (needs, h)
 part-numbers-in-start : tie.Need-part-numbers-in-start
 part-numbers-in-start c = let h = fits c in search (needs, h)
 
-part-numbers-in-end : tie.Need-part-numbers-in-end
-part-numbers-in-end c = search needs
-
-numbers-in-requires : tie.Need-numbers-in-requires
-numbers-in-requires c κs = search needs
-
 returns-2 : tie.Need-returns-2
 unfolding numbersIn
 returns-2 c =
@@ -46,13 +37,4 @@ returns-2 c =
     rw (after-rest (a .key .now) (a .line .now) (starts e)) (c .numbers-in .ensures)
 
 pub numbers-of-spec : {M : Type 1} → statement M
-numbers-of-spec =
-    tie.close
-    (tie.spec
-    starts-with-requires
-    returns
-    sub-numbers-in
-    part-numbers-in-start
-    part-numbers-in-end
-    numbers-in-requires
-    returns-2)
+numbers-of-spec = tie.close (tie.spec (search needs) returns sub-numbers-in part-numbers-in-start (search needs) (search needs) returns-2)

@@ -4,12 +4,6 @@ use Rattle.table.specs.inner.NumberLists.{withOne}
 use Rattle.table.proofs.number_list.with_number.Statement.{statement}
 use Rattle.table.proofs.number_list.with_number.Tie as tie
 
-add-d : tie.Need-add-d
-add-d c = search needs
-
-cast-d : tie.Need-cast-d
-cast-d c = search needs
-
 element-write-d : tie.Need-element-write-d
 element-write-d c = search needs
 
@@ -22,4 +16,4 @@ unfolding withOne
 returns-2 c = rw (le-ltb (c .before .args .l .count) 16 (c .if1 .left))
 
 pub with-number-spec : {M : Type 1} → statement M
-with-number-spec = tie.close (tie.spec add-d cast-d element-write-d returns returns-2)
+with-number-spec = tie.close (tie.spec (search needs) (search needs) element-write-d returns returns-2)

@@ -8,24 +8,6 @@ use Rattle.table.specs.Tables.{countedConditions}
 use Rattle.table.proofs.table.counted_refusal.Statement.{statement}
 use Rattle.table.proofs.table.counted_refusal.Tie as tie
 
-refuse-if-requires : tie.Need-refuse-if-requires
-refuse-if-requires c κs = search needs
-
-refuse-if-requires-2 : tie.Need-refuse-if-requires-2
-refuse-if-requires-2 c κs = search needs
-
-refuse-if-requires-3 : tie.Need-refuse-if-requires-3
-refuse-if-requires-3 c κs = search needs
-
-refuse-if-requires-4 : tie.Need-refuse-if-requires-4
-refuse-if-requires-4 c κs = search needs
-
-tree-refusal-requires : tie.Need-tree-refusal-requires
-tree-refusal-requires c κs = search needs
-
-earlier-requires : tie.Need-earlier-requires
-earlier-requires c κs = search needs
-
 returns : tie.Need-returns
 returns c =
     let check = c .before in
@@ -45,13 +27,4 @@ returns c =
     (ap (λ (n : ℕ). earlier n (treeRefusal (a .tree))) (in-turn 0 (countedConditions (a .tree) (a .parents) (a .listed)) tt))
 
 pub counted-refusal-spec : {M : Type 1} → statement M
-counted-refusal-spec =
-    tie.close
-    (tie.spec
-    refuse-if-requires
-    refuse-if-requires-2
-    refuse-if-requires-3
-    refuse-if-requires-4
-    tree-refusal-requires
-    earlier-requires
-    returns)
+counted-refusal-spec = tie.close (tie.spec (search needs) (search needs) (search needs) (search needs) (search needs) (search needs) returns)

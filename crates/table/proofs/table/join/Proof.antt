@@ -4,15 +4,9 @@ use Rattle.table.specs.inner.HeldTables.{heldJudged}
 use Rattle.table.proofs.table.join.Statement.{statement}
 use Rattle.table.proofs.table.join.Tie as tie
 
-refused-requires : tie.Need-refused-requires
-refused-requires c κs = search needs
-
 returns : tie.Need-returns
 unfolding heldJudged
 returns c = rw (not-true (c .before .before .before .args .further .good) (c .before .if1 .taken)) (c .refused .ensures)
-
-judge-requires : tie.Need-judge-requires
-judge-requires c κs = search needs
 
 returns-2 : tie.Need-returns-2
 unfolding heldJudged
@@ -21,9 +15,6 @@ returns-2 c =
     let e = n .before .before .before .before in
     let a = e .before .before .args in
     rw (not-false (a .further .good) (e .if1 .left), n .if2 .taken) (c .judge .ensures)
-
-judge-requires-2 : tie.Need-judge-requires-2
-judge-requires-2 c κs = search needs
 
 returns-3 : tie.Need-returns-3
 unfolding heldJudged
@@ -34,6 +25,4 @@ returns-3 c =
     rw (not-false (a .further .good) (e .if1 .left), n .if2 .left) (c .judge2 .ensures)
 
 pub join-spec : {M : Type 1} → statement M
-join-spec =
-    tie.close
-    (tie.spec refused-requires returns judge-requires returns-2 judge-requires-2 returns-3)
+join-spec = tie.close (tie.spec (search needs) returns (search needs) returns-2 (search needs) returns-3)

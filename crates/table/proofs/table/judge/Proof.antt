@@ -5,12 +5,6 @@ use Rattle.table.specs.inner.HeldTables.{treeJudged}
 use Rattle.table.proofs.table.judge.Statement.{statement}
 use Rattle.table.proofs.table.judge.Tie as tie
 
-counted-refusal-requires : tie.Need-counted-refusal-requires
-counted-refusal-requires c κs = search needs
-
-refused-requires : tie.Need-refused-requires
-refused-requires c κs = search needs
-
 returns : tie.Need-returns
 unfolding treeJudged
 returns c =
@@ -24,4 +18,4 @@ returns-2 c =
     rw (sym (e .counted-refusal .ensures), eq-eqb (e .counted-refusal .result) 0 (c .if1 .left))
 
 pub judge-spec : {M : Type 1} → statement M
-judge-spec = tie.close (tie.spec counted-refusal-requires refused-requires returns returns-2)
+judge-spec = tie.close (tie.spec (search needs) (search needs) returns returns-2)

@@ -4,9 +4,6 @@ use Rattle.table.specs.laws.TableLaws.{furtherOf, further-is, further-bo
 use Rattle.table.proofs.table.read_further.Statement.{statement}
 use Rattle.table.proofs.table.read_further.Tie as tie
 
-read-sequence-requires : tie.Need-read-sequence-requires
-read-sequence-requires c κs = search needs
-
 read-watch-requires : tie.Need-read-watch-requires
 read-watch-requires c κs = c .read-sequence .ensures .1
 
@@ -19,4 +16,4 @@ returns c =
     ∙ ap (λ q. furtherOf q (a .input .now)) (s .read-sequence .ensures .0) ∙ sym (further-is (a .at) (a .input .now))
 
 pub read-further-spec : {M : Type 1} → statement M
-read-further-spec = tie.close (tie.spec read-sequence-requires read-watch-requires returns)
+read-further-spec = tie.close (tie.spec (search needs) read-watch-requires returns)

@@ -30,56 +30,11 @@ lines-are p good g q h =
     (sym (p .numbers-of .ensures) ∙ ap (λ b. cond b (read (p .numbers-of .result .list)) unread) g)
     h
 
-slice-aggregate-read-keyed : tie.Need-slice-aggregate-read-keyed
-slice-aggregate-read-keyed c = search needs
-
-read-keyed-requires : tie.Need-read-keyed-requires
-read-keyed-requires c κs = search needs
-
-enum-told : tie.Need-enum-told
-enum-told c = search needs
-
-refused-requires : tie.Need-refused-requires
-refused-requires c κs = search needs
-
-enum-known-columns : tie.Need-enum-known-columns
-enum-known-columns c = search needs
-
-slice-aggregate-read-keyed-2 : tie.Need-slice-aggregate-read-keyed-2
-slice-aggregate-read-keyed-2 c = search needs
-
-read-keyed-requires-2 : tie.Need-read-keyed-requires-2
-read-keyed-requires-2 c κs = search needs
-
-enum-told-2 : tie.Need-enum-told-2
-enum-told-2 c = search needs
-
-refused-requires-2 : tie.Need-refused-requires-2
-refused-requires-2 c κs = search needs
-
-enum-known-root : tie.Need-enum-known-root
-enum-known-root c = search needs
-
-slice-aggregate-numbers-of : tie.Need-slice-aggregate-numbers-of
-slice-aggregate-numbers-of c = search needs
-
-numbers-of-requires : tie.Need-numbers-of-requires
-numbers-of-requires c κs = search needs
-
-refused-requires-3 : tie.Need-refused-requires-3
-refused-requires-3 c κs = search needs
-
 returns : tie.Need-returns
 unfolding heldJudged
 returns c =
     let p = c .before .before .before in
     rw (lines-are p false (not-true _ (c .before .if1 .taken)) _ refl) (c .refused3 .ensures)
-
-read-further-requires : tie.Need-read-further-requires
-read-further-requires c κs = search needs
-
-join-requires : tie.Need-join-requires
-join-requires c κs = search needs
 
 returns-2 : tie.Need-returns-2
 unfolding joined judged
@@ -108,22 +63,22 @@ pub read-lines-spec : {M : Type 1} → statement M
 read-lines-spec =
     tie.close
     (tie.spec
-    slice-aggregate-read-keyed
-    read-keyed-requires
-    enum-told
-    refused-requires
-    enum-known-columns
-    slice-aggregate-read-keyed-2
-    read-keyed-requires-2
-    enum-told-2
-    refused-requires-2
-    enum-known-root
-    slice-aggregate-numbers-of
-    numbers-of-requires
-    refused-requires-3
+    (search needs)
+    (search needs)
+    (search needs)
+    (search needs)
+    (search needs)
+    (search needs)
+    (search needs)
+    (search needs)
+    (search needs)
+    (search needs)
+    (search needs)
+    (search needs)
+    (search needs)
     returns
-    read-further-requires
-    join-requires
+    (search needs)
+    (search needs)
     returns-2
     returns-3
     returns-4)

@@ -14,24 +14,6 @@ module _ (c : tie.After-one) where
   abbrev input : List ℕ
   input = found .before .before .args .input .now
 
-find-three-lines-requires : tie.Need-find-three-lines-requires
-find-three-lines-requires c κs = search needs
-
-enum-told : tie.Need-enum-told
-enum-told c = search needs
-
-refused-requires : tie.Need-refused-requires
-refused-requires c κs = search needs
-
-enum-known-one : tie.Need-enum-known-one
-enum-known-one c = search needs
-
-sub-read-lines : tie.Need-sub-read-lines
-sub-read-lines c = search needs
-
-part-read-lines-start : tie.Need-part-read-lines-start
-part-read-lines-start c = search needs
-
 part-read-lines-end : tie.Need-part-read-lines-end
 part-read-lines-end c =
     let o = c .before in
@@ -113,12 +95,12 @@ pub read-table-spec : {M : Type 1} → statement M
 read-table-spec =
     tie.close
     (tie.spec
-    find-three-lines-requires
-    enum-told
-    refused-requires
-    enum-known-one
-    sub-read-lines
-    part-read-lines-start
+    (search needs)
+    (search needs)
+    (search needs)
+    (search needs)
+    (search needs)
+    (search needs)
     part-read-lines-end
     add-read-lines
     sub-read-lines-2

@@ -16,9 +16,6 @@ starts c = sym (c .before .starts-with .ensures) ∙ not-false _ (c .if1 .left)
 fits : (c : tie.Else1) → let a = c .before .before .before .before .args in length (a .key .now) ≤ length (a .line .now)
 fits c = let a = c .before .before .before .before .args in starts-length (a .key .now) (a .line .now) (starts c)
 
-starts-with-requires : tie.Need-starts-with-requires
-starts-with-requires c κs = search needs
-
 returns : tie.Need-returns
 unfolding numeralIn
 returns c =
@@ -31,12 +28,6 @@ sub-numeral c = let h = fits c in search (needs, h)
 part-numeral-start : tie.Need-part-numeral-start
 part-numeral-start c = let h = fits c in search (needs, h)
 
-part-numeral-end : tie.Need-part-numeral-end
-part-numeral-end c = search needs
-
-numeral-requires : tie.Need-numeral-requires
-numeral-requires c κs = search needs
-
 returns-2 : tie.Need-returns-2
 unfolding numeralIn
 returns-2 c =
@@ -45,13 +36,4 @@ returns-2 c =
     rw (after-rest (a .key .now) (a .line .now) (starts e)) (c .numeral .ensures)
 
 pub keyed-spec : {M : Type 1} → statement M
-keyed-spec =
-    tie.close
-    (tie.spec
-    starts-with-requires
-    returns
-    sub-numeral
-    part-numeral-start
-    part-numeral-end
-    numeral-requires
-    returns-2)
+keyed-spec = tie.close (tie.spec (search needs) returns sub-numeral part-numeral-start (search needs) (search needs) returns-2)

@@ -11,25 +11,16 @@ returns c = let a = c .before .before .args in sym (numeral-none (a .width) (a .
 returns-2 : tie.Need-returns-2
 returns-2 c = let a = c .before .before .before .args in sym (numeral-long (a .width) (a .text .now) (c .if2 .taken))
 
-value-of-requires : tie.Need-value-of-requires
-value-of-requires c κs = search needs
-
 returns-3 : tie.Need-returns-3
 returns-3 c =
     let a = c .before .before .before .before .before .args in
     c .value-of .ensures
     ∙ sym (numeral-digits (a .width) (a .text .now) (omega arith) (omega arith) (leading-one (a .text .now) (c .before .if3 .taken)))
 
-shared-slice-read-if4 : tie.Need-shared-slice-read-if4
-shared-slice-read-if4 c = search needs
-
 returns-4 : tie.Need-returns-4
 returns-4 c =
     let a = c .before .before .before .before .before .before .args in
     sym (numeral-zero (a .width) (a .text .now) (c .before .before .if3 .left) (c .if4 .taken))
-
-value-of-requires-2 : tie.Need-value-of-requires-2
-value-of-requires-2 c κs = search needs
 
 returns-5 : tie.Need-returns-5
 returns-5 c =
@@ -38,14 +29,4 @@ returns-5 c =
     ∙ sym (numeral-digits (a .width) (a .text .now) (omega arith) (omega arith) (leading-other (a .text .now) (c .before .if4 .left)))
 
 pub numeral-spec : {M : Type 1} → statement M
-numeral-spec =
-    tie.close
-    (tie.spec
-    returns
-    returns-2
-    value-of-requires
-    returns-3
-    shared-slice-read-if4
-    returns-4
-    value-of-requires-2
-    returns-5)
+numeral-spec = tie.close (tie.spec returns returns-2 (search needs) returns-3 (search needs) returns-4 (search needs) returns-5)

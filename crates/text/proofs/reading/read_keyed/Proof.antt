@@ -6,17 +6,11 @@ use Rattle.text.specs.Pieces.{keyed}
 use Rattle.text.proofs.reading.read_keyed.Statement.{statement}
 use Rattle.text.proofs.reading.read_keyed.Tie as tie
 
-keyed-requires : tie.Need-keyed-requires
-keyed-requires c κs = search needs
-
 returns : tie.Need-returns
 returns c =
     let a = c .before .before .before .before .args in
     let e : 10 ≡ min (a .width) 10 = omega (arith, c .before .if1 .taken) in
     c .keyed .ensures ∙ ap (λ (k : ℕ). keyed (a .key .now) k (a .line .now)) e
-
-keyed-requires-2 : tie.Need-keyed-requires-2
-keyed-requires-2 c κs = search needs
 
 returns-2 : tie.Need-returns-2
 returns-2 c =
@@ -25,4 +19,4 @@ returns-2 c =
     c .keyed2 .ensures ∙ ap (λ (k : ℕ). keyed (a .key .now) k (a .line .now)) e
 
 pub read-keyed-spec : {M : Type 1} → statement M
-read-keyed-spec = tie.close (tie.spec keyed-requires returns keyed-requires-2 returns-2)
+read-keyed-spec = tie.close (tie.spec (search needs) returns (search needs) returns-2)

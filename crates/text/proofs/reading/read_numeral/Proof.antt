@@ -6,17 +6,11 @@ use Rattle.text.specs.Text.{numeral}
 use Rattle.text.proofs.reading.read_numeral.Statement.{statement}
 use Rattle.text.proofs.reading.read_numeral.Tie as tie
 
-numeral-requires : tie.Need-numeral-requires
-numeral-requires c κs = search needs
-
 returns : tie.Need-returns
 returns c =
     let a = c .before .before .before .args in
     let e : 10 ≡ min (a .width) 10 = omega (arith, c .before .if1 .taken) in
     c .numeral .ensures ∙ ap (λ (k : ℕ). numeral k (a .text .now)) e
-
-numeral-requires-2 : tie.Need-numeral-requires-2
-numeral-requires-2 c κs = search needs
 
 returns-2 : tie.Need-returns-2
 returns-2 c =
@@ -25,4 +19,4 @@ returns-2 c =
     c .numeral2 .ensures ∙ ap (λ (k : ℕ). numeral k (a .text .now)) e
 
 pub read-numeral-spec : {M : Type 1} → statement M
-read-numeral-spec = tie.close (tie.spec numeral-requires returns numeral-requires-2 returns-2)
+read-numeral-spec = tie.close (tie.spec (search needs) returns (search needs) returns-2)

@@ -23,20 +23,11 @@ returns c =
     let a = l .before .args in
     rw (l .loop .inv .1) (sym (starts-short (a .key .now) (a .text .now) (l .loop .i) (omega arith) (omega arith)))
 
-shared-slice-read-if2 : tie.Need-shared-slice-read-if2 Inv-loop μ-loop
-shared-slice-read-if2 c = search needs
-
-shared-slice-read-if2-2 : tie.Need-shared-slice-read-if2-2 Inv-loop μ-loop
-shared-slice-read-if2-2 c = search needs
-
 returns-2 : tie.Need-returns-2 Inv-loop μ-loop
 returns-2 c =
     let l = c .before .before .before .before .before in
     let a = l .before .args in
     rw (l .loop .inv .1) (sym (starts-other (a .key .now) (a .text .now) (l .loop .i) (omega arith) (omega arith) (c .if2 .taken)))
-
-add-i : tie.Need-add-i Inv-loop μ-loop
-add-i c = search needs
 
 loop-less : tie.Need-loop-less Inv-loop μ-loop
 loop-less c = search needs
@@ -54,17 +45,4 @@ returns-3 c =
     rw (l .loop .inv .1) (sym (starts-done (a .key .now) (drop (l .loop .i) (a .text .now)) (l .loop .i) (omega arith)))
 
 pub starts-with-spec : {M : Type 1} → statement M
-starts-with-spec =
-    tie.close
-    (tie.spec
-    Inv-loop
-    μ-loop
-    loop-holds
-    returns
-    shared-slice-read-if2
-    shared-slice-read-if2-2
-    returns-2
-    add-i
-    loop-less
-    loop-again
-    returns-3)
+starts-with-spec = tie.close (tie.spec Inv-loop μ-loop loop-holds returns (search needs) (search needs) returns-2 (search needs) loop-less loop-again returns-3)

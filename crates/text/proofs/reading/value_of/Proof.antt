@@ -22,20 +22,8 @@ small c = pow-le-pow-right {n = 10} (omega arith) {i = c .before .loop .i} {j = 
 loop-holds : tie.Need-loop-holds Inv-loop μ-loop
 loop-holds c = (omega arith, omega arith, refl)
 
-shared-slice-read-if1 : tie.Need-shared-slice-read-if1 Inv-loop μ-loop
-shared-slice-read-if1 c = search needs
-
 mul-value : tie.Need-mul-value Inv-loop μ-loop
 mul-value c = let h = small (c .before .before .before) in search (needs, h)
-
-shared-slice-read-value : tie.Need-shared-slice-read-value Inv-loop μ-loop
-shared-slice-read-value c = search needs
-
-sub-value : tie.Need-sub-value Inv-loop μ-loop
-sub-value c = search needs
-
-cast-value : tie.Need-cast-value Inv-loop μ-loop
-cast-value c = search needs
 
 add-value : tie.Need-add-value Inv-loop μ-loop
 add-value c = let h = small (c .before .before .before .before) in search (needs, h)
@@ -52,9 +40,6 @@ returns-2 c =
     let l = k .before in
     let s = l .before .args .text .now in
     sym (l .loop .inv .2 ∙ digits-above s (l .loop .i) (l .loop .value) (k .loop-test .taken) (c .before .if1 .left) (c .if2 .left))
-
-add-i : tie.Need-add-i Inv-loop μ-loop
-add-i c = search needs
 
 loop-less : tie.Need-loop-less Inv-loop μ-loop
 loop-less c = search needs
@@ -81,15 +66,15 @@ value-of-spec =
     Inv-loop
     μ-loop
     loop-holds
-    shared-slice-read-if1
+    (search needs)
     mul-value
-    shared-slice-read-value
-    sub-value
-    cast-value
+    (search needs)
+    (search needs)
+    (search needs)
     add-value
     returns
     returns-2
-    add-i
+    (search needs)
     loop-less
     loop-again
     returns-3)

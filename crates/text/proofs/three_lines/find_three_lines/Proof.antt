@@ -13,29 +13,14 @@ one-inside c = omega (arith, c .if1 .left, c .before .find .ensures .1)
 two-inside : (c : tie.Else2) → c .before .find2 .result < length (c .before .before .before .before .before .args .input .now)
 two-inside c = omega (arith, c .if2 .left, c .before .find2 .ensures .1)
 
-find-requires : tie.Need-find-requires
-find-requires c κs = search needs
-
 returns : tie.Need-returns
 returns c = (sym (first-fewer _ _ (c .before .find .ensures) (c .if1 .taken)), tt)
-
-add-find : tie.Need-add-find
-add-find c = search needs
-
-find-requires-2 : tie.Need-find-requires-2
-find-requires-2 c κs = search needs
 
 returns-2 : tie.Need-returns-2
 returns-2 c =
     let g = c .before in
     let e = g .before in
     (sym (second-fewer _ _ (e .before .find .ensures) (one-inside e) _ (g .find2 .ensures) (c .if2 .taken)), tt)
-
-add-find-2 : tie.Need-add-find-2
-add-find-2 c = search needs
-
-find-requires-3 : tie.Need-find-requires-3
-find-requires-3 c κs = search needs
 
 returns-3 : tie.Need-returns-3
 returns-3 c =
@@ -57,15 +42,4 @@ returns-4 c =
     )
 
 pub find-three-lines-spec : {M : Type 1} → statement M
-find-three-lines-spec =
-    tie.close
-    (tie.spec
-    find-requires
-    returns
-    add-find
-    find-requires-2
-    returns-2
-    add-find-2
-    find-requires-3
-    returns-3
-    returns-4)
+find-three-lines-spec = tie.close (tie.spec (search needs) returns (search needs) (search needs) returns-2 (search needs) (search needs) returns-3 returns-4)

@@ -11,15 +11,6 @@ returns c =
     let a = c .before .before .before .args in
     puts-past (a .out .now) (a .at) (c .if1 .taken) (a .bytes .now)
 
-sub-room : tie.Need-sub-room
-sub-room c = search needs
-
-copy-requires : tie.Need-copy-requires
-copy-requires c κs = search needs
-
-same-length : tie.Need-same-length
-same-length c = search needs
-
 returns-2 : tie.Need-returns-2
 returns-2 c =
     let k = c .before .before in
@@ -28,24 +19,8 @@ returns-2 c =
     writes-puts (a .bytes .now) (omega (arith, t .if2 .taken, t .before .if1 .left))
     (rw (take-all (length (a .bytes .now)) (a .bytes .now) (omega arith)) at (k .copy .ensures))
 
-copy-requires-2 : tie.Need-copy-requires-2
-copy-requires-2 c κs = search needs
-
-same-length-2 : tie.Need-same-length-2
-same-length-2 c = search needs
-
 returns-3 : tie.Need-returns-3
 returns-3 c = search needs
 
 pub put-all-spec : {M : Type 1} → statement M
-put-all-spec =
-    tie.close
-    (tie.spec
-    returns
-    sub-room
-    copy-requires
-    same-length
-    returns-2
-    copy-requires-2
-    same-length-2
-    returns-3)
+put-all-spec = tie.close (tie.spec returns (search needs) (search needs) (search needs) returns-2 (search needs) (search needs) returns-3)

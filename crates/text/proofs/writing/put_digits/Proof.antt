@@ -14,26 +14,10 @@ spelt c =
     e .1 .1
     ∙ digits-decimal 20 (c .decimal .result) (s .args .n) (few-digits (s .args .n) (c .decimal .result) (s .fits .n .fits) (e .1 .0)) (e .1 .0)
 
-decimal-requires : tie.Need-decimal-requires
-decimal-requires c κs = search needs
-
-array-share-prefix-text : tie.Need-array-share-prefix-text
-array-share-prefix-text c = search needs
-
-slice-aggregate-put-all : tie.Need-slice-aggregate-put-all
-slice-aggregate-put-all c = search needs
-
-put-all-requires : tie.Need-put-all-requires
-put-all-requires c κs = search needs
-
-same-length : tie.Need-same-length
-same-length c = search needs
-
 returns : tie.Need-returns
 returns c =
     let p = c .before .before in
     rw (← spelt (p .before .before .before)) (p .put-all .ensures)
 
 pub put-digits-spec : {M : Type 1} → statement M
-put-digits-spec =
-    tie.close (tie.spec decimal-requires array-share-prefix-text slice-aggregate-put-all put-all-requires same-length returns)
+put-digits-spec = tie.close (tie.spec (search needs) (search needs) (search needs) (search needs) (search needs) returns)

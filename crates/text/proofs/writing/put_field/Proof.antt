@@ -46,26 +46,8 @@ within w =
       decimal-short (start e .args .n) (e .before .before .if1 .left),
     )
 
-put-line-requires : tie.Need-put-line-requires
-put-line-requires c κs = search needs
-
-same-length : tie.Need-same-length
-same-length c = search needs
-
 returns : tie.Need-returns
 returns c = search needs
-
-add-has-room : tie.Need-add-has-room
-add-has-room c = search needs
-
-has-room-requires : tie.Need-has-room-requires
-has-room-requires c κs = search needs
-
-put-line-requires-2 : tie.Need-put-line-requires-2
-put-line-requires-2 c κs = search needs
-
-same-length-2 : tie.Need-same-length-2
-same-length-2 c = search needs
 
 returns-2 : tie.Need-returns-2
 returns-2 c = search needs
@@ -108,13 +90,13 @@ pub put-field-spec : {M : Type 1} → statement M
 put-field-spec =
     tie.close
     (tie.spec
-    put-line-requires
-    same-length
+    (search needs)
+    (search needs)
     returns
-    add-has-room
-    has-room-requires
-    put-line-requires-2
-    same-length-2
+    (search needs)
+    (search needs)
+    (search needs)
+    (search needs)
     returns-2
     copy-requires
     write-short-requires

@@ -5,18 +5,6 @@ use Rattle.text.specs.laws.WritingLaws.{puts-more}
 use Rattle.text.proofs.writing.put_line.Statement.{statement}
 use Rattle.text.proofs.writing.put_line.Tie as tie
 
-put-all-requires : tie.Need-put-all-requires
-put-all-requires c κs = search needs
-
-put-number-requires : tie.Need-put-number-requires
-put-number-requires c κs = search needs
-
-put-byte-requires : tie.Need-put-byte-requires
-put-byte-requires c κs = search needs
-
-same-length : tie.Need-same-length
-same-length c = search needs
-
 returns : tie.Need-returns
 returns c =
     let t = c .before .before in
@@ -27,5 +15,4 @@ returns c =
     (puts-more (decimal (a .n)) (newline ∷ []) (q .put-number .ensures) (t .put-byte .ensures))
 
 pub put-line-spec : {M : Type 1} → statement M
-put-line-spec =
-    tie.close (tie.spec put-all-requires put-number-requires put-byte-requires same-length returns)
+put-line-spec = tie.close (tie.spec (search needs) (search needs) (search needs) (search needs) returns)

@@ -5,15 +5,6 @@ use Rattle.text.specs.laws.WritingLaws.{puts-more}
 use Rattle.text.proofs.writing.put_more.Statement.{statement}
 use Rattle.text.proofs.writing.put_more.Tie as tie
 
-put-byte-requires : tie.Need-put-byte-requires
-put-byte-requires c κs = search needs
-
-put-number-requires : tie.Need-put-number-requires
-put-number-requires c κs = search needs
-
-same-length : tie.Need-same-length
-same-length c = search needs
-
 returns : tie.Need-returns
 returns c =
     let k = c .before .before in
@@ -21,4 +12,4 @@ returns c =
     puts-more (comma ∷ []) (decimal (p .before .before .before .args .n)) (p .put-byte .ensures) (k .put-number .ensures)
 
 pub put-more-spec : {M : Type 1} → statement M
-put-more-spec = tie.close (tie.spec put-byte-requires put-number-requires same-length returns)
+put-more-spec = tie.close (tie.spec (search needs) (search needs) (search needs) returns)

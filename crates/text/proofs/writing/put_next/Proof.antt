@@ -19,36 +19,15 @@ room e =
     let h = e .before .has-room in
     leb-true (start e .args .at + 3) (length (start e .args .out .now)) (sym (h .ensures) ∙ not-false (h .result) (e .if3 .left))
 
-put-number-requires : tie.Need-put-number-requires
-put-number-requires c κs = search needs
-
-same-length : tie.Need-same-length
-same-length c = search needs
-
 returns : tie.Need-returns
 returns c =
     let k = c .before .before in
     rw (k .before .before .if1 .taken) (k .put-number .ensures)
 
-put-more-requires : tie.Need-put-more-requires
-put-more-requires c κs = search needs
-
-same-length-2 : tie.Need-same-length-2
-same-length-2 c = search needs
-
 returns-2 : tie.Need-returns-2
 returns-2 c =
     let k = c .before .before in
     rw (k .before .before .before .if1 .left) (k .put-more .ensures)
-
-has-room-requires : tie.Need-has-room-requires
-has-room-requires c κs = search needs
-
-put-more-requires-2 : tie.Need-put-more-requires-2
-put-more-requires-2 c κs = search needs
-
-same-length-3 : tie.Need-same-length-3
-same-length-3 c = search needs
 
 returns-3 : tie.Need-returns-3
 returns-3 c =
@@ -83,15 +62,15 @@ pub put-next-spec : {M : Type 1} → statement M
 put-next-spec =
     tie.close
     (tie.spec
-    put-number-requires
-    same-length
+    (search needs)
+    (search needs)
     returns
-    put-more-requires
-    same-length-2
+    (search needs)
+    (search needs)
     returns-2
-    has-room-requires
-    put-more-requires-2
-    same-length-3
+    (search needs)
+    (search needs)
+    (search needs)
     returns-3
     slice-write-out
     add-write-short
