@@ -8,7 +8,8 @@ from repository import ROOT, read
 
 ARCHIVE = os.path.join(ROOT, "target", "staticlib", "libfirmware.a")
 INCLUDE = os.path.join(ROOT, "include")
-TYPES = {"usize": "size_t", "u8": "uint8_t", "u32": "uint32_t"}
+PREFIX = "mudasgup_raw_"
+TYPES = {"usize": "uint64_t", "u8": "uint8_t", "u32": "uint32_t"}
 
 
 def archive():
@@ -20,15 +21,20 @@ def archive():
     return ARCHIVE
 
 
+def sources():
+    """The texts of the crate."""
+    return [read(path) for path in sorted(glob.glob(os.path.join(ROOT, "crates", "firmware", "src", "*.rt")))]
+
+
 def exported():
     """The C declaration of each function that the crate exports, by its name."""
     found = {}
-    for path in sorted(glob.glob(os.path.join(ROOT, "crates", "firmware", "src", "*.rt"))):
-        for name, parameters, result in re.findall(r'pub extern "C" fn (\w+)\(([^)]*)\) -> (\w+)', read(path)):
+    for text in sources():
+        for name, parameters, result in re.findall(r'pub extern "C" fn (\w+)\(([^)]*)\) -> (\w+)', text):
             words = []
             for parameter, kind in re.findall(r"(\w+): ([^,]+)", parameters):
                 kind = kind.strip()
                 words.append(TYPES[kind] + " " + parameter if kind in TYPES
-                             else ("const " if kind == "&[u8]" else "") + f"uint8_t *{parameter}, size_t {parameter}_size")
+                             else ("const " if kind == "&[u8]" else "") + f"uint8_t *{parameter}, uint64_t {parameter}_size")
             found[name] = f"{TYPES[result]} {name}({', '.join(words)});"
     return found

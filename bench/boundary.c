@@ -1,67 +1,65 @@
-/* The calls of include/mudasgup.h in plain C: what the archive of crates/firmware is measured beside. The same blocks are read, the same tests made and
-   the same bytes written. */
-#include "blocks.h"
+/* The exports that include/mudasgup.h declares at its end, in plain C: what the archive of crates/firmware is measured beside. The same blocks are read,
+   the same tests made and the same bytes written. Here a tree and a column; packets, frames and journals are those of boundary_packets.c. */
+#include "boundary.h"
+#include "table.h"
 
-enum { NO_SUCH_STATE = 4, HALTED = 5, NO_ROOM = 11, NO_PACKET_HERE = 12, TOO_HIGH = 18, NO_OFFSET = 22, OTHER_SIZE = 24 };
-enum { OLD_MESSAGE = 1, OLD_ACKNOWLEDGEMENT = 2, OLD_ACKNOWLEDGEMENT_SIZE = 5, OLD_MESSAGE_SIZE = 13, PAGE = 8 };
+enum { PAGE = 8 };
 
-static size_t refused(uint8_t number) { return MUDASGUP_REFUSED + number; }
+static bool is_tree(const uint8_t *tree, uint64_t tree_size) { return tree_size == MUDASGUP_TREE_SIZE && tree[MUDASGUP_TREE_LAYOUT] == MUDASGUP_LAYOUT_TREE; }
 
-static bool block_sizes(size_t tree_size, size_t column_size) { return tree_size == MUDASGUP_TREE && column_size == MUDASGUP_COLUMN; }
-
-static uint8_t standing(const struct tree *t, size_t i, const struct column *c) {
+static mudasgup_status standing(const struct tree *t, size_t i, const struct column *c) {
     uint8_t refusal = tree_refusal(t);
-    return refusal ? refusal : stands(t, i, c) ? 0 : NO_SUCH_STATE;
+    return refusal ? (mudasgup_status)refusal : stands(t, i, c) ? MUDASGUP_OK : MUDASGUP_E_STATE;
 }
 
-/* The column and the packet that a step left, and its answer. */
-static size_t leave(struct answer a, const struct column *c, uint8_t *column, uint8_t *put) {
-    if (a.refusal)
-        return refused(a.refusal);
-    column_out(c, column);
-    if (a.put.kind == NO_PACKET) {
-        memset(put, 0, MUDASGUP_PACKET);
-        return 0;
-    }
-    return packet_out(&a.put, put) + (a.left ? MUDASGUP_LEFT : 0);
-}
+#define TREE const uint8_t *tree, uint64_t tree_size
+#define READ TREE, const uint8_t *column, uint64_t column_size
+#define LENT TREE, uint8_t *column, uint64_t column_size
+#define PUT uint8_t *put, uint64_t put_size
+/* The tree, the column and its number out of blocks that are tested. */
+#define PARSED                                                                   \
+    if (!is_tree(tree, tree_size) || !is_column(column, column_size))            \
+        return refused(MUDASGUP_E_BLOCK);                                        \
+    struct tree t = tree_in(tree);                                               \
+    struct column c = column_in(column);                                         \
+    size_t i = column[MUDASGUP_COLUMN_OWN]
+/* The same, with the refusal of a column that is no state of the tree. */
+#define STANDING                                                                 \
+    PARSED;                                                                      \
+    mudasgup_status refusal = standing(&t, i, &c)
 
 /* ---- a tree and a column */
 
-size_t mudasgup_tree(const uint8_t *tree, size_t tree_size) {
-    if (tree_size != MUDASGUP_TREE)
-        return refused(OTHER_SIZE);
+uint64_t mudasgup_raw_tree_check(TREE) {
+    if (!is_tree(tree, tree_size))
+        return refused(MUDASGUP_E_BLOCK);
     struct tree t = tree_in(tree);
     uint8_t refusal = tree_refusal(&t);
-    return refusal ? refused(refusal) : 0;
+    return refusal ? refused((mudasgup_status)refusal) : 0;
 }
 
-size_t mudasgup_fresh(const uint8_t *tree, size_t tree_size, size_t i, uint8_t *column, size_t column_size) {
-    if (!block_sizes(tree_size, column_size))
-        return refused(OTHER_SIZE);
+uint64_t mudasgup_raw_tree_read(const uint8_t *text, uint64_t text_size, uint8_t *tree, uint64_t tree_size) {
+    struct cursor cursor = {text, text + text_size};
+    struct tree t;
+    if (tree_size != MUDASGUP_TREE_SIZE)
+        return refused(MUDASGUP_E_BLOCK);
+    uint8_t refusal = read_tree(&cursor, &t);
+    if (refusal)
+        return refused((mudasgup_status)refusal);
+    tree_out(&t, tree);
+    return (uint64_t)(cursor.at - text);
+}
+
+uint64_t mudasgup_raw_column_fresh(TREE, uint64_t i, uint8_t *column, uint64_t column_size) {
+    if (!is_tree(tree, tree_size) || column_size != MUDASGUP_COLUMN_SIZE)
+        return refused(MUDASGUP_E_BLOCK);
     struct tree t = tree_in(tree);
     uint8_t refusal = tree_refusal(&t);
     if (refusal || i >= t.columns)
-        return refused(refusal ? refusal : NO_SUCH_STATE);
+        return refused(refusal ? (mudasgup_status)refusal : MUDASGUP_E_STATE);
     struct column c = {.running = true, .whole = i == t.root, .sender = (uint8_t)t.root};
-    column_out(&c, column);
+    column_out(i, &c, column);
     return 0;
-}
-
-static char *put_text(char *at, const char *text) {
-    size_t length = strlen(text);
-    memcpy(at, text, length);
-    return at + length;
-}
-
-static char *put_number(char *at, uint32_t n) {
-    char digits[10];
-    size_t first = sizeof digits;
-    do
-        digits[--first] = (char)('0' + n % 10);
-    while (n /= 10);
-    memcpy(at, digits + first, sizeof digits - first);
-    return at + sizeof digits - first;
 }
 
 static size_t list_of(size_t i, const struct column *c, char *text) {
@@ -78,64 +76,141 @@ static size_t list_of(size_t i, const struct column *c, char *text) {
     return (size_t)(at - text);
 }
 
-size_t mudasgup_list(const uint8_t *tree, size_t tree_size, size_t i, const uint8_t *column, size_t column_size, uint8_t *buffer, size_t buffer_size) {
-    char text[MUDASGUP_LIST];
-    if (!block_sizes(tree_size, column_size))
-        return refused(OTHER_SIZE);
-    struct tree t = tree_in(tree);
-    struct column c = column_in(column);
-    uint8_t refusal = standing(&t, i, &c);
+uint64_t mudasgup_raw_list(READ, uint8_t *buffer, uint64_t buffer_size) {
+    char text[MUDASGUP_LIST_SIZE];
+    STANDING;
     if (refusal || !c.running)
-        return refused(refusal ? refusal : HALTED);
+        return refused(refusal ? refusal : MUDASGUP_E_HALTED);
     size_t length = list_of(i, &c, text);
     if (length > buffer_size)
-        return refused(NO_ROOM);
+        return refused(MUDASGUP_E_SPACE);
     memcpy(buffer, text, length);
     return length;
 }
 
 /* ---- the steps */
 
-#define LENT const uint8_t *tree, size_t tree_size, size_t i, uint8_t *column, size_t column_size
-#define PUT uint8_t *put, size_t put_size
-/* A step of the column that is lent, told as an answer. */
-#define STEPPED(made)                                                               \
-    if (!block_sizes(tree_size, column_size) || put_size != MUDASGUP_PACKET)        \
-        return refused(OTHER_SIZE);                                                 \
-    struct tree t = tree_in(tree);                                                  \
-    struct column c = column_in(column);                                            \
-    struct answer a = made;                                                         \
-    return leave(a, &c, column, put)
+/* The column that a step left, and its answer. */
+static uint64_t leave(struct answer a, size_t i, const struct column *c, uint8_t *column) {
+    if (a.refusal)
+        return refused((mudasgup_status)a.refusal);
+    column_out(i, c, column);
+    return 0;
+}
 
-size_t mudasgup_order(LENT, const uint8_t *doors, size_t doors_size, PUT) {
-    if (doors_size != MUDASGUP_DOORS)
-        return refused(OTHER_SIZE);
+/* The same, with the packet. */
+static uint64_t leave_put(struct answer a, size_t i, const struct column *c, uint8_t *column, uint8_t *put) {
+    uint64_t answer = leave(a, i, c, column);
+    if (answer)
+        return answer;
+    if (a.put.kind == NO_PACKET) {
+        memset(put, 0, MUDASGUP_PACKET_SIZE);
+        return 0;
+    }
+    return packet_out(&a.put, put) + (a.left ? MUDASGUP_RAW_LEFT : 0);
+}
+
+/* A step of the column that is lent, told as an answer: one that puts nothing, and one that may put. */
+#define STEPPED(made)             \
+    PARSED;                       \
+    struct answer a = made;       \
+    return leave(a, i, &c, column)
+#define STEPPED_PUT(made)                      \
+    if (put_size != MUDASGUP_PACKET_SIZE)      \
+        return refused(MUDASGUP_E_BLOCK);      \
+    PARSED;                                    \
+    struct answer a = made;                    \
+    return leave_put(a, i, &c, column, put)
+
+uint64_t mudasgup_raw_order(LENT, const uint8_t *doors, uint64_t doors_size) {
+    if (doors_size != MUDASGUP_DOORS_SIZE)
+        return refused(MUDASGUP_E_BLOCK);
     STEPPED(order(&t, i, &c, doors_in(doors)));
 }
 
-size_t mudasgup_send(LENT, PUT) { STEPPED(send(&t, i, &c)); }
+uint64_t mudasgup_raw_send(LENT, PUT) { STEPPED_PUT(send(&t, i, &c)); }
 
-size_t mudasgup_take(LENT, const uint8_t *packet, size_t packet_size, PUT) {
+uint64_t mudasgup_raw_take(LENT, const uint8_t *packet, uint64_t packet_size, PUT) {
     struct packet p;
-    if (!block_sizes(tree_size, column_size) || put_size != MUDASGUP_PACKET)
-        return refused(OTHER_SIZE);
+    if (put_size != MUDASGUP_PACKET_SIZE)
+        return refused(MUDASGUP_E_BLOCK);
+    PARSED;
     if (!read_packet(packet, packet_size, &p))
-        return refused(NO_PACKET_HERE);
-    STEPPED(take(&t, i, &c, p));
+        return refused(MUDASGUP_E_PACKET);
+    struct answer a = take(&t, i, &c, p);
+    return leave_put(a, i, &c, column, put);
 }
 
-size_t mudasgup_ack(LENT, PUT) { STEPPED(ack(&t, i, &c)); }
+uint64_t mudasgup_raw_ack(LENT, PUT) { STEPPED_PUT(ack(&t, i, &c)); }
 
-size_t mudasgup_all(LENT, PUT) { STEPPED(all(&t, i, &c)); }
+uint64_t mudasgup_raw_all(LENT) { STEPPED(all(&t, i, &c)); }
 
-size_t mudasgup_note(LENT, size_t j, PUT) { STEPPED(note(&t, i, &c, j)); }
+uint64_t mudasgup_raw_note(LENT, uint64_t j) { STEPPED(note(&t, i, &c, j)); }
 
-size_t mudasgup_halt(LENT, PUT) { STEPPED(halt(&t, i, &c)); }
+uint64_t mudasgup_raw_halt(LENT) { STEPPED(halt(&t, i, &c)); }
+
+/* ---- the next step, and none */
+
+static struct answer next(const struct tree *t, size_t i, struct column *c) {
+    struct answer a = {.refusal = (uint8_t)standing(t, i, c)};
+    if (a.refusal)
+        return a;
+    if (!c->running)
+        a.refusal = MUDASGUP_E_HALTED;
+    else if (c->send)
+        a.put = send_effect(t, i, c);
+    else if (may_ack(t, i, c))
+        a.put = ack_effect(i, c);
+    else if (may_all(t, i, c))
+        all_effect(t, c);
+    else
+        a.refusal = MUDASGUP_E_NOTHING;
+    return a;
+}
+
+uint64_t mudasgup_raw_next(LENT, PUT) { STEPPED_PUT(next(&t, i, &c)); }
+
+static bool rests(const struct tree *t, size_t i, const struct column *c) { return !c->running || (!c->send && !may_ack(t, i, c) && !may_all(t, i, c)); }
+
+uint64_t mudasgup_raw_idle(READ) {
+    STANDING;
+    return refusal ? refused(refusal) : rests(&t, i, &c);
+}
+
+/* ---- a return */
+
+uint64_t mudasgup_raw_rejoin(LENT, uint64_t lowest, uint32_t number, const uint8_t *doors, uint64_t doors_size, uint64_t halted) {
+    if (doors_size != MUDASGUP_DOORS_SIZE)
+        return refused(MUDASGUP_E_BLOCK);
+    STANDING;
+    if (refusal)
+        return refused(refusal);
+    uint64_t running = ((1u << t.columns) - 1) & ~halted & ~(1u << i);
+    if (halted >> t.columns || has((uint16_t)halted, i) || (running && lowest != (uint64_t)__builtin_ctzll(running)))
+        return refused(MUDASGUP_E_STATE);
+    if (c.running || i == t.root || !running)
+        return refused(c.running ? MUDASGUP_E_NOTHING : i == t.root ? MUDASGUP_E_ROOT : MUDASGUP_E_ALONE);
+    struct column back = {.doors = doors_in(doors), .number = number, .noted = (uint16_t)halted, .running = true, .whole = has((uint16_t)halted, t.root),
+                          .sender = (uint8_t)lowest, .mask = c.mask, .pending = c.pending};
+    column_out(i, &back, column);
+    return 0;
+}
+
+uint64_t mudasgup_raw_strike(LENT, uint64_t back) {
+    STANDING;
+    if (refusal || back >= t.columns || back == i)
+        return refused(refusal ? refusal : MUDASGUP_E_STATE);
+    if (!rests(&t, i, &c))
+        return refused(MUDASGUP_E_UNREST);
+    c.noted &= (uint16_t)~(1u << back);
+    column_out(i, &c, column);
+    return 0;
+}
 
 /* ---- a column's page */
 
-static struct answer written(const struct tree *t, size_t i, struct column *c, size_t offset, uint8_t value) {
-    struct answer a = {.refusal = standing(t, i, c)};
+static struct answer written(const struct tree *t, size_t i, struct column *c, uint64_t offset, uint8_t value) {
+    struct answer a = {.refusal = (uint8_t)standing(t, i, c)};
     if (a.refusal)
         return a;
     if (offset == MUDASGUP_PAGE_MASK)
@@ -143,117 +218,34 @@ static struct answer written(const struct tree *t, size_t i, struct column *c, s
     else if (offset == MUDASGUP_PAGE_CLEAR)
         c->pending &= (uint8_t)~value;
     else
-        a.refusal = NO_OFFSET;
+        a.refusal = MUDASGUP_E_OFFSET;
     return a;
 }
 
-size_t mudasgup_page_write(LENT, size_t offset, uint8_t value, PUT) { STEPPED(written(&t, i, &c, offset, value)); }
+uint64_t mudasgup_raw_page_write(LENT, uint64_t offset, uint8_t value) { STEPPED(written(&t, i, &c, offset, value)); }
 
-static uint8_t page_byte(size_t i, const struct column *c, size_t offset) {
+static uint8_t page_byte(size_t i, const struct column *c, uint64_t offset) {
     switch (offset) {
-    case 0: return (uint8_t)i;
-    case 1: return (uint8_t)(c->running + 2 * c->whole);
-    case 2: return (uint8_t)__builtin_popcount(c->send);
-    case 3: return (uint8_t)__builtin_popcount(c->awaited);
-    case 4: return (uint8_t)__builtin_popcount(c->owed);
+    case MUDASGUP_PAGE_COLUMN: return (uint8_t)i;
+    case MUDASGUP_PAGE_STATUS: return (uint8_t)(c->running + 2 * c->whole);
+    case MUDASGUP_PAGE_SEND: return (uint8_t)__builtin_popcount(c->send);
+    case MUDASGUP_PAGE_AWAITED: return (uint8_t)__builtin_popcount(c->awaited);
+    case MUDASGUP_PAGE_OWED: return (uint8_t)__builtin_popcount(c->owed);
     case MUDASGUP_PAGE_MASK: return c->mask;
     case MUDASGUP_PAGE_PENDING: return c->pending;
     default: return 0;
     }
 }
 
-size_t mudasgup_page_read(const uint8_t *tree, size_t tree_size, size_t i, const uint8_t *column, size_t column_size, size_t offset) {
-    if (!block_sizes(tree_size, column_size))
-        return refused(OTHER_SIZE);
-    struct tree t = tree_in(tree);
-    struct column c = column_in(column);
-    uint8_t refusal = standing(&t, i, &c);
+uint64_t mudasgup_raw_page_read(READ, uint64_t offset) {
+    STANDING;
     if (refusal || offset >= PAGE)
-        return refused(refusal ? refusal : NO_OFFSET);
+        return refused(refusal ? refusal : MUDASGUP_E_OFFSET);
     return page_byte(i, &c, offset);
 }
 
-size_t mudasgup_line_up(const uint8_t *column, size_t column_size) {
-    if (column_size != MUDASGUP_COLUMN)
-        return refused(OTHER_SIZE);
-    return (column[MUDASGUP_AT_MASK] & column[MUDASGUP_AT_PENDING]) != 0;
-}
-
-/* ---- packets */
-
-size_t mudasgup_read(const uint8_t *bytes, size_t bytes_size, uint8_t *packet, size_t packet_size) {
-    struct packet p;
-    if (packet_size != MUDASGUP_PACKET)
-        return refused(OTHER_SIZE);
-    return read_packet(bytes, bytes_size, &p) ? packet_out(&p, packet) : refused(NO_PACKET_HERE);
-}
-
-static size_t leave_new(struct packet p, uint8_t *packet, size_t packet_size) {
-    if (packet_size != MUDASGUP_PACKET)
-        return refused(OTHER_SIZE);
-    return p.from > 15 || p.to > 15 || p.from == p.to ? refused(NO_PACKET_HERE) : packet_out(&p, packet);
-}
-
-size_t mudasgup_message(uint8_t from, uint8_t to, uint32_t number, const uint8_t *doors, size_t doors_size, uint8_t *packet, size_t packet_size) {
-    if (doors_size != MUDASGUP_DOORS)
-        return refused(OTHER_SIZE);
-    return leave_new((struct packet){MESSAGE, from, to, number, doors_in(doors)}, packet, packet_size);
-}
-
-size_t mudasgup_acknowledgement(uint8_t from, uint8_t to, uint32_t number, uint8_t *packet, size_t packet_size) {
-    return leave_new((struct packet){ACKNOWLEDGEMENT, from, to, number, 0}, packet, packet_size);
-}
-
-/* The bytes of the packet of an old kind that stands at the start, or 0 where none does. */
-static size_t read_old(const uint8_t *bytes, size_t size, struct packet *p) {
-    if (size < OLD_ACKNOWLEDGEMENT_SIZE)
-        return 0;
-    size_t used = bytes[0] == OLD_MESSAGE ? OLD_MESSAGE_SIZE : bytes[0] == OLD_ACKNOWLEDGEMENT ? OLD_ACKNOWLEDGEMENT_SIZE : 0;
-    if (used == 0 || size < used || bytes[1] > 15 || bytes[2] > 15 || bytes[1] == bytes[2])
-        return 0;
-    *p = (struct packet){bytes[0] == OLD_MESSAGE ? MESSAGE : ACKNOWLEDGEMENT, bytes[1], bytes[2], short_in(bytes + MUDASGUP_AT_TO + 1),
-                         bytes[0] == OLD_MESSAGE ? doors_in(bytes + OLD_ACKNOWLEDGEMENT_SIZE) : 0};
-    return used;
-}
-
-static size_t old_out(const struct packet *p, uint8_t *bytes) {
-    memset(bytes, 0, MUDASGUP_PACKET);
-    bytes[MUDASGUP_AT_KIND] = p->kind == MESSAGE ? OLD_MESSAGE : OLD_ACKNOWLEDGEMENT, bytes[MUDASGUP_AT_FROM] = p->from, bytes[MUDASGUP_AT_TO] = p->to;
-    short_out((uint16_t)p->number, bytes + MUDASGUP_AT_TO + 1);
-    return doors_behind(p, bytes, OLD_ACKNOWLEDGEMENT_SIZE);
-}
-
-size_t mudasgup_convert(const uint8_t *bytes, size_t bytes_size, uint8_t *packet, size_t packet_size) {
-    struct packet p;
-    if (packet_size != MUDASGUP_PACKET)
-        return refused(OTHER_SIZE);
-    size_t used = read_old(bytes, bytes_size, &p);
-    if (used && used == bytes_size)
-        return packet_out(&p, packet);
-    used = read_packet(bytes, bytes_size, &p);
-    if (!used || used != bytes_size)
-        return refused(NO_PACKET_HERE);
-    if (p.number > UINT16_MAX)
-        return refused(TOO_HIGH);
-    return old_out(&p, packet);
-}
-
-size_t mudasgup_frame(const uint8_t *frame, size_t frame_size) {
-    size_t count = 0;
-    for (size_t at = 0, used; at < frame_size; at += used, count++) {
-        used = count == FRAME_PACKETS ? 0 : packet_size(frame + at, frame_size - at);
-        if (used == 0)
-            return refused(NO_PACKET_HERE);
-    }
-    return count;
-}
-
-size_t mudasgup_join(const uint8_t *bytes, size_t bytes_size, uint8_t *frame, size_t frame_size, size_t at) {
-    size_t used = packet_size(bytes, bytes_size);
-    if (!used)
-        return refused(NO_PACKET_HERE);
-    if (at > frame_size || frame_size - at < used)
-        return refused(NO_ROOM);
-    memcpy(frame + at, bytes, used);
-    return used;
+uint64_t mudasgup_raw_line_up(const uint8_t *column, uint64_t column_size) {
+    if (!is_column(column, column_size))
+        return refused(MUDASGUP_E_BLOCK);
+    return (column[MUDASGUP_COLUMN_MASK] & column[MUDASGUP_COLUMN_PENDING]) != 0;
 }

@@ -5,7 +5,7 @@ import os
 import re
 import subprocess
 
-from archive import INCLUDE, archive, exported
+from archive import INCLUDE, PREFIX, archive, exported
 from laps import COLD, COUNTED, COUNTED_FRAMES, STEPS
 from measure import FOLDER, Side, Work, compiled, run
 from repository import ROOT
@@ -13,15 +13,20 @@ from row import Row
 
 # Letter and name of each call: those of a lone column that are steps as there, then the others.
 CALLS = [(letter, name) for letter, name in STEPS if letter in "osmalnh"] + [
-    ("w", "page write"), ("p", "page read"), ("u", "line up"), ("t", "check of a tree"), ("F", "fresh"), ("L", "closing list of 64 doors"),
-    ("r", "packet read"), ("M", "message written"), ("A", "acknowledgement written"), ("c", "packet converted"), ("j", "packet joined")]
+    ("x", "next, a message put"), ("i", "idle"), ("R", "rejoin"), ("S", "strike"), ("w", "page write"), ("p", "page read"), ("u", "line up"),
+    ("t", "check of a tree"), ("T", "table read"), ("F", "fresh"), ("L", "closing list of 64 doors"), ("r", "packet read"), ("M", "message written"),
+    ("A", "acknowledgement written"), ("c", "packet converted"), ("j", "packet joined to 15 others"), ("O", "journal, its owner"),
+    ("J", "journal, a message sent"), ("G", "journal, a message got")]
 FRAME = ("f", "frame of 512 messages counted")
 # One lap of a frame for so many of another call.
 FRAME_PART = 100
-MOST = 1.6
-STACKS = [("a step", "osmalnhw"), ("fresh", "F"), ("the closing list", "L"), ("a frame of 512 messages", "f"), ("the converter", "c"), ("any other call", "tpurMAj")]
-ALONE = [f"mudasgup_{name}" for name in ("tree", "fresh", "order", "send", "take", "ack", "all", "note", "halt")]
-PLAIN = ("boundary.c", "column.c")
+MOST = 1.5
+# A table is read once, and has no limit.
+UNLIMITED = "T"
+STACKS = [("a step or a return", "osmalnhxRSw"), ("fresh", "F"), ("a table", "T"), ("the closing list", "L"), ("a frame of 512 messages", "f"), ("the converter", "c"),
+          ("any other call", "tipurMAjOJG")]
+ALONE = [PREFIX + name for name in ("tree_check", "column_fresh", "order", "take", "next", "note", "halt")]
+PLAIN = ("boundary.c", "boundary_packets.c", "column.c")
 
 
 def sources(*names):
@@ -48,7 +53,7 @@ def work(letter, laps):
 
 
 def call(letter, name, laps, counted):
-    return Row("boundary", f"core of 16 columns through the boundary to C: {name}", "ns", MOST, lambda: work(letter, laps), lambda: work(letter, counted))
+    return Row("boundary", f"core of 16 columns through the boundary to C: {name}", "ns", None if letter in UNLIMITED else MOST, lambda: work(letter, laps), lambda: work(letter, counted))
 
 
 def rows(laps):
@@ -69,7 +74,7 @@ def linked(names):
 
 def memory():
     """Rows of bytes."""
-    for what, names in (("the archive, every function linked", sorted(exported())), ("the steps, fresh and the check of a tree alone", ALONE)):
+    for what, names in (("the archive, every function linked", sorted(exported())), ("order, take, note, next, halt, fresh and the check of a tree alone", ALONE)):
         yield f"{what}: code, constants, data", " + ".join(map(str, linked(names))) + " bytes"
     for what, letters in STACKS:
         yield f"stack of {what} through the boundary", run(program(), "", letters)[0].strip() + " bytes"

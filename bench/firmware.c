@@ -1,4 +1,4 @@
-/* Laps of the calls of include/mudasgup.h, whoever defines them: `firmware LETTER LAPS` prints what their answers fold into, and what the last one left.
+/* Laps of the exports that include/mudasgup.h declares, whoever defines them: `firmware LETTER LAPS` prints what their answers fold into, and what the last one left.
    `firmware LETTERS` prints the most bytes of stack that one of these calls needs. */
 #include "blocks.h"
 #include "laps.h"
@@ -8,11 +8,14 @@
 
 #define STACK 262144
 #define PAINT 0xA5
+#define HALTED 6  /* the set of columns 1 and 2 */
+#define JOINED 15 /* packets of the frame to which one is joined */
 
 /* The trees of even and odd laps differ. */
-static uint8_t trees[2][MUDASGUP_TREE];
-static const uint8_t doors[MUDASGUP_DOORS] = {1, 2};
-static uint8_t message[MUDASGUP_PACKET], put[MUDASGUP_PACKET], frame[FRAME_PACKETS * MUDASGUP_PACKET], list[MUDASGUP_LIST];
+static uint8_t trees[2][MUDASGUP_TREE_SIZE], read[MUDASGUP_TREE_SIZE];
+static char tables[2][256];
+static const uint8_t doors[MUDASGUP_DOORS_SIZE] = {1, 2};
+static uint8_t message[MUDASGUP_PACKET_SIZE], put[MUDASGUP_PACKET_SIZE], frame[FRAME_PACKETS * MUDASGUP_PACKET_SIZE], list[MUDASGUP_LIST_SIZE];
 
 /* What is called: the column that acts, and its state. */
 struct lap {
@@ -28,33 +31,57 @@ static const struct lap laps[] = {
     {'l', 3, {.running = true, .noted = 1}},
     {'n', 0, {.running = true, .whole = true, .awaited = 6}},
     {'h', 5, {.running = true}},
+    {'x', 0, {.running = true, .whole = true, .send = 6}},
+    {'i', 3, {.running = true, .noted = 2}},
+    {'R', 5, {.doors = UINT64_MAX, .number = 7, .owed = 1}},
+    {'S', 3, {.running = true, .noted = 34}},
+    {'G', 1, {.running = true}},
 };
 
-#define LENT tree, MUDASGUP_TREE, i, block, MUDASGUP_COLUMN
+#define BLOCK block, MUDASGUP_COLUMN_SIZE
+#define LENT tree, MUDASGUP_TREE_SIZE, BLOCK
 #define PUT put, sizeof put
+#define LINE list, sizeof list
+#define MESSAGE_BYTES message, sizeof message
 
-static size_t called(char letter, const uint8_t *tree, size_t i, uint8_t *block) {
+static uint64_t stepped(char letter, const uint8_t *tree, uint8_t *block) {
     switch (letter) {
-    case 'o': return mudasgup_order(LENT, doors, sizeof doors, PUT);
-    case 's': return mudasgup_send(LENT, PUT);
-    case 'm': return mudasgup_take(LENT, message, sizeof message, PUT);
-    case 'a': return mudasgup_ack(LENT, PUT);
-    case 'l': return mudasgup_all(LENT, PUT);
-    case 'n': return mudasgup_note(LENT, 1, PUT);
-    case 'h': return mudasgup_halt(LENT, PUT);
-    case 'f': return mudasgup_frame(frame, sizeof frame);
-    case 'L': return mudasgup_list(LENT, list, sizeof list);
-    case 'F': return mudasgup_fresh(LENT);
-    case 'c': return mudasgup_convert(message, sizeof message, PUT);
-    case 't': return mudasgup_tree(tree, MUDASGUP_TREE);
-    case 'w': return mudasgup_page_write(LENT, MUDASGUP_PAGE_MASK, 7, PUT);
-    case 'p': return mudasgup_page_read(LENT, MUDASGUP_PAGE_PENDING);
-    case 'u': return mudasgup_line_up(block, MUDASGUP_COLUMN);
-    case 'r': return mudasgup_read(message, sizeof message, PUT);
-    case 'M': return mudasgup_message(0, 1, 1000, doors, sizeof doors, PUT);
-    case 'A': return mudasgup_acknowledgement(0, 1, 1000, PUT);
-    case 'j': return mudasgup_join(message, sizeof message, frame, sizeof frame, 0);
-    default: return MUDASGUP_REFUSED;
+    case 'o': return mudasgup_raw_order(LENT, doors, sizeof doors);
+    case 's': return mudasgup_raw_send(LENT, PUT);
+    case 'm': return mudasgup_raw_take(LENT, MESSAGE_BYTES, PUT);
+    case 'a': return mudasgup_raw_ack(LENT, PUT);
+    case 'l': return mudasgup_raw_all(LENT);
+    case 'x': return mudasgup_raw_next(LENT, PUT);
+    case 'n': return mudasgup_raw_note(LENT, 1);
+    case 'h': return mudasgup_raw_halt(LENT);
+    case 'R': return mudasgup_raw_rejoin(LENT, 0, 1000, doors, sizeof doors, HALTED);
+    case 'S': return mudasgup_raw_strike(LENT, 5);
+    case 'w': return mudasgup_raw_page_write(LENT, MUDASGUP_PAGE_MASK, 7);
+    default: return MUDASGUP_RAW_REFUSED;
+    }
+}
+
+/* A step, or another call. */
+static uint64_t called(char letter, const uint8_t *tree, size_t i, uint8_t *block) {
+    const char *text = tables[tree == trees[1]];
+    switch (letter) {
+    case 'f': return mudasgup_raw_frame_count(frame, sizeof frame);
+    case 'L': return mudasgup_raw_list(LENT, LINE);
+    case 'F': return mudasgup_raw_column_fresh(tree, MUDASGUP_TREE_SIZE, i, BLOCK);
+    case 'i': return mudasgup_raw_idle(LENT);
+    case 'c': return mudasgup_raw_packet_convert(MESSAGE_BYTES, PUT);
+    case 't': return mudasgup_raw_tree_check(tree, MUDASGUP_TREE_SIZE);
+    case 'T': return mudasgup_raw_tree_read((const uint8_t *)text, strlen(text), read, sizeof read);
+    case 'p': return mudasgup_raw_page_read(LENT, MUDASGUP_PAGE_PENDING);
+    case 'u': return mudasgup_raw_line_up(BLOCK);
+    case 'r': return mudasgup_raw_packet_read(MESSAGE_BYTES, PUT);
+    case 'M': return mudasgup_raw_message(0, 1, 1000, doors, sizeof doors, PUT);
+    case 'A': return mudasgup_raw_acknowledgement(0, 1, 1000, PUT);
+    case 'j': return mudasgup_raw_frame_join(MESSAGE_BYTES, frame, sizeof frame, JOINED * sizeof message);
+    case 'O': return mudasgup_raw_journal_owner(BLOCK, LINE);
+    case 'J': return mudasgup_raw_journal_sent(BLOCK, MESSAGE_BYTES, LINE);
+    case 'G': return mudasgup_raw_journal_got(BLOCK, MESSAGE_BYTES, LINE);
+    default: return stepped(letter, tree, block);
     }
 }
 
@@ -66,13 +93,13 @@ static void print_bytes(const uint8_t *bytes, size_t size) {
 
 /* Each lap begins at the same state. A refusal is no lap. */
 static int run(const struct lap *lap, uint64_t count) {
-    uint8_t first[MUDASGUP_COLUMN], block[MUDASGUP_COLUMN];
+    uint8_t first[MUDASGUP_COLUMN_SIZE], block[MUDASGUP_COLUMN_SIZE];
     uint64_t sum = 0;
-    column_out(&lap->state, first);
+    column_out(lap->i, &lap->state, first);
     for (uint64_t k = 0; k < count; k++) {
         memcpy(block, first, sizeof first);
-        size_t answer = called(lap->letter, trees[k % 2], lap->i, block);
-        if (answer >= MUDASGUP_REFUSED)
+        uint64_t answer = called(lap->letter, trees[k % 2], lap->i, block);
+        if (answer >= MUDASGUP_RAW_REFUSED)
             return 1;
         sum = fold(sum, answer);
     }
@@ -81,6 +108,7 @@ static int run(const struct lap *lap, uint64_t count) {
         print_bytes(block, sizeof block);
         print_bytes(put, sizeof put);
         print_bytes(list, sizeof list);
+        print_bytes(read, sizeof read);
     }
     return 0;
 }
@@ -88,8 +116,8 @@ static int run(const struct lap *lap, uint64_t count) {
 /* The bytes of stack that an accepted call reaches down to, on a stack of its own that was painted. */
 static ucontext_t caller, callee;
 static struct lap asked;
-static uint8_t asked_block[MUDASGUP_COLUMN];
-static size_t answered;
+static uint8_t asked_block[MUDASGUP_COLUMN_SIZE];
+static uint64_t answered;
 static const uint8_t *top;
 
 static void on_own_stack(void) {
@@ -106,10 +134,10 @@ static size_t stack_of(struct lap lap) {
     callee.uc_stack.ss_size = sizeof stack;
     callee.uc_link = &caller;
     asked = lap;
-    column_out(&lap.state, asked_block);
+    column_out(lap.i, &lap.state, asked_block);
     makecontext(&callee, on_own_stack, 0);
     swapcontext(&caller, &callee);
-    if (answered >= MUDASGUP_REFUSED)
+    if (answered >= MUDASGUP_RAW_REFUSED)
         exit(3);
     while (*lowest == PAINT)
         lowest++;
@@ -137,11 +165,12 @@ static void prepare(void) {
     for (size_t k = 0; k < 2; k++) {
         struct tree t = heap(16, 0);
         t.up[15] = (uint8_t)(6 + k);
-        trees[k][MUDASGUP_AT_COLUMNS] = (uint8_t)t.columns, trees[k][MUDASGUP_AT_ROOT] = (uint8_t)t.root;
-        memcpy(trees[k] + MUDASGUP_AT_UP, t.up, sizeof t.up);
-        memcpy(trees[k] + MUDASGUP_AT_FIRST, t.first, sizeof t.first);
+        tree_out(&t, trees[k]);
+        char *at = tables[k] + sprintf(tables[k], "columns=%zu\nroot=%zu\nup=", t.columns, t.root);
+        for (size_t j = 0; j < t.columns; j++)
+            at += sprintf(at, "%d%c", t.up[j], j + 1 < t.columns ? ',' : '\n');
     }
-    mudasgup_message(0, 1, 1000, doors, sizeof doors, message, sizeof message);
+    mudasgup_raw_message(0, 1, 1000, doors, sizeof doors, message, sizeof message);
     for (size_t k = 0; k < FRAME_PACKETS; k++)
         memcpy(frame + k * sizeof message, message, sizeof message);
 }

@@ -17,7 +17,7 @@ import unittest
 from helpers import TESTS, refusals
 
 # These take longest, so that they begin first.
-LONGEST = ["test_random", "test_firmware", "test_journals"]
+LONGEST = ["test_random", "test_firmware", "test_plain", "test_journals"]
 
 
 def names():

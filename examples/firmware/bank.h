@@ -4,25 +4,29 @@
 
 #include <mudasgup.h>
 
-#define COLUMNS 16 /* the most that a bank has */
-#define FRAME 512  /* bytes that a datagram carries at most */
-
-/* Bits of what is pending on a register page. */
-enum { RECORD_RECEIVED = 1, HALT_NOTED = 2, TOOK_OVER = 4 };
+#define FRAME 512     /* bytes that a datagram carries at most */
+#define JOURNAL 32768 /* bytes of a journal */
 
 /* What a datagram to a column begins with. */
-enum { PACKETS = 'p', ORDER = 'o', NOTE = 'n', ASK = 'a', LIST = 'l', GO_ON = 'g' };
+enum { BEGIN = 'b', PACKETS = 'p', ORDER = 'o', NOTE = 'n', STRIKE = 's', ASK = 'a', LIST = 'l', GO_ON = 'g' };
 /* And one from a column: a frame of packets for the line, or that the command is carried out. */
 enum { FOR_LINE = 'f', DONE = 'd' };
 
-/* What a column says when it has carried out a command, and whether it may have more steps to take. */
+/* What a column says when it has carried out a command. */
 struct done {
-  uint8_t kind, command, more;
+  uint8_t kind, command;
   uint8_t events; /* what was pending on its register page, which it has cleared */
-  uint32_t asked, refused; /* the number that was asked for; by which number the command was refused, or 0 */
-  uint8_t column[MUDASGUP_COLUMN];
-  uint8_t list[MUDASGUP_LIST];
-  uint32_t list_size;
+  uint32_t asked; /* the number that was asked for */
+  mudasgup_status order;
+  mudasgup_column column;
+  char list[MUDASGUP_LIST_SIZE];
+  size_t list_size;
+};
+
+/* A journal in memory that outlasts its process. */
+struct journal {
+  size_t size;
+  char text[JOURNAL];
 };
 
 /* How a column is wired: whether its line carries packets of the old width, and whether it joins packets to frames. */
@@ -30,10 +34,24 @@ struct wiring {
   int old, joins;
 };
 
-/* Runs column i on its end of a socket pair until the other end is closed. */
-void run_column(int line, const uint8_t *tree, size_t i, struct wiring wiring, unsigned seed);
+/* How a column comes back: who is the lowest that runs, its record, and the set of those that remain halted. */
+struct comeback {
+  uint32_t lowest, number, halted;
+  uint8_t doors[MUDASGUP_DOORS_SIZE];
+};
 
-/* The order number in a column's block. */
-uint32_t number_of(const uint8_t *column);
+/* What a process begins with; a fresh column has no comeback. */
+struct beginning {
+  int line;
+  const mudasgup_tree *tree;
+  uint32_t i;
+  struct wiring wiring;
+  const struct comeback *comeback;
+  struct journal *journal;
+  unsigned seed;
+};
+
+/* Runs a column on its end of a socket pair until the other end is closed. */
+void run_column(struct beginning beginning);
 
 #endif

@@ -1,178 +1,169 @@
-/* One column as a maker would drive it: it waits for a command, takes steps while it can or until it has other things to do, and says so. */
+/* The board of a column that is a process: its line is a socket, on which commands of the supervisor come one by one. What each asks for the main loop
+ * finds at its next round; then the process says what has come of it. */
+#include "board.h"
 #include "bank.h"
+#include <stdio.h>
 #include <stdlib.h>
 #include <string.h>
 #include <sys/socket.h>
 #include <unistd.h>
 
-/* What the process holds. Its block stands for battery-backed memory, and goes with it when it is killed. */
+/* What the process holds; all of it goes when it is killed, but for the journal. */
 static struct {
-  int line;
-  const uint8_t *tree;
-  size_t i;
-  struct wiring wiring;
-  unsigned seed;
-  uint8_t column[MUDASGUP_COLUMN];
+  struct beginning given;
+  mudasgup_column column;
+  struct done done;
+  uint8_t command[1 + FRAME];
+  size_t at, size; /* of the command, what has been carried out and all */
   uint8_t frame[1 + FRAME];
   size_t joined;
 } me;
 
-uint32_t number_of(const uint8_t *column) {
-  const uint8_t *number = column + MUDASGUP_AT_NUMBER;
-  return (uint32_t)number[0] << 24 | (uint32_t)number[1] << 16 | (uint32_t)number[2] << 8 | number[3];
+void board_check(mudasgup_status status) {
+  if (status == MUDASGUP_OK)
+    return;
+  fprintf(stderr, "column %u: refused with %d\n", (unsigned)me.given.i, (int)status);
+  _exit(3);
 }
 
-static void give_up(void) { _exit(3); }
+/* What is to happen now and then. */
+static int at_times(void) { return rand_r(&me.given.seed) % 4 == 0; }
+
+/* ---- commands */
+
+static void say(const void *bytes, size_t size) {
+  if (send(me.given.line, bytes, size, 0) < 0)
+    _exit(0);
+}
 
 static void flush(void) {
   if (me.joined == 0)
     return;
   me.frame[0] = FOR_LINE;
-  if (send(me.line, me.frame, 1 + me.joined, 0) < 0)
-    give_up();
+  say(me.frame, 1 + me.joined);
   me.joined = 0;
 }
 
-/* A packet that a step put goes to the line: alone or in a frame, in the line's own width. */
-static void put_on_line(const uint8_t *put, size_t size) {
-  if (size == 0)
-    return;
-  if (me.wiring.old) {
-    uint8_t narrow[MUDASGUP_PACKET];
-    size_t n = mudasgup_convert(put, size, narrow, sizeof narrow);
-    if (n >= MUDASGUP_REFUSED)
-      give_up();
-    memcpy(me.frame + 1, narrow, n);
-    me.joined = n;
-    flush();
-    return;
-  }
-  size_t n = mudasgup_join(put, size, me.frame + 1, FRAME, me.joined);
-  if (n >= MUDASGUP_REFUSED)
-    give_up();
-  me.joined += n;
-  if (!me.wiring.joins || me.joined + MUDASGUP_PACKET > FRAME || rand_r(&me.seed) % 4 == 0)
-    flush();
-}
-
-typedef size_t step(const uint8_t *, size_t, size_t, uint8_t *, size_t, uint8_t *, size_t);
-
-static size_t took(step *one) {
-  uint8_t put[MUDASGUP_PACKET];
-  size_t n = one(me.tree, MUDASGUP_TREE, me.i, me.column, sizeof me.column, put, sizeof put);
-  if (n < MUDASGUP_REFUSED)
-    put_on_line(put, n);
-  return n;
-}
-
-/* Send, ack and all, beginning with any of them, until each is refused; or 1 where it stops before. */
-static uint8_t drain(void) {
-  step *const steps[] = {mudasgup_send, mudasgup_ack, mudasgup_all};
-  unsigned refused = 0;
-  unsigned next = (unsigned)rand_r(&me.seed);
-  while (refused < 3) {
-    if (rand_r(&me.seed) % 4 == 0)
-      return 1;
-    size_t n = took(steps[next++ % 3]);
-    if (n >= MUDASGUP_REFUSED && n != MUDASGUP_REFUSED + 6)
-      give_up();
-    refused = n < MUDASGUP_REFUSED ? 0 : refused + 1;
-  }
-  return 0;
-}
-
-/* A packet that is left in its place is taken again. */
-static void take_packet(const uint8_t *packet, size_t size) {
-  uint8_t put[MUDASGUP_PACKET];
-  size_t n;
-  do {
-    n = mudasgup_take(me.tree, MUDASGUP_TREE, me.i, me.column, sizeof me.column, packet, size, put, sizeof put);
-    if (n >= MUDASGUP_REFUSED)
-      give_up();
-    put_on_line(put, n % MUDASGUP_LEFT);
-  } while (n >= MUDASGUP_LEFT);
-}
-
-/* Every packet of a frame; a line of the old width carries one, which is widened first. */
-static void take_packets(const uint8_t *bytes, size_t size) {
-  uint8_t packet[MUDASGUP_PACKET];
-  if (me.wiring.old) {
-    size_t n = mudasgup_convert(bytes, size, packet, sizeof packet);
-    if (n >= MUDASGUP_REFUSED)
-      give_up();
-    take_packet(packet, n);
-    return;
-  }
-  size_t count = mudasgup_frame(bytes, size);
-  if (count >= MUDASGUP_REFUSED)
-    give_up();
-  for (size_t at = 0; count > 0; count--) {
-    size_t used = mudasgup_read(bytes + at, size - at, packet, sizeof packet);
-    take_packet(packet, used);
-    at += used;
-  }
-}
-
-/* Carries out a command, and answers by which number it was refused, or 0. */
-static uint32_t carry_out(const uint8_t *command, size_t size, struct done *done) {
-  uint8_t put[MUDASGUP_PACKET];
-  size_t n = 0;
-  switch (command[0]) {
-  case PACKETS:
-    take_packets(command + 1, size - 1);
-    break;
-  case ORDER:
-    n = mudasgup_order(me.tree, MUDASGUP_TREE, me.i, me.column, sizeof me.column, command + 1, size - 1, put, sizeof put);
-    break;
-  case NOTE:
-    n = mudasgup_note(me.tree, MUDASGUP_TREE, me.i, me.column, sizeof me.column, command[1], put, sizeof put);
-    break;
-  case ASK:
-    memcpy(&done->asked, command + 1, sizeof done->asked);
-    break;
-  case LIST:
-    n = mudasgup_list(me.tree, MUDASGUP_TREE, me.i, me.column, sizeof me.column, done->list, sizeof done->list);
-    done->list_size = n < MUDASGUP_REFUSED ? (uint32_t)n : 0;
-    break;
-  }
-  return n < MUDASGUP_REFUSED ? 0 : (uint32_t)(n - MUDASGUP_REFUSED);
-}
-
-static void write_page(size_t offset, uint8_t value) {
-  uint8_t put[MUDASGUP_PACKET];
-  if (mudasgup_page_write(me.tree, MUDASGUP_TREE, me.i, me.column, sizeof me.column, offset, value, put, sizeof put) != 0)
-    give_up();
-}
-
-/* What the page's line tells of, as a host board would read it and clear it. */
-static uint8_t events(void) {
-  if (mudasgup_line_up(me.column, sizeof me.column) == 0)
+int board_wait(void) {
+  flush();
+  me.done.kind = DONE, me.done.column = me.column;
+  say(&me.done, sizeof me.done);
+  ssize_t size = recv(me.given.line, me.command, sizeof me.command, 0);
+  if (size <= 0)
     return 0;
-  size_t pending = mudasgup_page_read(me.tree, MUDASGUP_TREE, me.i, me.column, sizeof me.column, MUDASGUP_PAGE_PENDING);
-  if (pending >= MUDASGUP_REFUSED)
-    give_up();
-  write_page(MUDASGUP_PAGE_CLEAR, (uint8_t)pending);
-  return (uint8_t)pending;
+  memset(&me.done, 0, sizeof me.done);
+  me.done.command = me.command[0];
+  me.at = 1, me.size = (size_t)size;
+  if (me.command[0] == ASK)
+    memcpy(&me.done.asked, me.command + 1, sizeof me.done.asked);
+  return 1;
 }
 
-void run_column(int line, const uint8_t *tree, size_t i, struct wiring wiring, unsigned seed) {
-  uint8_t command[1 + FRAME];
-  me.line = line, me.tree = tree, me.i = i, me.wiring = wiring, me.seed = seed;
-  if (mudasgup_fresh(tree, MUDASGUP_TREE, i, me.column, sizeof me.column) != 0)
-    give_up();
-  write_page(MUDASGUP_PAGE_MASK, RECORD_RECEIVED | HALT_NOTED | TOOK_OVER);
-  for (;;) {
-    struct done done = {.kind = DONE};
-    ssize_t size = recv(line, command, sizeof command, 0);
-    if (size <= 0)
-      _exit(0);
-    done.command = command[0];
-    done.refused = carry_out(command, (size_t)size, &done);
-    done.more = drain();
-    flush();
-    done.events = events();
-    memcpy(done.column, me.column, sizeof done.column);
-    if (send(line, &done, sizeof done, 0) < 0)
-      give_up();
+/* Whether the command is of this kind and not yet carried out. */
+static int is_asked(uint8_t kind) {
+  if (me.command[0] != kind || me.at == 0)
+    return 0;
+  me.at = 0;
+  return 1;
+}
+
+static int named(uint8_t kind, uint32_t *who) {
+  if (!is_asked(kind))
+    return 0;
+  *who = me.command[1];
+  return 1;
+}
+
+int watch_stopped(uint32_t *who) { return named(NOTE, who); }
+
+int watch_back(uint32_t *who) { return named(STRIKE, who); }
+
+int order_given(uint8_t doors[MUDASGUP_DOORS_SIZE]) {
+  if (!is_asked(ORDER))
+    return 0;
+  memcpy(doors, me.command + 1, MUDASGUP_DOORS_SIZE);
+  return 1;
+}
+
+void order_answer(mudasgup_status status) { me.done.order = status; }
+
+int closing_time(void) { return is_asked(LIST); }
+
+void list_print(const char *text, size_t length) {
+  memcpy(me.done.list, text, length);
+  me.done.list_size = length;
+}
+
+void host_tell(uint8_t pending) { me.done.events = pending; }
+
+/* ---- the line */
+
+/* The packets of a frame one by one; a line of the old width carries one, which is widened first. */
+int line_receive(mudasgup_packet *arrived) {
+  if (me.command[0] != PACKETS || me.at >= me.size)
+    return 0;
+  if (me.given.wiring.old) {
+    board_check(mudasgup_packet_convert(me.command + 1, me.size - 1, arrived));
+    me.at = me.size;
+    return 1;
   }
+  board_check(mudasgup_packet_read(me.command + me.at, me.size - me.at, arrived));
+  me.at += arrived->size;
+  return 1;
+}
+
+int line_ready(void) { return !at_times(); }
+
+/* Alone or in a frame, in the line's own width. */
+void line_send(const mudasgup_packet *put) {
+  mudasgup_packet narrow;
+  if (me.given.wiring.old) {
+    board_check(mudasgup_packet_convert(put->bytes, put->size, &narrow));
+    memcpy(me.frame + 1, narrow.bytes, narrow.size);
+    me.joined = narrow.size;
+    flush();
+    return;
+  }
+  board_check(mudasgup_frame_join(put, me.frame + 1, FRAME, &me.joined));
+  if (!me.given.wiring.joins || me.joined + MUDASGUP_PACKET_SIZE > FRAME || at_times())
+    flush();
+}
+
+/* ---- the journal */
+
+void journal_write(const char *line, size_t length) {
+  struct journal *journal = me.given.journal;
+  if (length > sizeof journal->text - journal->size)
+    board_check(MUDASGUP_E_SPACE);
+  memcpy(journal->text + journal->size, line, length);
+  journal->size += length;
+}
+
+void journal_begin(const mudasgup_column *column) {
+  char line[MUDASGUP_JOURNAL_SIZE];
+  size_t length = 0;
+  board_check(mudasgup_journal_owner(column, line, sizeof line, &length));
+  me.given.journal->size = 0;
+  journal_write(line, length);
+}
+
+/* ---- a column begins */
+
+/* A column that lost its power has lost its block: it makes one that is halted, and comes back with the record of another. */
+static void come_back(const mudasgup_tree *tree, const struct comeback *back) {
+  board_check(mudasgup_halt(tree, &me.column));
+  board_check(mudasgup_rejoin(tree, &me.column, back->lowest, back->number, back->doors, back->halted));
+}
+
+void run_column(struct beginning beginning) {
+  me.given = beginning;
+  me.done.command = BEGIN;
+  board_check(mudasgup_column_fresh(beginning.tree, beginning.i, &me.column));
+  if (beginning.comeback)
+    come_back(beginning.tree, beginning.comeback);
+  board_check(mudasgup_page_write(beginning.tree, &me.column, MUDASGUP_PAGE_MASK,
+                                  MUDASGUP_PENDING_RECORD | MUDASGUP_PENDING_HALT | MUDASGUP_PENDING_TAKEOVER));
+  journal_begin(&me.column);
+  column_loop(beginning.tree, &me.column);
+  _exit(0);
 }

@@ -11,15 +11,21 @@
 #define PATIENCE 20000 /* milliseconds without an answer after which a bank has failed */
 
 struct bank bank;
+struct journal *journals;
 
 unsigned below(unsigned n) { return (unsigned)rand_r(&bank.seed) % n; }
 
 void fail(const char *why) {
   printf("failed: %s\n", why);
   for (size_t i = 0; i < bank.count; i++)
-    if (bank.lit[i])
+    if (bank.running[i])
       kill(bank.process[i], SIGKILL);
   exit(1);
+}
+
+static void check(mudasgup_status status, const char *why) {
+  if (status != MUDASGUP_OK)
+    fail(why);
 }
 
 /* ---- a bank */
@@ -32,40 +38,51 @@ static void shuffled(uint8_t *numbers, size_t count) {
   }
 }
 
-void random_tree(void) {
-  uint8_t sequence[COLUMNS];
-  bank.count = 1 + below(COLUMNS);
-  for (size_t k = 0; k < MUDASGUP_TREE; k++)
-    bank.tree[k] = (uint8_t)below(256);
-  shuffled(sequence, bank.count);
-  shuffled(bank.tree + MUDASGUP_AT_FIRST, bank.count);
-  bank.root = sequence[0];
-  bank.tree[0] = (uint8_t)(bank.count + (below(2) ? MUDASGUP_WATCH : 0));
-  bank.tree[MUDASGUP_AT_ROOT] = sequence[0];
-  bank.tree[MUDASGUP_AT_UP + sequence[0]] = sequence[0];
-  for (size_t k = 1; k < bank.count; k++)
-    bank.tree[MUDASGUP_AT_UP + sequence[k]] = sequence[below((unsigned)k)];
-  if (mudasgup_tree(bank.tree, sizeof bank.tree) != 0)
-    fail("the tree is refused");
+static char *put_list(char *at, const char *key, const uint8_t *numbers, size_t count) {
+  at += sprintf(at, "%s=", key);
+  for (size_t k = 0; k < count; k++)
+    at += sprintf(at, "%u%c", (unsigned)numbers[k], k + 1 < count ? ',' : '\n');
+  return at;
 }
 
-void start_column(size_t i) {
+void random_tree(void) {
+  uint8_t sequence[MUDASGUP_COLUMNS], first[MUDASGUP_COLUMNS], up[MUDASGUP_COLUMNS];
+  char table[256], *at = table;
+  size_t used;
+  bank.count = 1 + below(MUDASGUP_COLUMNS);
+  shuffled(sequence, bank.count);
+  shuffled(first, bank.count);
+  bank.root = sequence[0];
+  up[bank.root] = sequence[0];
+  for (size_t k = 1; k < bank.count; k++)
+    up[sequence[k]] = sequence[below((unsigned)k)];
+  at += sprintf(at, "columns=%zu\nroot=%zu\n", bank.count, bank.root);
+  at = put_list(at, "up", up, bank.count);
+  at = put_list(at, "first", first, bank.count);
+  at += sprintf(at, "watch=%s\n", below(2) ? "sender" : "root");
+  check(mudasgup_tree_read(&bank.tree, table, (size_t)(at - table), &used), "the table is refused");
+}
+
+void start_column(size_t i, const struct comeback *comeback) {
   int ends[2];
   bank.wiring[i] = (struct wiring){.old = below(4) == 0, .joins = below(2) == 0};
-  unsigned seed = (unsigned)rand_r(&bank.seed);
+  struct beginning beginning = {.tree = &bank.tree, .i = (uint32_t)i, .wiring = bank.wiring[i], .comeback = comeback, .journal = journals + i};
+  beginning.seed = (unsigned)rand_r(&bank.seed);
   if (socketpair(AF_UNIX, SOCK_SEQPACKET, 0, ends) != 0)
     fail("no socket");
   bank.process[i] = fork();
   if (bank.process[i] < 0)
     fail("no process");
   if (bank.process[i] == 0) {
-    for (size_t k = 0; k < i; k++)
-      close(bank.line[k]);
+    for (size_t k = 0; k < bank.count; k++)
+      if (bank.running[k])
+        close(bank.line[k]);
     close(ends[0]);
-    run_column(ends[1], bank.tree, i, bank.wiring[i], seed);
+    beginning.line = ends[1];
+    run_column(beginning);
   }
   close(ends[1]);
-  bank.line[i] = ends[0], bank.lit[i] = 1, bank.busy[i] = 0, bank.untold[i] = 0;
+  bank.line[i] = ends[0], bank.running[i] = 1, bank.busy[i] = 1, bank.untold[i] = 0;
 }
 
 void command(size_t i, uint8_t kind, const void *bytes, size_t size) {
@@ -78,108 +95,135 @@ void command(size_t i, uint8_t kind, const void *bytes, size_t size) {
 
 /* ---- the line */
 
-static void keep_packet(const uint8_t *bytes, size_t size) {
-  if (bytes[MUDASGUP_AT_TO] >= bank.count || !bank.lit[bytes[MUDASGUP_AT_TO]])
+static void keep_packet(const mudasgup_packet *packet) {
+  uint8_t to = packet->bytes[MUDASGUP_PACKET_TO];
+  if (to >= bank.count || !bank.running[to])
     return;
   if (bank.packets_count == PACKETS_MOST)
     fail("too many packets");
-  memcpy(bank.packets[bank.packets_count].bytes, bytes, size);
-  bank.packets[bank.packets_count++].size = size;
+  bank.packets[bank.packets_count++] = *packet;
   bank.carried++;
 }
 
 /* A frame from a column, in parts; a line of the old width carries one packet, which is widened. */
 static void keep_frame(size_t i, const uint8_t *bytes, size_t size) {
-  uint8_t packet[MUDASGUP_PACKET];
+  mudasgup_packet packet;
+  size_t count = 0;
   if (bank.wiring[i].old) {
-    size_t n = mudasgup_convert(bytes, size, packet, sizeof packet);
-    if (n >= MUDASGUP_REFUSED)
-      fail("no packet of the old width");
-    keep_packet(packet, n);
+    check(mudasgup_packet_convert(bytes, size, &packet), "no packet of the old width");
+    keep_packet(&packet);
     return;
   }
-  size_t count = mudasgup_frame(bytes, size);
-  if (count >= MUDASGUP_REFUSED)
-    fail("no frame");
-  for (size_t at = 0; count > 0; count--) {
-    size_t used = mudasgup_read(bytes + at, size - at, packet, sizeof packet);
-    keep_packet(packet, used);
-    at += used;
+  check(mudasgup_frame_count(bytes, size, &count), "no frame");
+  for (size_t at = 0; count > 0; count--, at += packet.size) {
+    check(mudasgup_packet_read(bytes + at, size - at, &packet), "no packet");
+    keep_packet(&packet);
   }
 }
 
 void deliver(size_t k) {
-  struct packet packet = bank.packets[k];
-  size_t to = packet.bytes[MUDASGUP_AT_TO];
-  uint8_t narrow[MUDASGUP_PACKET];
+  mudasgup_packet packet = bank.packets[k], narrow;
+  size_t to = packet.bytes[MUDASGUP_PACKET_TO];
   bank.packets[k] = bank.packets[--bank.packets_count];
   if (!bank.wiring[to].old) {
     command(to, PACKETS, packet.bytes, packet.size);
     return;
   }
-  size_t n = mudasgup_convert(packet.bytes, packet.size, narrow, sizeof narrow);
-  if (n >= MUDASGUP_REFUSED)
-    fail("not to be narrowed");
-  command(to, PACKETS, narrow, n);
+  check(mudasgup_packet_convert(packet.bytes, packet.size, &narrow), "not to be narrowed");
+  command(to, PACKETS, narrow.bytes, narrow.size);
 }
 
 /* ---- what columns say */
 
-static int is_empty(const uint8_t *set) { return set[0] == 0 && set[1] == 0; }
+uint32_t number_of(const mudasgup_column *column) {
+  const uint8_t *number = column->bytes + MUDASGUP_COLUMN_NUMBER;
+  return (uint32_t)number[0] << 24 | (uint32_t)number[1] << 16 | (uint32_t)number[2] << 8 | number[3];
+}
 
-int is_done(const uint8_t *column) { return is_empty(column + MUDASGUP_AT_SEND) && is_empty(column + MUDASGUP_AT_AWAITED); }
+static uint8_t page_byte(const mudasgup_column *column, size_t offset) {
+  uint8_t value = 0;
+  check(mudasgup_page_read(&bank.tree, column, offset, &value), "a page is refused");
+  return value;
+}
 
-/* Once the root neither sends nor awaits, every lit column is asked whether it has the root's order. */
+int is_done(const mudasgup_column *column) {
+  return page_byte(column, MUDASGUP_PAGE_SEND) == 0 && page_byte(column, MUDASGUP_PAGE_AWAITED) == 0;
+}
+
+int is_idle(const mudasgup_column *column) {
+  int idle = 0;
+  check(mudasgup_idle(&bank.tree, column, &idle), "a column's state is refused");
+  return idle;
+}
+
+/* Once the root neither sends nor awaits, every running column is asked whether it has the root's order. */
 static void ask_all(void) {
-  uint32_t number = number_of(bank.last[bank.root].column);
-  if (!is_done(bank.last[bank.root].column) || number == bank.asked)
+  uint32_t number = number_of(&bank.last[bank.root].column);
+  if (!is_done(&bank.last[bank.root].column) || number == bank.asked)
     return;
   bank.asked = number;
   for (size_t i = 0; i < bank.count; i++)
-    if (bank.lit[i])
+    if (bank.running[i])
       command(i, ASK, &number, sizeof number);
 }
 
-static void carried_out(size_t i, const struct done *done) {
-  if ((number_of(done->column) != number_of(bank.last[i].column)) != (done->events & RECORD_RECEIVED))
+static void check_page(size_t i, const struct done *done) {
+  if (done->command == BEGIN)
+    return;
+  if ((number_of(&done->column) != number_of(&bank.last[i].column)) != (done->events & MUDASGUP_PENDING_RECORD))
     fail("the page does not tell of a record");
-  if (done->command == NOTE && !(done->events & HALT_NOTED))
+  if (done->command == NOTE && !(done->events & MUDASGUP_PENDING_HALT))
     fail("the page does not tell of a note");
+}
+
+static void carried_out(size_t i, const struct done *done) {
+  check_page(i, done);
   bank.last[i] = *done;
   bank.busy[i]--;
-  if (done->command == ORDER && done->refused == 0)
+  if (done->command == ORDER && done->order == MUDASGUP_OK)
     bank.accepted++;
-  if (done->command == ORDER && done->refused != 0 && done->refused != 7)
+  else if (done->command == ORDER && done->order != MUDASGUP_E_BUSY)
     fail("an order is refused");
-  if (done->command != ORDER && done->refused != 0)
-    fail("a note or a list is refused");
-  if (done->command == ASK && number_of(done->column) < done->asked)
+  if (done->command == ASK && number_of(&done->column) < done->asked)
     fail("the root is done, and a column is without its order");
   if (i == bank.root)
     ask_all();
 }
 
 int hear(size_t i, int alive) {
-  uint8_t datagram[1 + FRAME];
+  uint8_t datagram[sizeof(struct done) > 1 + FRAME ? sizeof(struct done) : 1 + FRAME];
+  struct done done;
   ssize_t size = recv(bank.line[i], datagram, sizeof datagram, MSG_DONTWAIT);
   if (size <= 0)
     return 0;
   if (datagram[0] == FOR_LINE)
     keep_frame(i, datagram + 1, (size_t)size - 1);
   else if (alive)
-    carried_out(i, (const struct done *)(const void *)memcpy(&(struct done){0}, datagram, sizeof(struct done)));
+    carried_out(i, memcpy(&done, datagram, sizeof done));
   return 1;
 }
 
 void hear_all(int wait) {
-  struct pollfd lines[COLUMNS];
-  size_t lit[COLUMNS], count = 0;
+  struct pollfd lines[MUDASGUP_COLUMNS];
+  size_t running[MUDASGUP_COLUMNS], count = 0;
   for (size_t i = 0; i < bank.count; i++)
-    if (bank.lit[i])
-      lines[count] = (struct pollfd){.fd = bank.line[i], .events = POLLIN}, lit[count++] = i;
+    if (bank.running[i])
+      lines[count] = (struct pollfd){.fd = bank.line[i], .events = POLLIN}, running[count++] = i;
   if (poll(lines, (nfds_t)count, wait ? PATIENCE : 0) == 0 && wait)
     fail("no answer");
   for (size_t k = 0; k < count; k++)
-    if (lines[k].revents && !hear(lit[k], 1))
+    if (lines[k].revents && !hear(running[k], 1))
       fail("a column has stopped by itself");
+}
+
+static int any_busy(void) {
+  for (size_t i = 0; i < bank.count; i++)
+    if (bank.running[i] && bank.busy[i] > 0)
+      return 1;
+  return 0;
+}
+
+void hear_out(void) {
+  while (any_busy())
+    hear_all(1);
 }

@@ -3,19 +3,18 @@
 #include <stdio.h>
 
 int main(void) {
-  /* Three columns, the root 0 with both others as children, served in ascending sequence. */
-  uint8_t tree[MUDASGUP_TREE] = {3, 0, 0, 0, 0}, column[MUDASGUP_COLUMN], put[MUDASGUP_PACKET];
-  const uint8_t doors[MUDASGUP_DOORS] = {1, 2};
-  for (uint8_t place = 0; place < 16; place++)
-    tree[MUDASGUP_AT_FIRST + place] = place;
-  if (mudasgup_fresh(tree, sizeof tree, 0, column, sizeof column) != 0)
+  static const char table[] = "columns=3\nroot=0\nup=0,0,0\n";
+  const uint8_t doors[MUDASGUP_DOORS_SIZE] = {1, 2};
+  mudasgup_tree tree;
+  mudasgup_column column;
+  mudasgup_packet put;
+  size_t used;
+  if (mudasgup_tree_read(&tree, table, sizeof table - 1, &used) != MUDASGUP_OK ||
+      mudasgup_column_fresh(&tree, 0, &column) != MUDASGUP_OK ||
+      mudasgup_order(&tree, &column, doors) != MUDASGUP_OK)
     return 1;
-  size_t size = mudasgup_order(tree, sizeof tree, 0, column, sizeof column, doors, sizeof doors, put, sizeof put);
-  while (size < MUDASGUP_REFUSED) {
-    for (size_t i = 0; i < size; i++)
-      printf("%02x%s", put[i], i + 1 < size ? " " : "\n");
-    size = mudasgup_send(tree, sizeof tree, 0, column, sizeof column, put, sizeof put);
-  }
-  printf("refused=%zu\n", size - MUDASGUP_REFUSED);
+  while (mudasgup_next(&tree, &column, &put) == MUDASGUP_OK)
+    for (size_t i = 0; i < put.size; i++)
+      printf("%02x%s", put.bytes[i], i + 1 < put.size ? " " : "\n");
   return 0;
 }

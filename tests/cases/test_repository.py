@@ -80,9 +80,11 @@ class Repository(unittest.TestCase):
             self.assertIsNone(re.search(r"\bnetwork\b", read(path)), path)
 
     def test_nothing_but_the_bank_calls_what_the_core_leaves_untested(self):
+        """But for a return, which the boundary to C refuses as far as one column can tell."""
         callers = {os.path.relpath(path, os.path.join(ROOT, "crates")) for path in sources("*/src/*.rt")
                    if re.search(r"\b(column::returning|column::effect|unchecked_for_bank|fresh_under)\b", read(path))}
-        self.assertEqual({path for path in callers if not path.startswith("column/")}, {"bank/src/bank.rt", "bank/src/dispatch.rt", "bank/src/returning.rt", "bank/src/step.rt"})
+        self.assertEqual({path for path in callers if not path.startswith("column/")}, {"bank/src/bank.rt", "bank/src/dispatch.rt", "bank/src/returning.rt", "bank/src/step.rt",
+                                                                                                "firmware/src/lone.rt"})
 
     def test_nothing_but_the_script_calls_what_the_bank_leaves_untested(self):
         callers = {os.path.relpath(path, os.path.join(ROOT, "crates")) for path in sources("*/src/*.rt") if "unchecked_for_script::" in read(path)}

@@ -3,7 +3,7 @@ import ctypes
 import os
 import subprocess
 
-from archive import INCLUDE, archive
+from archive import INCLUDE, PREFIX, archive
 from repository import ROOT
 
 EXAMPLES = os.path.join(ROOT, "examples", "firmware")
@@ -18,11 +18,16 @@ def shared_object(folder):
 
 
 def compiled(folder, name, *sources, compiler=("gcc", "-std=gnu99"), options=("-O2",)):
-    """A program of the examples, without a warning."""
+    """A program of the examples, or of sources by their paths, without a warning."""
     program = os.path.join(folder, name)
     subprocess.run([*compiler, "-Wall", "-Wextra", "-Wconversion", "-Werror", *options, "-I", INCLUDE, "-o", program,
                     *(os.path.join(EXAMPLES, source) for source in sources), "-xnone", archive()], check=True)
     return program
+
+
+def use(name):
+    """The path of a program of tests/uses."""
+    return os.path.join(ROOT, "tests", "uses", name)
 
 
 class Library:
@@ -35,13 +40,13 @@ class Library:
         words, lent = [], []
         for argument in arguments:
             if isinstance(argument, int):
-                words.append(ctypes.c_size_t(argument))
+                words.append(ctypes.c_uint64(argument))
                 continue
             memory = ctypes.create_string_buffer(GUARD + bytes(argument) + GUARD, len(argument) + 2 * len(GUARD))
-            words += [ctypes.c_void_p(ctypes.addressof(memory) + len(GUARD)), ctypes.c_size_t(len(argument))]
+            words += [ctypes.c_void_p(ctypes.addressof(memory) + len(GUARD)), ctypes.c_uint64(len(argument))]
             lent.append((argument, memory))
-        function = getattr(self.functions, "mudasgup_" + name)
-        function.restype = ctypes.c_size_t
+        function = getattr(self.functions, PREFIX + name)
+        function.restype = ctypes.c_uint64
         answer = function(*words)
         left = []
         for argument, memory in lent:

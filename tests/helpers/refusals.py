@@ -14,7 +14,7 @@ ASKED = {
     "journals_main": {19, 20, 21},
     "frames_test": {12, 18},
     "pages_test": {*range(2, 8), 10, 14, 15, 16, 22},
-    "firmware": {*range(2, 9), 11, 12, 18, 22, 24},
+    "firmware": {*range(1, 9), 11, 12, 14, 15, 16, 18, 22, 24},
 }
 # Programs that have their cases in them: banks, lists, tables and short buffers that no script can hand in.
 FIXED = {

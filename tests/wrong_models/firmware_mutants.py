@@ -1,47 +1,80 @@
-"""Wrong models of the calls from C, each an edit of tests/models/model_firmware.py's source: a name, the functions of which some random call must tell it from
-the archive, the text that stands there once, and what stands in its place."""
-STEPS = ("order", "send", "ack", "all", "note", "take", "halt", "page_write")
-STATES = ("list", "page_read")
-# Steps that ask nothing of the sets.
-KEPT = ("halt", "page_write")
-# Offsets that are equal modulo one of these are one offset where a byte, 4 bytes or all bits but the highest are looked at.
+"""Wrong models of the exports, each an edit of the source of tests/models/model_firmware: a name, the exports of which some random call must tell it from the
+archive, the text that stands there once, and what stands in its place."""
+STEPS = ("order", "send", "ack", "all", "note", "take", "next", "halt", "page_write", "rejoin", "strike")
+STATES = ("list", "page_read", "idle")
+EVERY = (*STEPS, *STATES)
+# Calls that ask nothing of the sets.
+KEPT = (*STATES, "halt", "page_write")
+JOURNAL = ("journal_sent", "journal_got")
+# Numbers that are equal modulo one of these are one number where a byte, 4 bytes or all bits but the highest are looked at.
 PASSED_OVER = (256, 2 ** 32, 2 ** 63)
 
-WRONG = [
-    # sizes
-    ("a block that is too long is taken", ("tree",), "len(block) != size", "len(block) < size"),
+SIZES = [
+    ("a block that is too long is taken", ("tree_check",), "len(block) != size", "len(block) < size"),
     ("a block that is too short is taken", ("acknowledgement",), "len(block) != size and", "len(block) > size and"),
-    ("24 after the tree", ("list",), "    sized((block, TREE), (column, COLUMN))\n    text =", "    sized((block, TREE))\n    lone(block, i)\n    sized((column, COLUMN))\n    text ="),
-    ("12 before 24", ("take",), "    sized((block, TREE), (column, COLUMN), (put, PACKET))\n    fields, _ = Reader().packet(packet)\n",
-     "    fields, _ = Reader().packet(packet)\n    sized((block, TREE), (column, COLUMN), (put, PACKET))\n"),
+    ("24 after the tree", ("list",), "    are_blocks(tree, column)\n    bank, i = lone(tree, column)\n    return text_of(bank.list",
+     "    sized((tree, TREE))\n    fresh_bank(tree)\n    are_blocks(tree, column)\n    bank, i = lone(tree, column)\n    return text_of(bank.list"),
+    ("12 before 24", ("take",), "    are_blocks(tree, column, (put, PACKET))\n    fields, _ = Reader().packet(packet)\n",
+     "    fields, _ = Reader().packet(packet)\n    are_blocks(tree, column, (put, PACKET))\n"),
     ("doors of any size", ("message",), "sized((doors, DOORS), (packet, PACKET))", "sized((packet, PACKET))\n    doors = doors.ljust(8, b\"\\0\")[:8]"),
-    # trees
-    ("the watch counts columns", ("tree",), "block[0] % 128", "block[0]"),
-    ("the watch is passed over", ("all", "take", "order", "ack"), '"sender" if block[0] >= 128 else "root"', '"root"'),
-    ("no column is 3", ("tree",), "not 1 <= columns <= 16", "columns > 16"),
-    ("17 columns are 3", ("tree",), "not 1 <= columns <= 16", "not 1 <= columns <= 17"),
-    ("what stands past the parents is tested", ("tree",), "for parent in up[:columns]", "for parent in up"),
-    ("what stands past the sequence is tested", ("tree",), "sorted(first[:columns]) != list(range(columns))", "sorted(first) != list(range(16))"),
-    ("a sequence may repeat a column", ("tree",), "sorted(first[:columns]) != list(range(columns))", "max(first[:columns]) >= columns"),
-    ("a climb may go round", ("tree",), "at != root and", "False and"),
-    ("a climb stops two early", ("tree",), "        for _ in range(columns):", "        for _ in range(columns - 2):"),
-    # columns
-    ("a number low first", ("order", "send", "list"), 'int.from_bytes(block[8:12], "big")', 'int.from_bytes(block[8:12], "little")'),
+    ("doors of any size come back", ("rejoin",), "    are_blocks(tree, column, (doors, DOORS))\n    bank, i = lone(tree, column)\n    count",
+     "    are_blocks(tree, column)\n    doors = doors.ljust(8, b\"\\0\")[:8]\n    bank, i = lone(tree, column)\n    count"),
+    # layouts
+    ("a tree of another layout is taken", EVERY, '    refuse(24, tree[0] != LAYOUT_TREE and "a tree of another layout")\n    refuse(24, column', "    refuse(24, column"),
+    ("a column of another layout is taken", EVERY, '    refuse(24, column[0] != LAYOUT_COLUMN and "a column of another layout")\n\n\n# ---- trees', "\n\n# ---- trees"),
+    ("a tree of another layout is checked", ("tree_check",), '    refuse(24, tree[0] != LAYOUT_TREE and "a tree of another layout")\n    check_tree(', "    check_tree("),
+    ("a line of another layout", ("line_up", "journal_owner", *JOURNAL), '    refuse(24, column[0] != LAYOUT_COLUMN and "a column of another layout")\n\n\ndef line_up', "\n\ndef line_up"),
+    ("a fresh column asks for a layout", ("column_fresh",), "    bank = fresh_bank(tree)\n    refuse(4, i >=",
+     "    refuse(24, column[0] != LAYOUT_COLUMN and \"layout\")\n    bank = fresh_bank(tree)\n    refuse(4, i >="),
+    ("a layout of one bit less", EVERY, "column[0] != LAYOUT_COLUMN and \"a column of another layout\")\n\n\n# ---- trees", "column[0] & 127 != LAYOUT_COLUMN and \"x\")\n\n\n# ---- trees"),
+    ("a tree's layout is left in a column", STEPS, "bytes([LAYOUT_COLUMN, i])", "bytes([LAYOUT_TREE, i])"),
+]
+
+TREES = [
+    ("the watch counts columns", ("tree_check",), "block[1] % WATCH", "block[1]"),
+    ("the watch is passed over", ("all", "take", "order", "ack", "next", "idle"), '"sender" if block[1] >= WATCH else "root"', '"root"'),
+    ("no column is 3", ("tree_check",), "not 1 <= columns <= 16", "columns > 16"),
+    ("17 columns are 3", ("tree_check",), "not 1 <= columns <= 16", "not 1 <= columns <= 17"),
+    ("what stands past the parents is tested", ("tree_check",), "for parent in up[:columns]", "for parent in up"),
+    ("what stands past the sequence is tested", ("tree_check",), "sorted(first[:columns]) != list(range(columns))", "sorted(first) != list(range(16))"),
+    ("a sequence may repeat a column", ("tree_check",), "sorted(first[:columns]) != list(range(columns))", "max(first[:columns]) >= columns"),
+    ("a climb may go round", ("tree_check",), "at != root and", "False and"),
+    ("a climb stops two early", ("tree_check",), "        for _ in range(columns):", "        for _ in range(columns - 2):"),
+    # tables
+    ("a table is read without its watch", ("tree_read",), 'WATCH * (bank.watch == "sender")', "0"),
+    ("a table's watch is turned round", ("tree_read",), 'bank.watch == "sender"', 'bank.watch != "sender"'),
+    ("a table's sequence is passed over", ("tree_read",), 'if b"\\nfirst=" in text[:used] else', "if not text else"),
+    ("a table's sequence goes on ascending", ("tree_read",), "[*bank.first, *[0] * 16][:16]", "[*bank.first, *range(16)][:16]"),
+    ("a table is told with what follows it", ("tree_read",), "len(text) - len(rest)", "len(text)"),
+    ("a table must end the text", ("tree_read",), "    used = len(text) - len(rest)\n", '    refuse(1, rest and "more")\n    used = len(text) - len(rest)\n'),
+    ("a table's root and count change places", ("tree_read",), 'count + WATCH * (bank.watch == "sender"), bank.root,', 'bank.root, count + WATCH * (bank.watch == "sender"),'),
+]
+
+COLUMNS = [
+    ("a number low first", ("order", "send", "list"), 'int.from_bytes(block[NUMBER:MEMBERS], "big")', 'int.from_bytes(block[NUMBER:MEMBERS], "little")'),
     ("a number left low first", STEPS, 'column.number.to_bytes(4, "big")', 'column.number.to_bytes(4, "little")'),
-    ("a set low first", STEPS + STATES, 'int.from_bytes(block[12 + 2 * k:14 + 2 * k], "big")', 'int.from_bytes(block[12 + 2 * k:14 + 2 * k], "little")'),
-    ("those awaited where those owed stand", STEPS + STATES, '("send", "awaited", "owed", "noted")', '("send", "owed", "awaited", "noted")'),
-    ("the goal where running stands", STEPS + STATES, "bool(block[STATUS] & 1), bool(block[STATUS] & 2)", "bool(block[STATUS] & 2), bool(block[STATUS] & 1)"),
-    ("a sender of four bits", STATES + KEPT, "block[STATUS] >> 2\n", "block[STATUS] >> 2 & 15\n"),
+    ("a set low first", EVERY, 'block[MEMBERS + 2 * k:MEMBERS + 2 * k + 2], "big"', 'block[MEMBERS + 2 * k:MEMBERS + 2 * k + 2], "little"'),
+    ("those awaited where those owed stand", EVERY, '("send", "awaited", "owed", "noted")', '("send", "owed", "awaited", "noted")'),
+    ("the goal where running stands", EVERY, "bool(block[STATUS] & 1), bool(block[STATUS] & 2)", "bool(block[STATUS] & 2), bool(block[STATUS] & 1)"),
+    ("a sender of four bits", EVERY, "block[STATUS] >> 2\n", "block[STATUS] >> 2 & 15\n"),
     ("the sender is not left", STEPS, "column.running + 2 * column.whole + 4 * column.sender", "column.running + 2 * column.whole"),
     ("what is pending where the mask stands", STEPS, "bytes([status, bank.masks[i], bank.pending[i]])", "bytes([status, bank.pending[i], bank.masks[i]])"),
-    ("a member not below columns passes", STATES + KEPT, 'refuse(4, any(member >= columns for name in SETS for member in getattr(column, name)) and "no such member")', "pass"),
-    ("a noted member not below columns passes", STATES + KEPT, "for name in SETS for member", "for name in SETS[:3] for member"),
-    ("a column may owe itself", STATES + KEPT, 'refuse(4, i in column.owed and "owing itself")', "pass"),
-    ("a column may not await itself", STATES + KEPT, "i in column.owed and", "i in column.owed | column.awaited and"),
-    ("a root may have its own goal", STATES + KEPT, 'refuse(4, i == root and not column.whole and "a root with its own goal")', "pass"),
-    ("any sender passes", STATES + KEPT, 'refuse(4, column.sender >= columns and "no such sender")', "pass"),
-    ("a fresh column is halted", ("fresh",), "    return 0, column_block(lone(block, i), i)", "    bank = lone(block, i)\n    bank.columns[i].running = False\n    return 0, column_block(bank, i)"),
-    # packets
+    ("a mask read from the status", STEPS, "= block[MASK:COLUMN]", "= block[STATUS:MASK + 1]"),
+    ("doors read a byte further", EVERY, "bytes(block[RECORD:NUMBER])", "bytes(block[RECORD + 1:NUMBER + 1])"),
+    ("another column's block", EVERY, "bank, i = fresh_bank(tree), block[OWN]", "bank, i = fresh_bank(tree), block[OWN] % 16"),
+    ("the root's number is taken for the own", EVERY, "bank, i = fresh_bank(tree), block[OWN]", "bank, i = fresh_bank(tree), block[OWN] and tree[2]"),
+    ("the own number is not left", STEPS, "bytes([LAYOUT_COLUMN, i])", "bytes([LAYOUT_COLUMN, 0])"),
+    ("a member not below columns passes", KEPT, 'refuse(4, any(member >= columns for name in SETS for member in getattr(column, name)) and "no such member")', "pass"),
+    ("a noted member not below columns passes", KEPT, "for name in SETS for member", "for name in SETS[:3] for member"),
+    ("a column may owe itself", EVERY, 'refuse(4, i in column.owed and "owing itself")', "pass"),
+    ("a column may not await itself", EVERY, "i in column.owed and", "i in column.owed | column.awaited and"),
+    ("a root may have its own goal", EVERY, 'refuse(4, i == root and not column.whole and "a root with its own goal")', "pass"),
+    ("any sender passes", EVERY, 'refuse(4, column.sender >= columns and "no such sender")', "pass"),
+    ("a fresh column is halted", ("column_fresh",), "    return 0, column_block(bank, i)\n\n\ndef text_of", "    bank.columns[i].running = False\n    return 0, column_block(bank, i)\n\n\ndef text_of"),
+    *((f"a fresh column modulo {most}", ("column_fresh",), "    bank = fresh_bank(tree)\n    refuse(4, i >=", f"    bank, i = fresh_bank(tree), i % {most}\n    refuse(4, i >=") for most in PASSED_OVER),
+]
+
+PACKETS = [
     ("an end of 16 is written", ("message", "acknowledgement"), "max(sender, receiver) > 15", "max(sender, receiver) > 16"),
     ("equal ends are written", ("message", "acknowledgement"), "(max(sender, receiver) > 15 or sender == receiver)", "max(sender, receiver) > 15"),
     ("the old kinds are written", ("message", "acknowledgement"), '3 if kind == "message" else 4', '1 if kind == "message" else 2'),
@@ -50,38 +83,108 @@ WRONG = [
     ("a message to the root is 4 whoever is watched", ("take",), 'bank.watch == "root" and', ""),
     ("an acknowledgement to the root is 4", ("take",), "kind == 3 and receiver == bank.root", "receiver == bank.root"),
     ("another addressee is 12", ("take",), "refuse(4, receiver != i", "refuse(12, receiver != i"),
+    ("another addressee is passed over", ("take",), 'refuse(4, receiver != i and "another addressee")', "pass"),
     ("an end not below columns is 12", ("take",), "refuse(4, max(sender, receiver) >=", "refuse(12, max(sender, receiver) >="),
-    ("what is put is not filled up", STEPS, 'put.ljust(PACKET, b"\\0")', "put"),
-    ("what is put is not told", STEPS, "return len(put), column_block(bank, i)", "return 0, column_block(bank, i)"),
-    # steps
+    ("what is put is not filled up", ("send", "ack", "take", "next"), 'put.ljust(PACKET, b"\\0")', "put"),
+    ("what is put is not told", ("send", "ack", "take", "next"), "return len(put), column_block(bank, i)", "return 0, column_block(bank, i)"),
+    ("bytes after a packet are 12", ("packet_read",), "    _, used = Reader().packet(data)\n    return used, data", '    _, used = Reader().packet(data)\n    refuse(12, len(data) > used and "more")\n    return used, data'),
+    ("bytes after a packet are left", ("packet_read",), 'data[:used].ljust(PACKET, b"\\0")', 'data[:PACKET].ljust(PACKET, b"\\0")'),
+    ("what follows a packet is kept", ("message", "acknowledgement", "packet_convert"), 'len(data), data.ljust(PACKET, b"\\0")', "len(data), data + packet[len(data):]"),
+    ("a converted packet is told with fifteen bytes", ("packet_convert",), "written(Converter().converted(data), packet)", "(PACKET, written(Converter().converted(data), packet)[1])"),
+    ("a frame is told by its bytes", ("frame_count",), "(len(Reader().packets(data)),)", "((Reader().packets(data), len(data))[1],)"),
+    ("an empty frame is 12", ("frame_count",), "(len(Reader().packets(data)),)", "((refuse(12, not data and \"empty\"), len(Reader().packets(data)))[1],)"),
+    ("a packet that fits is 11", ("frame_join",), "at + used > len(buffer)", "at + used >= len(buffer)"),
+    ("11 before 12", ("frame_join",), "    _, used = Reader().packet(data)\n    count", '    refuse(11, at >= len(buffer) and "no room")\n    _, used = Reader().packet(data)\n    count'),
+    ("a joined packet ends the frame", ("frame_join",), "buffer[:at] + data[:used] + buffer[at + used:]", 'buffer[:at] + data[:used] + bytes(len(buffer) - at - used)'),
+    ("513 packets are joined", ("frame_join",), '    refuse(11, count == 512 and "a full frame")\n', ""),
+    ("512 packets are not joined", ("frame_join",), "count == 512", "count >= 511"),
+    ("a full frame is 12", ("frame_join",), "refuse(11, count == 512", "refuse(12, count == 512"),
+    ("a packet is joined to no frame", ("frame_join",), "    count = len(Reader().packets(buffer[:at]))\n", "    count = 0\n"),
+    ("the bytes after the place are to be a frame", ("frame_join",), "Reader().packets(buffer[:at])", "Reader().packets(buffer)"),
+]
+
+TAKEN = [
     ("an order to any column", ("order",), 'refuse(4, i != bank.root and "an order elsewhere")', "pass"),
     ("an order elsewhere is 5", ("order",), "refuse(4, i != bank.root", "refuse(5, i != bank.root"),
-    ("a note of a running column", ("note",), "bank.columns[more[0]].running and more[0] == i", "bank.columns[more[0]].running"),
-    ("a second column is not tested", ("note",), 'refuse(4, more[0] >= len(bank.columns) and "no such second column")', "more = (more[0] % len(bank.columns),)"),
+    ("a note of a running column", ("note",), "bank.columns[j].running and j == i", "bank.columns[j].running"),
+    ("a second column is not tested", ("note",), 'refuse(4, j >= len(bank.columns) and "no such second column")', "j %= len(bank.columns)"),
     ("a halted column takes", ("take",), 'refuse(5, not bank.columns[i].running and "halted")', "pass"),
     ("5 before 4", ("take",), "    check_packet(bank, i, fields)\n    refuse(5,", "    refuse(5, not bank.columns[i].running and \"halted\")\n    check_packet(bank, i, fields)\n    refuse(5,"),
-    ("12 after the tree", ("take",), "    fields, _ = Reader().packet(packet)\n    bank = lone(block, i, column)\n", "    bank = lone(block, i, column)\n    fields, _ = Reader().packet(packet)\n"),
+    ("12 after the tree", ("take",), "    fields, _ = Reader().packet(packet)\n    bank, i = lone(tree, column)\n", "    bank, i = lone(tree, column)\n    fields, _ = Reader().packet(packet)\n"),
     ("a packet left in its place is not told", ("take",), "size + LEFT * left", "size"),
     ("every taken packet is told to be left", ("take",), "size + LEFT * left", "size + LEFT"),
     ("doors low byte last", ("take",), 'doors[0].to_bytes(8, "little")', 'doors[0].to_bytes(8, "big")'),
-    # lists, pages
-    ("a list that fits is 11", ("list",), "len(text) > len(buffer)", "len(text) >= len(buffer)"),
-    ("a list one byte too long", ("list",), "len(text) > len(buffer)", "len(text) > len(buffer) + 1"),
-    ("a list clears what follows it", ("list",), "text + buffer[len(text):]", 'text.ljust(len(buffer), b"\\0")'),
-    ("11 before 5", ("list",), "    text = lone(", "    refuse(11, len(buffer) < 36 and \"no room\")\n    text = lone("),
-    ("the line up where anything is pending", ("line_up",), "int(column[21] & column[22] != 0)", "int(column[22] != 0)"),
-    ("the line up where all that is asked for is pending", ("line_up",), "int(column[21] & column[22] != 0)", "int(column[21] & column[22] == column[21] != 0)"),
+    # next and idle
+    ("next acknowledges before it sends", ("next",), 'for name in ("send", "ack", "all"):', 'for name in ("ack", "send", "all"):'),
+    ("next takes over before it acknowledges", ("next",), 'for name in ("send", "ack", "all"):', 'for name in ("send", "all", "ack"):'),
+    ("next never takes over", ("next",), 'for name in ("send", "ack", "all"):', 'for name in ("send", "ack"):'),
+    ("next does all that it can", ("next",), "            getattr(bank, name)(i)\n            return stepped(bank, i)\n",
+     "            getattr(bank, name)(i)\n            getattr(bank, name)(i)\n            return stepped(bank, i)\n"),
+    ("a halted column is not idle", ("idle",), "not bank.columns[i].running or bool(", "bool("),
+    ("a halted column is not struck", ("strike",), "not bank.columns[i].running or bool(", "bool("),
+    ("one that may take over is idle", ("idle",), "bank.refused_send(i) and bank.refused_ack(i) and bank.refused_all(i)", "bank.refused_send(i) and bank.refused_ack(i)"),
+    ("one that owes is not idle", ("idle",), "bank.refused_send(i) and bank.refused_ack(i) and", "bank.refused_send(i) and not bank.columns[i].owed and"),
+    ("one that awaits is not idle", ("idle",), "bool(bank.refused_send(i) and", "bool(not bank.columns[i].awaited and bank.refused_send(i) and"),
+    ("idle is told the other way round", ("idle",), "(int(rests(*lone(tree, column))),)", "(int(not rests(*lone(tree, column))),)"),
+]
+
+RETURNS = [
+    ("a return keeps its record", ("rejoin",), "    bank.back(i)\n", "    kept = bank.columns[i]\n    bank.back(i)\n    bank.columns[i].number, bank.columns[i].doors = kept.number, kept.doors\n"),
+    ("a return keeps its number", ("rejoin",), "    bank.back(i)\n", "    kept = bank.columns[i].number\n    bank.back(i)\n    bank.columns[i].number = kept\n"),
+    ("a return keeps its sets", ("rejoin",), "    bank.back(i)\n", "    kept = bank.columns[i]\n    bank.back(i)\n    bank.columns[i].owed, bank.columns[i].awaited = kept.owed, kept.awaited\n"),
+    ("a return keeps those noted", ("rejoin",), "    bank.back(i)\n", "    kept = bank.columns[i].noted\n    bank.back(i)\n    bank.columns[i].noted = kept\n"),
+    ("a return notes nobody", ("rejoin",), "    bank.back(i)\n", "    bank.back(i)\n    bank.columns[i].noted = set()\n"),
+    ("a return has the whole bank as goal", ("rejoin",), "    bank.back(i)\n", "    bank.back(i)\n    bank.columns[i].whole = True\n"),
+    ("a return has its subtree as goal", ("rejoin",), "    bank.back(i)\n", "    bank.back(i)\n    bank.columns[i].whole = False\n"),
+    ("a return keeps its goal", ("rejoin",), "    bank.back(i)\n", "    kept = bank.columns[i].whole\n    bank.back(i)\n    bank.columns[i].whole = kept\n"),
+    ("a return has the root as sender", ("rejoin",), "    bank.back(i)\n", "    bank.back(i)\n    bank.columns[i].sender = bank.root\n"),
+    ("a return clears its page", ("rejoin",), "    bank.back(i)\n", "    bank.back(i)\n    bank.masks[i] = bank.pending[i] = 0\n"),
+    ("a return is told on its page", ("rejoin",), "    bank.back(i)\n", "    bank.back(i)\n    bank.pending[i] |= 1\n"),
+    ("a running column may come back", ("rejoin",), "    bank.back(i)\n", "    bank.columns[i].running = False\n    bank.back(i)\n"),
+    ("the root may come back", ("rejoin",), "    bank.back(i)\n", "    kept, bank.root = bank.root, -1\n    bank.back(i)\n    bank.root = kept\n"),
+    ("16 before 15", ("rejoin",), "    bank.back(i)\n", "    refuse(16, not bank.columns[i].running and not others and \"nobody\")\n    bank.back(i)\n"),
+    ("15 before 6", ("rejoin",), "    bank.back(i)\n", "    refuse(15, i == bank.root and \"the root\")\n    bank.back(i)\n"),
+    ("6 before 4 of the lowest", ("rejoin",), '    refuse(4, others and lowest', '    refuse(6, bank.columns[i].running and "runs")\n    refuse(4, others and lowest'),
+    ("any lowest passes", ("rejoin",), '    refuse(4, others and lowest != others[0] and "not the lowest")\n', ""),
+    ("the lowest must be told where nobody runs", ("rejoin",), "others and lowest != others[0]", "lowest != (others or [0])[0]"),
+    ("the lowest may be any that runs", ("rejoin",), "lowest != others[0]", "lowest not in others"),
+    ("itself to remain halted passes", ("rejoin",), '    refuse(4, halted >> i & 1 and "itself to remain halted")\n', ""),
+    ("a halted column that the tree has not passes", ("rejoin",), '    refuse(4, halted >> count and "no such halted column")\n', "    halted %= 1 << count\n"),
+    ("of those halted sixteen bits count", ("rejoin",), "refuse(4, halted >> count and", "halted %= 65536\n    refuse(4, halted >> count and"),
+    ("of those halted 32 bits count", ("rejoin",), "refuse(4, halted >> count and", "halted %= 2 ** 32\n    refuse(4, halted >> count and"),
+    *((f"the lowest modulo {most}", ("rejoin",), "    count = len(bank.columns)\n    refuse(4, halted", f"    count, lowest = len(bank.columns), lowest % {most}\n    refuse(4, halted") for most in PASSED_OVER),
+    ("a strike leaves the noted", ("strike",), "    bank.columns[i].noted.discard(back)\n", ""),
+    ("a strike clears all noted", ("strike",), "noted.discard(back)", "noted.clear()"),
+    ("a strike notes", ("strike",), "noted.discard(back)", "noted.add(back)"),
+    ("a strike at work", ("strike",), '    refuse(14, not rests(bank, i) and "not idle")\n', ""),
+    ("a strike of itself", ("strike",), '    refuse(4, back == i and "itself back")\n', ""),
+    ("a strike of itself is 14", ("strike",), 'refuse(4, back == i and', "refuse(14, back == i and"),
+    ("14 before 4", ("strike",), '    refuse(4, back >= len(bank.columns) and', '    refuse(14, not rests(bank, i) and "not idle")\n    refuse(4, back >= len(bank.columns) and'),
+    *((f"a strike modulo {most}", ("strike",), "    refuse(4, back >=", f"    back %= {most}\n    refuse(4, back >=") for most in PASSED_OVER),
+]
+
+TEXTS = [
+    ("a text that fits is 11", ("list", "journal_owner", *JOURNAL), "len(line) > len(buffer)", "len(line) >= len(buffer)"),
+    ("a text one byte too long", ("list", "journal_owner", *JOURNAL), "len(line) > len(buffer)", "len(line) > len(buffer) + 1"),
+    ("a text clears what follows it", ("list", "journal_owner", *JOURNAL), "line + buffer[len(line):]", 'line.ljust(len(buffer), b"\\0")'),
+    ("11 before 5", ("list",), "    return text_of(bank.list", "    refuse(11, len(buffer) < 36 and \"no room\")\n    return text_of(bank.list"),
+    ("the line up where anything is pending", ("line_up",), "int(column[MASK] & column[PENDING] != 0)", "int(column[PENDING] != 0)"),
+    ("the line up where all that is asked for is pending", ("line_up",), "int(column[MASK] & column[PENDING] != 0)", "int(column[MASK] & column[PENDING] == column[MASK] != 0)"),
     *((f"offsets of a read modulo {most}", ("page_read",), ".read(i, offset),)", f".read(i, offset % {most}),)") for most in PASSED_OVER),
     *((f"offsets of a write modulo {most}", ("page_write",), "bank.write(i, offset, value)", f"bank.write(i, offset % {most}, value)") for most in PASSED_OVER),
-    # bytes
-    ("bytes after a packet are 12", ("read",), "    _, used = Reader().packet(data)\n    return used, data", '    _, used = Reader().packet(data)\n    refuse(12, len(data) > used and "more")\n    return used, data'),
-    ("bytes after a packet are left", ("read",), 'data[:used].ljust(PACKET, b"\\0")', 'data[:PACKET].ljust(PACKET, b"\\0")'),
-    ("what follows a packet is kept", ("message", "acknowledgement", "convert"), 'len(data), data.ljust(PACKET, b"\\0")', "len(data), data + packet[len(data):]"),
-    ("a converted packet is told with fifteen bytes", ("convert",), "written(Converter().converted(data), packet)", "(PACKET, written(Converter().converted(data), packet)[1])"),
-    ("a frame is told by its bytes", ("frame",), "len(Reader().packets(data))", "(Reader().packets(data), len(data))[1]"),
-    ("an empty frame is 12", ("frame",), "len(Reader().packets(data))", "(refuse(12, not data and \"empty\"), len(Reader().packets(data)))[1]"),
-    ("a packet that fits is 11", ("join",), "at + used > len(buffer)", "at + used >= len(buffer)"),
-    ("11 before 12", ("join",), "    _, used = Reader().packet(data)\n    refuse(11", '    refuse(11, at >= len(buffer) and "no room")\n    _, used = Reader().packet(data)\n    refuse(11'),
-    ("a joined packet ends the frame", ("join",), "buffer[:at] + data[:used] + buffer[at + used:]", 'buffer[:at] + data[:used] + bytes(len(buffer) - at - used)'),
+    # journals
+    ("the kinds of a journal are swapped", JOURNAL, "{1 if kind == 3 else 2}", "{2 if kind == 3 else 1}"),
+    ("the kinds of a journal are the packet's", JOURNAL, "{1 if kind == 3 else 2}", "{kind}"),
+    ("what was sent is told as got", JOURNAL, 'f"{way}={1', 'f"{\'got\' if way == \'sent\' else \'sent\'}={1'),
+    ("a journal names its owner as the other", JOURNAL, ",{other},{number}", ",{own},{number}"),
+    ("a journal of any packet", JOURNAL, '    refuse(4, own != column[OWN] and f"not {way} by this column")\n', ""),
+    ("a journal of what was sent and got", JOURNAL, "own != column[OWN] and", "column[OWN] not in (own, other) and"),
+    ("a journal's line does not end", JOURNAL, ',{number}\\n".encode(), text)', ',{number}".encode(), text)'),
+    ("a journal's number before the other", JOURNAL, "{other},{number}", "{number},{other}"),
+    ("4 before 12 in a journal", JOURNAL, "    kind, sender, receiver, number = Reader()", "    refuse(4, len(packet) > 2 and column[OWN] not in packet[1:3] and \"x\")\n    kind, sender, receiver, number = Reader()"),
+    ("another owner", ("journal_owner",), "{column[OWN]}", "{column[RECORD]}"),
+    ("an owner of one digit", ("journal_owner",), "{column[OWN]}", "{column[OWN] % 10}"),
     ("a refused call clears what it was lent", STEPS, "return (REFUSED + refusal.number, *buffers)", "return (REFUSED + refusal.number, *map(bytes, map(len, buffers)))"),
 ]
+
+WRONG = [*SIZES, *TREES, *COLUMNS, *PACKETS, *TAKEN, *RETURNS, *TEXTS]

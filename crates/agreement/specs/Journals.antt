@@ -7,12 +7,11 @@ use mathlib.Core.List.{List, [], _∷_, _++_, List·Memᴰ}
 use lib.Dec.{eqb}
 use lib.ListN.{length}
 use Rattle.column.specs.Trees.{treeRefusal}
-use Rattle.column.specs.Packets.{sender, receiver, numberOf}
+use Rattle.column.specs.Packets.{sender, receiver}
 use Rattle.column.specs.Steps as core
 use Rattle.column.specs.Columns.{numbers}
 use Rattle.column.specs.declared.tree.Tree.{Tree}
 use Rattle.column.specs.declared.packet.Packet.{Packet}
-use Rattle.column.specs.declared.packet.Packet.the-variants.{Message, Acknowledgement}
 use Rattle.list.specs.Closing.{placed}
 use Rattle.bank.specs.Banks.{State, columnAt, runs, packetAt, capacity}
 use Rattle.bank.specs.Steps.{Result, accepted, refused}
@@ -21,23 +20,11 @@ use Rattle.bank.specs.StepKinds.{isBack}
 use Rattle.bank.specs.declared.bank.Step.{Step}
 use Rattle.bank.specs.declared.bank.Step.the-variants.{Order, Send, Take, Ack, All, Note, Halt, Back, Write}
 use Rattle.journals.specs.Journals.{line, journalText, journalLimit, missingText, compared, Once, journal}
+use Rattle.journals.specs.PacketLines.{sentLine, gotLine}
 use Rattle.journals.specs.declared.line.Way.the-variants.{Sent, Got}
 use Rattle.journals.specs.declared.line.Line.{Line}
 use Rattle.agreement.specs.History.{World, leftBy, told}
 use Rattle.agreement.specs.Agreement.{begin}
-
--- ---- a line: "`sent=` or `got=` with kind, other column and number"
-
--- "Kind is 1 for messages and 2 for acknowledgements of either width."
-abbrev pub kindOf : Packet → ℕ
-kindOf (Message from to number doors) = 1
-kindOf (Acknowledgement from to number) = 2
-
-abbrev pub sentLine : Packet → Line
-sentLine p = line Sent (kindOf p) (receiver p) (numberOf p)
-
-abbrev pub gotLine : Packet → Line
-gotLine p = line Got (kindOf p) (sender p) (numberOf p)
 
 -- ---- journals: each column's lines, the oldest first
 

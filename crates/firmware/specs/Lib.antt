@@ -1,4 +1,6 @@
 pub mod Blocks
+pub mod LoneSteps
 pub mod Calls
 pub mod inner
 pub mod laws
+pub mod examples

@@ -1,1 +1,2 @@
 pub mod StepCalls
+pub mod JournalTexts

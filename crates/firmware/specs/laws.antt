@@ -3,3 +3,10 @@ pub mod CallLaws
 pub mod PutLaws
 pub mod AnswerLaws
 pub mod KeptLaws
+pub mod FillLaws
+pub mod FitLaws
+pub mod LoneLaws
+pub mod JournalTextLaws
+pub mod PacketCopies
+pub mod ReturnCalls
+pub mod TableLength

@@ -6,52 +6,82 @@ use column::number_bytes::put_low_first;
 use column::packet::Number;
 use column::state::Column;
 use column::tree::Tree;
-ghost use Prim.Native.Nat.{_≤_};
+ghost use Prim.Native.Nat.{_+_, _-_, _≤_};
 ghost use mathlib.Core.Path.{_≡_};
 ghost use lib.ListN.{length};
-ghost use Rattle.column.specs.Packets.{lowFirst, highFirst, highValue, numberSize, doorsSize};
-ghost use Rattle.firmware.specs.Blocks.{bit, treeSize, treeIn, columnSize, columnIn, columnBytes, setSize, statusOf, blockSizes};
+ghost use Rattle.column.specs.Packets.{lowFirst, highFirst, highValue, numberSize};
+ghost use Rattle.text.specs.Text.{written};
+ghost use Rattle.firmware.specs.Blocks.{bit, treeSize, isTree, treeIn, treeBytes, columnSize, isColumn, ownIn, columnIn, columnBytes, setSize, statusOf, areBlocks};
 
-pub const TREE_SIZE: usize = 34;
+pub const TREE_SIZE: usize = 35;
 
-pub const COLUMN_SIZE: usize = 23;
+pub const COLUMN_SIZE: usize = 25;
 
 pub const DOORS_SIZE: usize = 8;
 
-// Bit 7 of a tree's first byte: whether a column watches the one that sent its record.
+// Byte 0 of every block tells what it is, and in which version of the layout: 0x12 a tree, 0x22 a column.
+const LAYOUT: usize = 0;
+
+const TREE_LAYOUT: u8 = 18;
+
+const COLUMN_LAYOUT: u8 = 34;
+
+// Bit 7 of a tree's count of columns: whether a column watches the one that sent its record.
 const WATCH: u8 = 128;
 
-const COLUMNS: usize = 0;
+const COLUMNS: usize = 1;
 
-const ROOT: usize = 1;
+const ROOT: usize = 2;
 
-const UP: usize = 2;
+const UP: usize = 3;
 
-const FIRST: usize = 18;
+const FIRST: usize = 19;
 
-const DOORS: usize = 0;
+const OWN: usize = 1;
 
-const NUMBER: usize = 8;
+const DOORS: usize = 2;
 
-const SEND: usize = 12;
+const NUMBER: usize = 10;
 
-const AWAITED: usize = 14;
+const SEND: usize = 14;
 
-const OWED: usize = 16;
+const AWAITED: usize = 16;
 
-const NOTED: usize = 18;
+const OWED: usize = 18;
 
-const STATUS: usize = 20;
+const NOTED: usize = 20;
 
-const MASK: usize = 21;
+const STATUS: usize = 22;
 
-const PENDING: usize = 22;
+pub const MASK: usize = 23;
 
-// Whether the blocks of a tree and of a column have their sizes.
-pub fn block_sizes(tree: usize, column: usize) -> bool
-    ensures { λ r. ⌜ r ≡ blockSizes tree column ⌝ }
+pub const PENDING: usize = 24;
+
+// Whether bytes are the block of a tree.
+pub fn is_tree(s: &[u8]) -> bool
+    ensures { λ r. ⌜ r ≡ isTree (now (s .entry)) ⌝ }
 {
-    (tree == TREE_SIZE) & (column == COLUMN_SIZE)
+    if s.len() != TREE_SIZE {
+        return false;
+    }
+    s[LAYOUT] == TREE_LAYOUT
+}
+
+// Whether bytes are the block of a column.
+pub fn is_column(s: &[u8]) -> bool
+    ensures { λ r. ⌜ r ≡ isColumn (now (s .entry)) ⌝ }
+{
+    if s.len() != COLUMN_SIZE {
+        return false;
+    }
+    s[LAYOUT] == COLUMN_LAYOUT
+}
+
+// Whether bytes are the blocks of a tree and of a column.
+pub fn are_blocks(tree: &[u8], column: &[u8]) -> bool
+    ensures { λ r. ⌜ r ≡ areBlocks (now (tree .entry)) (now (column .entry)) ⌝ }
+{
+    is_tree(tree) & is_column(column)
 }
 
 // Fills bytes with as many others.
@@ -64,6 +94,31 @@ pub fn fill(out: &mut [u8], bytes: &[u8])
         out[i] = bytes[i];
         i += 1;
     }
+}
+
+// Puts bytes from a place on.
+pub fn put_bytes(out: &mut [u8], at: usize, bytes: &[u8])
+    requires { ⌜ at + length (now bytes) ≤ length (now out) ⌝ }
+    ensures { λ _. ⌜ now (out .exit) ≡ written (now (out .entry)) at (now (bytes .entry)) ⌝ }
+{
+    let end = at + bytes.len();
+    fill(&mut out[at..end], bytes);
+}
+
+// Puts a number into the bytes from a place to another, the highest first.
+pub fn put_number(out: &mut [u8], at: usize, end: usize, number: u64)
+    requires { ⌜ (at ≤ end) × (end ≤ length (now out)) ⌝ }
+    ensures { λ _. ⌜ now (out .exit) ≡ written (now (out .entry)) at (highFirst (end - at) number) ⌝ }
+{
+    put_high_first(&mut out[at..end], number);
+}
+
+// Puts doors into the bytes from a place to another, byte 0 first.
+pub fn put_doors(out: &mut [u8], at: usize, end: usize, doors: u64)
+    requires { ⌜ (at ≤ end) × (end ≤ length (now out)) ⌝ }
+    ensures { λ _. ⌜ now (out .exit) ≡ written (now (out .entry)) at (lowFirst (end - at) doors) ⌝ }
+{
+    put_low_first(&mut out[at..end], doors);
 }
 
 // Sixteen bytes.
@@ -95,6 +150,30 @@ pub fn tree_in(s: &[u8]) -> Tree
     }
 }
 
+fn bit(b: bool) -> u8
+    ensures { λ r. ⌜ (r ≡ bit b) × (r ≤ 1) ⌝ }
+{
+    if b {
+        return 1;
+    }
+    0
+}
+
+// Fills a block with a tree.
+pub fn put_tree(t: Tree, out: &mut [u8])
+    requires { ⌜ length (now out) ≡ treeSize ⌝ }
+    ensures { λ _. ⌜ now (out .exit) ≡ treeBytes t ⌝ }
+{
+    let columns = (t.columns % 128) as u8;
+    let watch = bit(t.watch);
+    let root = (t.root % 256) as u8;
+    out[LAYOUT] = TREE_LAYOUT;
+    out[COLUMNS] = columns + watch * WATCH;
+    out[ROOT] = root;
+    put_bytes(out, UP, &t.up);
+    put_bytes(out, FIRST, &t.first);
+}
+
 fn set_in(s: &[u8]) -> u16
     requires { ⌜ length (now s) ≡ setSize ⌝ }
     ensures { λ r. ⌜ r ≡ highValue (now (s .entry)) ⌝ }
@@ -109,6 +188,14 @@ fn number_in(s: &[u8]) -> Number
 {
     let number = high_value(s) as Number;
     number
+}
+
+// Which column of its bank a block is.
+pub fn own_in(s: &[u8]) -> u8
+    requires { ⌜ length (now s) ≡ columnSize ⌝ }
+    ensures { λ r. ⌜ r ≡ ownIn (now (s .entry)) ⌝ }
+{
+    s[OWN]
 }
 
 // The column that a block means.
@@ -141,15 +228,6 @@ pub fn column_in(s: &[u8]) -> Column
     }
 }
 
-fn bit(b: bool) -> u8
-    ensures { λ r. ⌜ (r ≡ bit b) × (r ≤ 1) ⌝ }
-{
-    if b {
-        return 1;
-    }
-    0
-}
-
 fn status_of(c: Column) -> u8
     ensures { λ r. ⌜ r ≡ statusOf c ⌝ }
 {
@@ -159,75 +237,19 @@ fn status_of(c: Column) -> u8
     running + (whole * 2 + sender * 4)
 }
 
-fn doors_bytes(doors: u64) -> [u8; 8]
-    ensures { λ r. ⌜ r ≡ lowFirst doorsSize doors ⌝ }
-{
-    let mut bytes = [0u8; 8];
-    put_low_first(&mut bytes, doors);
-    bytes
-}
-
-fn number_bytes(number: Number) -> [u8; 4]
-    ensures { λ r. ⌜ r ≡ highFirst numberSize number ⌝ }
-{
-    let mut bytes = [0u8; 4];
-    put_high_first(&mut bytes, number as u64);
-    bytes
-}
-
-fn set_bytes(set: u16) -> [u8; 2]
-    ensures { λ r. ⌜ r ≡ highFirst setSize set ⌝ }
-{
-    let mut bytes = [0u8; 2];
-    put_high_first(&mut bytes, set as u64);
-    bytes
-}
-
-// The block of a column.
-pub fn column_block(c: Column) -> [u8; COLUMN_SIZE]
-    ensures { λ r. ⌜ r ≡ columnBytes c ⌝ }
-{
-    let d = doors_bytes(c.doors);
-    let n = number_bytes(c.number);
-    let s = set_bytes(c.send);
-    let a = set_bytes(c.awaited);
-    let o = set_bytes(c.owed);
-    let h = set_bytes(c.noted);
-    let status = status_of(c);
-    let mask = c.mask;
-    let pending = c.pending;
-    [
-        d[0],
-        d[1],
-        d[2],
-        d[3],
-        d[4],
-        d[5],
-        d[6],
-        d[7],
-        n[0],
-        n[1],
-        n[2],
-        n[3],
-        s[0],
-        s[1],
-        a[0],
-        a[1],
-        o[0],
-        o[1],
-        h[0],
-        h[1],
-        status,
-        mask,
-        pending,
-    ]
-}
-
-// Fills a block with a column.
-pub fn put_column(c: Column, out: &mut [u8])
+// Fills a block with a column and its own number.
+pub fn put_column(own: u8, c: Column, out: &mut [u8])
     requires { ⌜ length (now out) ≡ columnSize ⌝ }
-    ensures { λ _. ⌜ now (out .exit) ≡ columnBytes c ⌝ }
+    ensures { λ _. ⌜ now (out .exit) ≡ columnBytes own c ⌝ }
 {
-    let block = column_block(c);
-    fill(out, &block);
+    let page = [status_of(c), c.mask, c.pending];
+    out[LAYOUT] = COLUMN_LAYOUT;
+    out[OWN] = own;
+    put_doors(out, DOORS, NUMBER, c.doors);
+    put_number(out, NUMBER, SEND, c.number as u64);
+    put_number(out, SEND, AWAITED, c.send as u64);
+    put_number(out, AWAITED, OWED, c.awaited as u64);
+    put_number(out, OWED, NOTED, c.owed as u64);
+    put_number(out, NOTED, STATUS, c.noted as u64);
+    put_bytes(out, STATUS, &page);
 }

@@ -1,4 +1,5 @@
 pub mod Journals
+pub mod PacketLines
 pub mod inner
 pub mod laws
 pub mod examples

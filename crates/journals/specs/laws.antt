@@ -8,3 +8,4 @@ pub mod MissingLaws
 pub mod MissingLength
 pub mod ReadJournalLaws
 pub mod ComparingLaws
+pub mod PacketLineLaws

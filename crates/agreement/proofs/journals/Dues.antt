@@ -18,7 +18,8 @@ use Rattle.column.specs.declared.packet.Packet.the-variants.{Message, Acknowled
 use Rattle.journals.specs.Journals.{line}
 use Rattle.journals.specs.declared.line.Way.the-variants.{Sent, Got}
 use Rattle.journals.specs.declared.line.Line.{Line}
-use Rattle.agreement.specs.Journals.{sentLine, Journals, written, allGot, allSent, Wrote, Proper}
+use Rattle.journals.specs.PacketLines.{sentLine}
+use Rattle.agreement.specs.Journals.{Journals, written, allGot, allSent, Wrote, Proper}
 use Rattle.agreement.proofs.relation.Model.{In, State, Runs}
 use Rattle.agreement.proofs.relation.Move.{Event, Move, order, send-self, send-noted, send-message, take-acknowledgement, take-stale, take-equal, take-lower, take-left, take-higher, acknowledge, widen, note-awaited, note-other, halt, back, orders, sends, takes, acknowledges, widens, notes, halts, backs}
 use Rattle.agreement.proofs.relation.Members.{Below, absent}

@@ -17,9 +17,10 @@ use Rattle.column.specs.declared.state.Column.{Column}
 use Rattle.column.specs.declared.packet.Packet.{Packet}
 use Rattle.column.specs.declared.packet.Packet.the-variants.{Message, Acknowledgement}
 use Rattle.journals.specs.Journals.{line}
+use Rattle.journals.specs.PacketLines.{gotLine}
 use Rattle.journals.specs.declared.line.Way.the-variants.{Sent, Got}
 use Rattle.journals.specs.declared.line.Line.{Line}
-use Rattle.agreement.specs.Journals.{gotLine, Journals, written, allGot, allSent, Wrote, Proper, Consistent}
+use Rattle.agreement.specs.Journals.{Journals, written, allGot, allSent, Wrote, Proper, Consistent}
 use Rattle.agreement.proofs.relation.Model.{In, Empty, State, Runs, post, Taken, Becomes, taken-held}
 use Rattle.agreement.proofs.relation.Move.{renewed, serving, owing, Event, Move, order, send-self, send-noted, send-message, take-acknowledgement, take-stale, take-equal, take-lower, take-left, take-higher, acknowledge, widen, note-awaited, note-other, halt, back}
 use Rattle.agreement.proofs.relation.Members.{in-none, in-single, insert-cases, without-in, without-other, join-cases}

@@ -15,7 +15,8 @@ use Rattle.journals.specs.Journals.{line, Once}
 use Rattle.journals.specs.declared.line.Way.{Way}
 use Rattle.journals.specs.declared.line.Way.the-variants.{Sent, Got}
 use Rattle.journals.specs.declared.line.Line.{Line}
-use Rattle.agreement.specs.Journals.{kindOf, sentLine, gotLine, Journals, written, Wrote, Proper}
+use Rattle.journals.specs.PacketLines.{kindOf, sentLine, gotLine}
+use Rattle.agreement.specs.Journals.{Journals, written, Wrote, Proper}
 use Rattle.agreement.proofs.relation.Model.{Taken, first, later, Holds, holds-none, taken-held, taken-back, others-back}
 
 pub got-sent : Got ≡ Sent → ⊥

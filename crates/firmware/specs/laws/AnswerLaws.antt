@@ -1,50 +1,68 @@
 -- An answer tells whether a call is refused: below `refusedBy` it is not, and from there on every lent byte is as it was. Assumes nothing.
-use Prim.Native.Nat.{ℕ, zero, suc, _+_, _≤_, _<_}
+use Prim.Native.Nat.{ℕ, _+_, _≤_, _<_}
 use mathlib.Core.Path.{_≡_, refl, ap}
-use mathlib.Core.Bool.{Bool, true, false, cond}
+use mathlib.Core.Bool.{Bool, true, false, _&&_, cond}
 use mathlib.Core.Logic.{_⊎_, inl, inr}
 use mathlib.Core.List.{List, [], _∷_}
 use native.Mathlib.Omega.{arith}
 use lib.Dec.{eqb, leb, ltb}
-use lib.ListN.{length, take, drop}
+use lib.ListN.{length, take}
 use borrow.Author.Tests.{eqb-true}
 use Rattle.column.specs.laws.RefusalLaws.{earlier-none}
 use Rattle.column.specs.Refusals.{Given, given, refused}
 use Rattle.column.specs.Columns.{validityRefusal, freshGiven}
-use Rattle.column.specs.Packets.{numberOf, lowValue, narrow, wide, bytesIn, Part, Wrote, wrote, wroteNone, read, write}
-use Rattle.column.specs.laws.PacketLaws.{read-used, length-bytes, write-length}
+use Rattle.column.specs.Packets.{sender, receiver, numberOf, lowValue, narrow, wide, bytesIn, bytesOf, Part, Wrote, wrote, wroteNone, read, write}
+use Rattle.column.specs.laws.PacketLaws.{read-used, length-bytes, write-length, write-read, good-ends}
 use Rattle.column.specs.laws.NumberLaws.{Bytes}
-use Rattle.column.specs.Frames.{framePackets, prefixed, followed, packetsIn, readFrame}
+use Rattle.column.specs.Frames.{framePackets}
+use Rattle.column.specs.laws.FrameLaws.{frame-count}
 use Rattle.column.specs.Conversions.{narrowHighest, aloneIn, widened, narrowed, convert}
 use Rattle.column.specs.laws.StateLaws.{validity-refusal-column}
 use Rattle.column.specs.Steps as core
+use Rattle.column.specs.declared.tree.Tree.{Tree}
 use Rattle.column.specs.declared.state.Column.{Column}
 use Rattle.column.specs.declared.packet.Packet.{Packet}
 use Rattle.text.specs.Text.{written}
 use Rattle.list.specs.Closing.{listText, placed, loneRefusal, loneList}
 use Rattle.list.specs.laws.ClosingLaws.{list-longest}
-use Rattle.firmware.specs.Blocks.{treeIn, columnIn, blockSizes}
+use Rattle.bank.specs.Steps as bank
+use Rattle.table.specs.Tables.{Placed, readTable}
+use Rattle.journals.specs.Journals.{sentKey, gotKey}
+use Rattle.journals.specs.PacketLines.{kindOf, sentLine, gotLine, ownerBytes, lineBytes}
+use Rattle.journals.specs.declared.line.Line.{Line}
+use Rattle.firmware.specs.Blocks.{isTree, treeIn, isColumn, ownIn, columnIn, areBlocks, columnSize, treeSize}
 use Rattle.firmware.specs.laws.BlockLaws.{block-column-fits}
-use Rattle.firmware.specs.Calls.{refusedBy, otherSize, leftInPlace, noRoom, Filled, filled, unfilled, freshLeft, freshCall, packetSize, sizeLeft, packetCall, doorsCall, joinedAt, joinLeft, joinCall, listLeft, listCall, Called, uncalled, stepLeft, stepSizes, stepCall, orderCall, takeLeft, takeCall}
-use Rattle.firmware.specs.inner.StepCalls.{stepOf}
-use Rattle.firmware.specs.laws.PutLaws.{Writable, put-written, block-masks}
-use Rattle.firmware.specs.laws.KeptLaws.{step-writable}
-use Rattle.firmware.specs.declared.steps.LoneStep.{LoneStep}
-use Rattle.firmware.specs.declared.steps.LoneStep.the-variants.{Order, Take}
+use Rattle.firmware.specs.laws.JournalTextLaws.{owner-length, sent-text, got-text, kind-below, packet-length}
+use Rattle.firmware.specs.laws.TableLength.{table-length}
+use Rattle.firmware.specs.Calls.{refusedBy, otherBlock, leftInPlace, noRoom, notItsOwn, Filled, filledMeant, unfilled, filledOver, tableLeft, tableCall, freshLeft, freshCall, packetSize, sizeLeft, packetCall, doorsCall, packetCount, joinedAt, joinLeft, joinCall, listLeft, listCall, ownerCall, lineLeft, sentLeft, sentCall, gotLeft, gotCall, quietLeft, quietCall, doorsOver, Called, uncalled, stepLeft, stepBlocks, stepCall, takeLeft, takeCall}
+use Rattle.firmware.specs.inner.StepCalls.{quietOf, puttingOf}
+use Rattle.firmware.specs.declared.lone.QuietStep.{QuietStep}
+use Rattle.firmware.specs.declared.lone.PuttingStep.{PuttingStep}
 
 -- ---- calls that lend one buffer to be written
 
 abbrev pub Told : Filled → List ℕ → Type 0
 Told f old = (f .answer < refusedBy) ⊎ ((n : ℕ) × (f ≡ unfilled n old))
 
+over-told : (b : Bool) (f : Filled) (old : List ℕ) → Told f old → Told (filledOver b f old) old
+over-told true f old t = t
+over-told false f old t = inr (otherBlock, refl)
+
+pub table-told : (text tree : List ℕ) → Told (tableCall text tree) tree
+unfolding tableCall
+table-told text tree = over-told (eqb (length tree) treeSize) (tableLeft (readTable text) tree) tree (go (readTable text) refl)
+  where
+    go : (o : bank.Result Placed) → readTable text ≡ o → Told (tableLeft o tree) tree
+    go (bank.accepted p) e = inl (omega (arith, table-length text p e))
+    go (bank.refused n p) e = inr (n, refl)
+
 pub fresh-told : (tree : List ℕ) (i : ℕ) (column : List ℕ) → Told (freshCall tree i column) column
 unfolding freshCall
-fresh-told tree i column = go (blockSizes (length tree) (length column)) (freshGiven (treeIn tree) i)
+fresh-told tree i column = over-told (isTree tree && eqb (length column) columnSize) (freshLeft i (freshGiven (treeIn tree) i) column) column (go (freshGiven (treeIn tree) i))
   where
-    go : (b : Bool) (g : Given Column) → Told (cond b (freshLeft g column) (unfilled otherSize column)) column
-    go true (given c) = inl (omega arith)
-    go true (refused n) = inr (n, refl)
-    go false g = inr (otherSize, refl)
+    go : (g : Given Column) → Told (freshLeft i g column) column
+    go (given c) = inl (omega arith)
+    go (refused n) = inr (n, refl)
 
 -- a writer's size is that of the longest packet at most
 abbrev pub Small : Wrote → Type 0
@@ -52,12 +70,11 @@ Small w = (n : ℕ) → w .size ≡ given n → n ≤ packetSize
 
 pub packet-told : (w : Wrote) (old : List ℕ) → Small w → Told (packetCall w old) old
 unfolding packetCall
-packet-told w old small = go (eqb (length old) packetSize) (w .size) refl
+packet-told w old small = over-told (eqb (length old) packetSize) (sizeLeft (w .size) (w .bytes) old) old (go (w .size) refl)
   where
-    go : (b : Bool) (g : Given ℕ) → w .size ≡ g → Told (cond b (sizeLeft g (w .bytes) old) (unfilled otherSize old)) old
-    go true (given n) e = inl (omega (arith, small n e))
-    go true (refused n) e = inr (n, refl)
-    go false g e = inr (otherSize, refl)
+    go : (g : Given ℕ) → w .size ≡ g → Told (sizeLeft g (w .bytes) old) old
+    go (given n) e = inl (omega (arith, small n e))
+    go (refused n) e = inr (n, refl)
 
 wrote-small : (s : List ℕ) → length s ≤ packetSize → Small (wrote s)
 wrote-small s l n e =
@@ -93,85 +110,125 @@ convert-small s = go (aloneIn narrow s) (aloneIn wide s)
 
 pub doors-told : (w : ℕ → Wrote) (doors old : List ℕ) → ((d : ℕ) → Small (w d)) → Told (doorsCall w doors old) old
 unfolding doorsCall
-doors-told w doors old small = go (eqb (length doors) 8)
-  where
-    go : (b : Bool) → Told (cond b (packetCall (w (lowValue doors)) old) (unfilled otherSize old)) old
-    go true = packet-told (w (lowValue doors)) old (small (lowValue doors))
-    go false = inr (otherSize, refl)
+doors-told w doors old small =
+    over-told (eqb (length doors) 8) (packetCall (w (lowValue doors)) old) old (packet-told (w (lowValue doors)) old (small (lowValue doors)))
 
-module _ (tree : List ℕ) (i : ℕ) (column old : List ℕ) (bytes : Bytes column) where
+-- ---- texts
+
+-- a text of fewer bytes than a refusal's first number
+placed-told : (old text : List ℕ) → length text < refusedBy → Told (listLeft (placed old 0 text)) old
+unfolding placed
+placed-told old text l = go (leb (0 + length text) (length old))
+  where
+    go : (b : Bool) → Told (listLeft (cond b (record { answer = given (length text); buffer = written old 0 text }) (record { answer = refused noRoom; buffer = old }))) old
+    go true = inl l
+    go false = inr (noRoom, refl)
+
+module _ (tree column old : List ℕ) (bytes : Bytes column) where
+  abbrev t : Tree
+  t = treeIn tree
+
+  abbrev i : ℕ
+  i = ownIn column
+
   abbrev c : Column
   c = columnIn column
 
   abbrev n : ℕ
-  n = loneRefusal (treeIn tree) i c
-
-  fit : i < 16 → (b : Bool)
-      → Told (listLeft (cond b (record { answer = given (length (listText i c)); buffer = written old 0 (listText i c) }) (record { answer = refused noRoom; buffer = old }))) old
-  fit l true =
-      let f = block-column-fits column bytes in
-      inl (omega (arith, list-longest i c l (omega (arith, f .number)) (f .doors)))
-  fit l false = inr (noRoom, refl)
+  n = loneRefusal t i c
 
   each : (b : Bool) → eqb n 0 ≡ b → Told (listLeft (cond b (placed old 0 (listText i c)) (record { answer = refused n; buffer = old }))) old
-  unfolding placed
-  each true e = fit (validity-refusal-column (treeIn tree) i c (earlier-none (validityRefusal (treeIn tree) i c) _ (eqb-true n 0 e) .0)) (leb (0 + length (listText i c)) (length old))
+  each true e =
+      let f = block-column-fits column bytes in
+      let below = validity-refusal-column t i c (earlier-none (validityRefusal t i c) _ (eqb-true n 0 e) .0) in
+      placed-told old (listText i c) (omega (arith, list-longest i c below (omega (arith, f .number)) (f .doors)))
   each false e = inr (n, refl)
 
-  pub list-told : Told (listCall tree i column old) old
+  pub list-told : Told (listCall tree column old) old
   unfolding listCall loneList
-  list-told = go (blockSizes (length tree) (length column))
-    where
-      go : (b : Bool) → Told (cond b (listLeft (loneList (treeIn tree) i c old)) (unfilled otherSize old)) old
-      go true = each (eqb n 0) refl
-      go false = inr (otherSize, refl)
+  list-told = over-told (areBlocks tree column) (listLeft (loneList t i c old)) old (each (eqb n 0) refl)
+
+  pub owner-told : Told (ownerCall column old) old
+  unfolding ownerCall
+  owner-told =
+      over-told (isColumn column) (listLeft (placed old 0 (ownerBytes i))) old
+      (placed-told old (ownerBytes i) (omega (arith, owner-length i (bytes 1))))
+
+  module _ (packet : List ℕ) (packet-bytes : Bytes packet) where
+    line-told : (end : ℕ) (x : Line) → length (lineBytes x) < refusedBy → Told (lineLeft i end x old) old
+    unfolding lineLeft
+    line-told end x l = go (eqb end i)
+      where
+        go : (b : Bool) → Told (cond b (listLeft (placed old 0 (lineBytes x))) (unfilled notItsOwn old)) old
+        go true = placed-told old (lineBytes x) l
+        go false = inr (notItsOwn, refl)
+
+    pub sent-told : Told (sentCall column packet old) old
+    unfolding sentCall
+    sent-told = over-told (isColumn column) (sentLeft i (read packet) old) old (go (read packet) refl)
+      where
+        go : (g : Given Part) → read packet ≡ g → Told (sentLeft i g old) old
+        go (given q) e =
+            let p = q .packet in
+            let r = write-read wide packet packet-bytes q e in
+            line-told (sender p) (sentLine p)
+            (omega (arith, ap length (sent-text p), packet-length sentKey (kindOf p) (receiver p) (numberOf p) (kind-below p) (good-ends p (r .ends) .1) (r .fits .number)))
+        go (refused n) e = inr (n, refl)
+
+    pub got-told : Told (gotCall column packet old) old
+    unfolding gotCall
+    got-told = over-told (isColumn column) (gotLeft i (read packet) old) old (go (read packet) refl)
+      where
+        go : (g : Given Part) → read packet ≡ g → Told (gotLeft i g old) old
+        go (given q) e =
+            let p = q .packet in
+            let r = write-read wide packet packet-bytes q e in
+            line-told (receiver p) (gotLine p)
+            (omega (arith, ap length (got-text p), packet-length gotKey (kindOf p) (sender p) (numberOf p) (kind-below p) (good-ends p (r .ends) .0) (r .fits .number)))
+        go (refused n) e = inr (n, refl)
+
+-- ---- frames
 
 pub join-told : (bytes old : List ℕ) (at : ℕ) → Bytes bytes → Told (joinCall bytes old at) old
 unfolding joinedAt
-join-told bytes old at h = go (read bytes) refl
+join-told bytes old at h = go (read bytes) refl (packetCount (take at old))
   where
-    fits : (used : ℕ) → used ≤ packetSize → (b : Bool) → Told (cond b (filled used (written old at (take used bytes))) (unfilled noRoom old)) old
+    fits : (used : ℕ) → used ≤ packetSize → (b : Bool) → Told (cond b (filledMeant used (written old at (take used bytes))) (unfilled noRoom old)) old
     fits used l true = inl (omega (arith, l))
     fits used l false = inr (noRoom, refl)
 
-    go : (g : Given Part) → read bytes ≡ g → Told (joinLeft g bytes old at) old
-    go (given q) e =
+    go : (g : Given Part) → read bytes ≡ g → (k : Given ℕ) → Told (joinLeft g k bytes old at) old
+    go (given q) e (given count) =
         let l : length (bytesIn wide (q .packet)) ≤ packetSize = length-bytes wide (q .packet) (omega arith) in
         let m : length (bytesIn wide (q .packet)) ≡ q .used = read-used wide bytes h q e in
-        fits (q .used) (omega (arith, l, m)) (leb (at + q .used) (length old))
-    go (refused n) e = inr (n, refl)
+        fits (q .used) (omega (arith, l, m)) (leb (at + q .used) (length old) && ltb count framePackets)
+    go (given q) e (refused n) = inr (n, refl)
+    go (refused n) e k = inr (n, refl)
 
--- ---- frames: a count is that of the most packets of a frame at most
+-- a count is that of the most packets of a frame at most
+pub frame-told : (s : List ℕ) (n : ℕ) → packetCount s ≡ given n → n < refusedBy
+frame-told s n e = omega (arith, frame-count s n e)
 
-abbrev Most : ℕ → Given (List Packet) → Type 0
-Most n (given ps) = length ps ≤ n
-Most n (refused k) = Unit {0}
+-- ---- steps that put nothing
 
-one-more : (n : ℕ) (p : Packet) (g : Given (List Packet)) → Most n g → Most (suc n) (prefixed p g)
-one-more n p (given ps) h = omega (arith, h)
-one-more n p (refused k) h = tt
+module _ (tree column : List ℕ) where
+  pub quiet-told : (x : QuietStep) → Told (quietCall (quietOf x) tree column) column
+  unfolding quietCall
+  quiet-told x =
+      let r = quietOf x (treeIn tree) (ownIn column) (columnIn column) in
+      over-told (areBlocks tree column) (quietLeft (ownIn column) r column) column (go r)
+    where
+      go : (r : core.Result) → Told (quietLeft (ownIn column) r column) column
+      go (core.accepted c ps left) = inl (omega arith)
+      go (core.refused n c) = inr (n, refl)
 
-most-packets : (n : ℕ) (s : List ℕ) → Most n (packetsIn n s)
-unfolding packetsIn
-most-packets zero s = go (eqb (length s) 0)
-  where
-    go : (b : Bool) → Most 0 (cond b (given []) (refused 12))
-    go true = omega arith
-    go false = tt
-most-packets (suc n) s = go (eqb (length s) 0) (read s) (λ used. most-packets n (drop used s))
-  where
-    go : (b : Bool) (g : Given Part) → ((used : ℕ) → Most n (packetsIn n (drop used s)))
-        → Most (suc n) (cond b (given []) (followed g (λ used. packetsIn n (drop used s))))
-    go true g ih = omega arith
-    go false (given q) ih = one-more n (q .packet) (packetsIn n (drop (q .used) s)) (ih (q .used))
-    go false (refused k) ih = tt
+  -- an order, and a return
+  pub quiet-doors-told : (x : ℕ → QuietStep) (doors : List ℕ) → Told (doorsOver doors (λ d. quietCall (quietOf (x d)) tree column) column) column
+  unfolding doorsOver
+  quiet-doors-told x doors =
+      over-told (eqb (length doors) 8) (quietCall (quietOf (x (lowValue doors))) tree column) column (quiet-told (x (lowValue doors)))
 
-pub frame-told : (s : List ℕ) (ps : List Packet) → readFrame s ≡ given ps → length ps < refusedBy
-frame-told s ps e =
-    let l : Most framePackets (given ps) = rw e at (most-packets framePackets s) in
-    omega (arith, l)
-
--- ---- steps
+-- ---- steps that may put a packet
 
 abbrev pub StepTold : Called → List ℕ → List ℕ → Type 0
 StepTold k column put = (k .answer < refusedBy) ⊎ ((n : ℕ) × (k ≡ uncalled n column put))
@@ -180,39 +237,28 @@ most : (b : Bool) → cond b leftInPlace 0 ≤ leftInPlace
 most true = omega arith
 most false = omega arith
 
-left-told : (r : core.Result) (column put : List ℕ) → Writable r → StepTold (stepLeft r column put) column put
-left-told (core.accepted c [] left) column put w = inl (omega arith)
-left-told (core.accepted c (p ∷ ps) left) column put w =
-    let e = ap (λ (k : Called). k .answer) (put-written c p ps left column put w) in
-    let l : length (bytesIn wide p) ≤ packetSize = length-bytes wide p (omega arith) in
-    inl (rw e (omega (arith, l, most left)))
-left-told (core.refused n c) column put w = inr (n, refl)
+left-told : (own : ℕ) (r : core.Result) (column put : List ℕ) → StepTold (stepLeft own r column put) column put
+left-told own (core.accepted c [] left) column put = inl (omega arith)
+left-told own (core.accepted c (p ∷ ps) left) column put =
+    let l : length (bytesOf p) ≤ packetSize = length-bytes wide p (omega arith) in
+    inl (omega (arith, l, most left))
+left-told own (core.refused n c) column put = inr (n, refl)
 
-module _ (tree : List ℕ) (i : ℕ) (column put : List ℕ) (bytes : Bytes column) where
-  known : (x : LoneStep) → StepTold (stepLeft (stepOf x (treeIn tree) i (columnIn column)) column put) column put
-  known x = left-told (stepOf x (treeIn tree) i (columnIn column)) column put (step-writable x (treeIn tree) i (columnIn column) (block-masks column bytes))
-
-  pub step-told : (x : LoneStep) → StepTold (stepCall (stepOf x) tree i column put) column put
+module _ (tree column put : List ℕ) where
+  pub step-told : (x : PuttingStep) → StepTold (stepCall (puttingOf x) tree column put) column put
   unfolding stepCall
-  step-told x = go (stepSizes (length tree) (length column) (length put))
+  step-told x = go (stepBlocks tree column (length put))
     where
-      go : (b : Bool) → StepTold (cond b (stepLeft (stepOf x (treeIn tree) i (columnIn column)) column put) (uncalled otherSize column put)) column put
-      go true = known x
-      go false = inr (otherSize, refl)
+      go : (b : Bool)
+          → StepTold (cond b (stepLeft (ownIn column) (puttingOf x (treeIn tree) (ownIn column) (columnIn column)) column put) (uncalled otherBlock column put)) column put
+      go true = left-told (ownIn column) (puttingOf x (treeIn tree) (ownIn column) (columnIn column)) column put
+      go false = inr (otherBlock, refl)
 
-  pub order-told : (doors : List ℕ) → StepTold (orderCall tree i column doors put) column put
-  unfolding orderCall
-  order-told doors = go (eqb (length doors) 8)
-    where
-      go : (b : Bool) → StepTold (cond b (stepCall (stepOf (Order (lowValue doors))) tree i column put) (uncalled otherSize column put)) column put
-      go true = step-told (Order (lowValue doors))
-      go false = inr (otherSize, refl)
-
-  pub take-told : (packet : List ℕ) → StepTold (takeCall tree i column packet put) column put
+  pub take-told : (packet : List ℕ) → StepTold (takeCall tree column packet put) column put
   unfolding takeCall
-  take-told packet = go (stepSizes (length tree) (length column) (length put)) (read packet)
+  take-told packet = go (stepBlocks tree column (length put)) (read packet)
     where
-      go : (b : Bool) (g : Given Part) → StepTold (cond b (takeLeft g tree i column put) (uncalled otherSize column put)) column put
-      go true (given q) = known (Take (q .packet))
+      go : (b : Bool) (g : Given Part) → StepTold (cond b (takeLeft g tree column put) (uncalled otherBlock column put)) column put
+      go true (given q) = left-told (ownIn column) (core.take (treeIn tree) (ownIn column) (columnIn column) (q .packet)) column put
       go true (refused n) = inr (n, refl)
-      go false g = inr (otherSize, refl)
+      go false g = inr (otherBlock, refl)

@@ -10,7 +10,7 @@ shared-slice-read-status : tie.Need-shared-slice-read-status
 shared-slice-read-status c = search needs
 
 cast-sender : tie.Need-cast-sender
-cast-sender c = omega (arith, c .shared-slice-known2 .given 20)
+cast-sender c = omega (arith, c .shared-slice-known2 .given 22)
 
 shared-slice-read-mask : tie.Need-shared-slice-read-mask
 shared-slice-read-mask c = search needs
@@ -101,7 +101,7 @@ returns c =
       c .before .before .before .before .before .before .set-in .ensures,
       c .before .before .before .before .before .before .before .before .number-in .ensures,
       d .low-value .ensures,
-      word-is lowValue (take 8 (drop 0 s)) (simp length-take (omega arith)),
+      word-is lowValue (take 8 (drop 2 s)) (simp length-take (omega arith)),
     )
 
 pub column-in-spec : {M : Type 1} → statement M

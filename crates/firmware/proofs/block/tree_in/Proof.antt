@@ -13,7 +13,7 @@ shared-slice-read-root : tie.Need-shared-slice-read-root
 shared-slice-read-root c = search needs
 
 cast-root : tie.Need-cast-root
-cast-root c = omega (arith, c .shared-slice-known3 .given 1)
+cast-root c = omega (arith, c .shared-slice-known3 .given 2)
 
 sub-places : tie.Need-sub-places
 sub-places c = search needs

@@ -1,0 +1,42 @@
+# The C library: `make` builds target/libmudasgup.a, which needs `rt`, the command of the Rattle kit.
+#   make check                the tests of the library
+#   make install PREFIX=DIR   header, archive and pkg-config file, under /usr/local without PREFIX
+#   make dist                 target/mudasgup-VERSION.tar.gz, which unpacked is such a DIR, with the examples
+
+PREFIX = /usr/local
+DESTDIR =
+VERSION = $(shell sed -n 's/^Version: //p' mudasgup.pc)
+LIBRARY = target/libmudasgup.a
+BUILT = target/staticlib/libfirmware.a
+DIST = target/mudasgup-$(VERSION)
+EXAMPLES = $(wildcard examples/firmware/*.c examples/firmware/*.h) examples/firmware/Makefile
+CRATES = firmware $(shell sed -n 's/^firmware: //p' crates.txt)
+SOURCES = $(foreach crate,$(CRATES),$(wildcard crates/$(crate)/src/*.rt))
+
+all: $(LIBRARY)
+
+$(LIBRARY): $(BUILT)
+	cp $(BUILT) $@
+
+$(BUILT): $(SOURCES)
+	rt staticlib firmware
+
+check: $(LIBRARY)
+	python3 tests/run.py test_firmware
+	python3 tests/run.py test_firmware_header
+	python3 tests/run.py test_firmware_uses
+
+install: $(LIBRARY)
+	install -d $(DESTDIR)$(PREFIX)/include $(DESTDIR)$(PREFIX)/lib/pkgconfig
+	install -m 644 include/mudasgup.h $(DESTDIR)$(PREFIX)/include
+	install -m 644 $(LIBRARY) $(DESTDIR)$(PREFIX)/lib
+	install -m 644 mudasgup.pc $(DESTDIR)$(PREFIX)/lib/pkgconfig
+
+dist: $(LIBRARY)
+	rm -rf $(DIST)
+	$(MAKE) install PREFIX=$(DIST) DESTDIR=
+	install -d $(DIST)/examples
+	install -m 644 $(EXAMPLES) $(DIST)/examples
+	tar -C target -czf $(DIST).tar.gz mudasgup-$(VERSION)
+
+.PHONY: all check install dist
