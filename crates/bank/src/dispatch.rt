@@ -94,7 +94,7 @@ fn effect_of(t: Tree, x: Step, i: usize, c: Column) -> column::outcome::Outcome
     }
 }
 
-// What the turn's step x makes of column i, which is c, and of the network, in a bank that stands; a take asks for a packet.
+// What the turn's step x makes of column i, which is c, and of the network, in a valid bank; a take asks for a packet.
 fn take_turn(
     t: Tree,
     running: u16,
@@ -117,7 +117,7 @@ fn take_turn(
     settle(running, o, count, heads, doors)
 }
 
-// Steps of a bank that stands until it rests, until the limit, or until one is refused. A step changes one column, which keeps row 4, and puts one
+// Steps of a valid bank until it rests, until the limit, or until one is refused. A step changes one column, which keeps row 4, and puts one
 // packet at most, so that this alone is tested for the next turn, who runs stays the same, and that column alone may become or cease to be ready.
 fn take_turns(
     b: Bank,

@@ -10,7 +10,7 @@ ghost use Rattle.bank.specs.Banks.{state, runningOf};
 ghost use Rattle.bank.specs.Rest.{atRest};
 ghost use Rattle.bank.specs.inner.Returning.{columnsRest};
 
-// Nobody can do anything, where the bank stands, no packet is under way and the columns in `running` run.
+// Nobody can do anything, where the bank is valid, no packet is under way and the columns in `running` run.
 pub(crate) fn columns_rest(b: Bank, running: u16) -> bool
     requires { ⌜ (b .tree .columns ≤ 16) × (running ≡ runningOf b) ⌝ }
     ensures { λ r. ⌜ r ≡ columnsRest b ⌝ }

@@ -66,7 +66,7 @@ fn no_step(c: Column) -> column::outcome::Outcome
     }
 }
 
-// What the core makes of column i, which is c, in a bank that stands and whose columns in `running` run.
+// What the core makes of column i, which is c, in a valid bank whose columns in `running` run.
 fn core_step(t: Tree, running: u16, x: Step, i: usize, c: Column) -> column::outcome::Outcome
     ensures { λ r. ⌜ StepsCore r t running x i c ⌝ }
 {
@@ -102,7 +102,7 @@ fn taken(
     settle_taken(running, place, o, count, heads, doors)
 }
 
-// What the step x makes of column i, which is c, and of the network, in a bank that stands.
+// What the step x makes of column i, which is c, and of the network, in a valid bank.
 pub(crate) fn change(
     t: Tree,
     running: u16,

@@ -89,7 +89,7 @@ fn is_ready(t: Tree, full: bool, halted: u16, i: usize, c: Column) -> bool
     !is_take(step_of(t, full, halted, i, c))
 }
 
-// The columns that can do anything, of a bank that stands and whose columns in `halted` are halted.
+// The columns that can do anything, of a valid bank whose columns in `halted` are halted.
 pub fn ready_columns(b: Bank, halted: u16) -> u16
     requires { ⌜ (b .tree .columns ≤ 16) × (halted ≡ haltedOf b) ⌝ }
     ensures { λ r. ⌜ r ≡ readyOf b ⌝ }

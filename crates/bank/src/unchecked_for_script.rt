@@ -83,7 +83,7 @@ fn kept(c: Column, count: usize, answer: Answer, refusal: u8) -> Part
     }
 }
 
-// By which number a bank is refused that stood before a step and has so many packets after it: 4 where the newest does not stand, else 0.
+// By which number a bank is refused that was valid before a step and has so many packets after it: 4 where the newest is not valid, else 0.
 fn refusal_after(t: Tree, running: u16, count: usize, heads: &Words) -> u8
     ensures { λ r. ⌜ RefusesAfter r t running count (now (heads .entry)) ⌝ }
 {

@@ -82,7 +82,7 @@ fresh-validity t {s} below f = record {
     }
 
 module _ {t : Tree} {s : State} (tree : IsTree t) (inv : Invariant t s) (v : Validity t s) where
-  -- a move: its column stands, each packet is an old one or deliverable, and nobody stops to whom a packet is under way
+  -- a move: its column is valid, each packet is an old one or deliverable, and nobody stops to whom a packet is under way
   validity-after : {s' : State} {a : ℕ} {c : Column} {network : List Packet} {orders : List ℕ} → Becomes s s' a c network orders → Valid t a c →
       ((p : Packet) → Holds network p → Holds (s .network) p ⊎ Deliverable t s p) →
       ((p : Packet) → Holds network p → receiver p ≡ a → c .running ≡ true) → Validity t s'

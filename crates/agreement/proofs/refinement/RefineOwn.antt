@@ -38,7 +38,7 @@ use Rattle.agreement.proofs.relation.Conditions.{member, not-member, wi
 use Rattle.agreement.proofs.relation.View.{view, modelOf}
 use Rattle.agreement.proofs.refinement.RefineCommon.{Refines, refines-unless, refines-core, refines-quiet, refines-put}
 
--- ---- a column of a bank that stands
+-- ---- a column of a valid bank
 
 module _ (s : State) (valid : Valid s) (i : ℕ) (below : i < s .bank .tree .columns) where
   abbrev tree : Tree
@@ -66,7 +66,7 @@ module _ (s : State) (formed : Formed s) (orders : List ℕ) where
 
   -- ---- a step of column i that acts
 
-  -- what is left to show once the bank stands and the core does not refuse
+  -- what is left to show once the bank is valid and the core does not refuse
   refines-acting : (i n : ℕ) (r : core.Result) (orders' : List ℕ) (e : move.Event)
       → (Valid s → i < t .columns → n ≡ 0 → Refines s orders orders' e (settled s s i r))
       → Refines s orders orders' e (acted s i (core.unless n (columnAt (s .bank) i) r))

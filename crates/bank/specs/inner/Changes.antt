@@ -111,7 +111,7 @@ coreStep t running (Write k offset value) i c = core.refused 10 c
 abbrev pub StepsCore : core-outcome.Outcome → Tree → ℕ → Step → ℕ → Column → Type 0
 StepsCore o t running x i c = validityRefusal t i c ≡ 0 → core.outcomeMeant o ≡ coreStep t running x i c
 
--- ---- whether the bank stands after a step
+-- ---- whether the bank is valid after a step
 
 abbrev pub TellsNewest : Bool → ℕ → ℕ → Bool → ℕ → ℕ → List ℕ → Type 0
 TellsNewest r columns root watch running count heads =

@@ -68,7 +68,7 @@ pub record PartIs (r : Part) (c : Column) (count : ℕ) (a : Answer) (n : ℕ) :
   pub answer-is : r .answer ≡ a
   pub refusal-is : r .refusal ≡ n
 
--- a bank that stood before a step is refused by 4 after it, or by nothing
+-- a bank that was valid before a step is refused by 4 after it, or by nothing
 abbrev pub RefusesAfter : ℕ → Tree → ℕ → ℕ → List ℕ → Type 0
 RefusesAfter n t running count heads =
     (b : Bank) (doors : List ℕ) → b .tree ≡ t → RunningIs running b → b .count ≡ count → t .columns ≤ 16 → count ≤ 512

@@ -1,4 +1,4 @@
--- A turn as the dispatcher takes it: its step, found by sets alone, in a bank that stands the dispatcher's by `quick-turn` of FirstAccepted; what that
+-- A turn as the dispatcher takes it: its step, found by sets alone, in a valid bank the dispatcher's by `quick-turn` of FirstAccepted; what that
 -- step makes of its column and of the network; and where the turns end.
 use Prim.Native.Nat.{ℕ, zero, suc}
 use mathlib.Core.Bool.{Bool, not, _&&_, _||_, cond}
@@ -99,7 +99,7 @@ turnEffect t (Halt m) i c = core.refused 10 c
 turnEffect t (Back j) i c = core.refused 10 c
 turnEffect t (Write k offset value) i c = core.refused 10 c
 
--- of every bank that stands and of which these are the parts: the turn's step
+-- of every valid bank of which these are the parts: the turn's step
 abbrev pub TakesTurn : Change → Tree → ℕ → Step → ℕ → Column → ℕ → List ℕ → List ℕ → List ℕ → List ℕ → Type 0
 TakesTurn r t running x i c count heads doors heads' doors' =
     (b : Bank) → Handed b t running i c count → bankRefusal (state b heads doors) ≡ 0 → x ≡ quickTurn b → i ≡ actingIn x (getD heads 0 0)

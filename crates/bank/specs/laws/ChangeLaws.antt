@@ -157,7 +157,7 @@ module _ (b : Bank) (i : ℕ) (heads doors : List ℕ) (place : ℕ) (c : Column
       go Done z = z
       go (Refused n) z = absurd (true≢false (ap isRefused (z ∙ accepted-off a e .1)))
 
--- ---- the core's step in a bank that stands
+-- ---- the core's step in a valid bank
 
 module _ (s : State) (stood : Valid s) (i : ℕ) (below : i < s .bank .tree .columns) where
   abbrev t : Tree
@@ -251,7 +251,7 @@ own-refused s x i n own actor e some r k = go x own actor
     go (Back j) own z = absurd (true≢false (sym own))
     go (Write k offset value) own z = absurd (true≢false (sym own))
 
--- ---- a packet given to its receiver in a bank that stands
+-- ---- a packet given to its receiver in a valid bank
 
 module _ (s : State) (stood : Valid s) (place : ℕ) (there : place < s .bank .count) where
   abbrev p : Packet

@@ -1,5 +1,5 @@
 -- A turn is refused where every step that it offers is, and the take of the oldest packet; so it is at rest, and only there where no
--- packet is under way. A bank that stands takes its packets, unless its network is full. Assumes nothing.
+-- packet is under way. A valid bank takes its packets, unless its network is full. Assumes nothing.
 use Prim.Native.Nat.{ℕ, zero, suc, _<_}
 use mathlib.Core.Path.{_≡_, refl, sym, ap, ap₂, _∙_}
 use mathlib.Core.Logic.{_⊎_, inl, inr, ⊎-elim}

@@ -79,7 +79,7 @@ opening-refused s x i n moving e some r k = go (truth (isTake x))
     go (inr own) =
         own-refused s x i n (own-is x (moving .0) own) (moving .1 (λ z. absurd (true≢false (sym z ∙ own)))) (e ∙ opening-own _ _ x i _ own) some r k
 
--- where it is 0 the bank stands, and has the column and the packet
+-- where it is 0 the bank is valid, and has the column and the packet
 pub record Opened (s : State) (x : Step) (i : ℕ) : Type 0 where
   pub stood : Valid s
   pub there : isTake x ≡ true → placeIn x < s .bank .count

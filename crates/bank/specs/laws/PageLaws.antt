@@ -1,4 +1,4 @@
--- What a read, a write and the line of a bank's column say, for every bank that stands, every column of it, running or halted, and every offset and value:
+-- What a read, a write and the line of a bank's column say, for every valid bank, every column of it, running or halted, and every offset and value:
 -- they are of that column and of no other. Assumes nothing.
 use Prim.Native.Nat.{ℕ, _≤_, _<_}
 use mathlib.Core.Path.{_≡_}
@@ -45,7 +45,7 @@ module _ (s : State) (i : ℕ) (good : actingRefusal s i ≡ 0) where
   unfolding writeRefusal core.written
   write-clear value = rw (eq-eqb (actingRefusal s i) 0 good)
 
--- "after 4": of a bank that does not stand, and of a column that it has not, the same whatever the offset
+-- "after 4": of a bank that is not valid, and of a column that it has not, the same whatever the offset
 module _ (s : State) (i : ℕ) (bad : actingRefusal s i ≡ 0 → ⊥) where
   pub read-after : (offset : ℕ) → readByte s i offset ≡ refused (actingRefusal s i)
   read-after offset = rw (ne-eqb (actingRefusal s i) 0 bad, ne-eqb (actingRefusal s i) 0 bad)
@@ -57,7 +57,7 @@ module _ (s : State) (i : ℕ) (bad : actingRefusal s i ≡ 0 → ⊥) where
   unfolding writeRefusal
   write-after offset value = rw (ne-eqb (actingRefusal s i) 0 bad, ne-eqb (actingRefusal s i) 0 bad)
 
--- the core reads the byte of a column that stands
+-- the core reads the byte of a valid column
 pub page-read : (s : State) (i offset : ℕ) → actingRefusal s i ≡ 0
     → core.readByte (s .bank .tree) i (columnAt (s .bank) i) offset ≡ readByte s i offset
 unfolding core.readRefusal

@@ -1,4 +1,4 @@
--- The bank at rest, where no packet is under way and the bank stands: nobody can do anything. The test decides `AtRest`; a fresh
+-- The bank at rest, where no packet is under way and the bank is valid: nobody can do anything. The test decides `AtRest`; a fresh
 -- bank is at rest, and so is one in which nobody runs and no packet is under way.
 -- Assumes nothing.
 use Prim.Native.Nat.{ℕ, _<_}
@@ -79,7 +79,7 @@ module _ (s : State) where
   pub rest-exact : atRest s ≡ true ↔ AtRest s
   rest-exact = (rests, rested)
 
-  -- where the bank does not stand
+  -- where the bank is not valid
   pub broken-rests : s .bank .count ≡ 0 → (bankRefusal s ≡ 0 → ⊥) → atRest s ≡ true
   unfolding perform
   broken-rests none ne =
@@ -91,7 +91,7 @@ module _ (s : State) where
         no-note = λ i j r. broken-refused s (Note i j) ne;
       })
 
-  -- where it stands
+  -- where it is valid
   pub rest-columns : s .bank .count ≡ 0 → bankRefusal s ≡ 0 → columnsRest (s .bank) ≡ atRest s
   rest-columns none good =
       let st = valid s good in

@@ -47,7 +47,7 @@ module _ (s : State) (x : Step) where
       go true = refl
       go false = refl
 
-  -- where no packet is under way and the bank stands, 9 is not met
+  -- where no packet is under way and the bank is valid, 9 is not met
   only-own : s .bank .count ≡ 0 → bankRefusal s ≡ 0 → refusalOf s x ≡ ownRefusal s x
   only-own none good =
       let room : overfull s x ≡ false = ap (λ n. raised s x && eqb n capacity) none ∙ and-false (raised s x) in
@@ -61,7 +61,7 @@ module _ (s : State) (x : Step) where
   own-always ne =
       refused-exactly ∙ ap not (ne-eqb (refusalOf s x) 0 (λ e. ne (earlier-none (ownRefusal s x) _ (earlier-none (bankRefusal s) _ e .1) .0)))
 
-  -- so is every step of a bank that does not stand
+  -- so is every step of a bank that is not valid
   pub broken-refused : (bankRefusal s ≡ 0 → ⊥) → Refused (perform s x)
   broken-refused ne = refused-exactly ∙ ap not (ne-eqb (refusalOf s x) 0 (λ e. ne (earlier-none (bankRefusal s) _ e .0)))
 

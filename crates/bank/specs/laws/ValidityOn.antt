@@ -1,4 +1,4 @@
--- A bank that stands and takes a step of one column stands after it exactly where the newest packet does: the column that acted passes row 4,
+-- A valid bank that takes a step of one column is valid after it exactly where the newest packet is: the column that acted passes row 4,
 -- no other is rewritten, every other packet was held before, and who runs is the same. Assumes nothing.
 use Prim.Native.Nat.{ℕ, _+_, _-_, _≤_, _<_}
 use mathlib.Core.Path.{_≡_, refl, sym, ap, ap₂, subst, _∙_}

@@ -110,7 +110,7 @@ module _ (i : ℕ) (c : Column) where
 pub fresh-clear : (t : Tree) (i : ℕ) → (fresh t i .mask ≡ 0) × (fresh t i .pending ≡ 0)
 fresh-clear t i = (refl, refl)
 
--- ---- which offsets are refused: of a column that stands, running or halted, in any tree
+-- ---- which offsets are refused: of a valid column, running or halted, in any tree
 
 module _ (t : Tree) (i : ℕ) (c : Column) (good : validityRefusal t i c ≡ 0) where
   -- "22 for an offset above 7"
@@ -138,7 +138,7 @@ module _ (t : Tree) (i : ℕ) (c : Column) (good : validityRefusal t i c ≡ 0) 
   unfolding writeRefusal written
   write-clear value = rw (eq-eqb (validityRefusal t i c) 0 good)
 
--- "after 4": of a column that does not stand, the same whatever the offset
+-- "after 4": of a column that is not valid, the same whatever the offset
 module _ (t : Tree) (i : ℕ) (c : Column) (bad : validityRefusal t i c ≡ 0 → ⊥) where
   pub read-after : (offset : ℕ) → readByte t i c offset ≡ refused (validityRefusal t i c)
   unfolding readRefusal

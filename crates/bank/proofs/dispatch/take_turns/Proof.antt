@@ -1,4 +1,4 @@
--- The steps so far and those of a dispatch from here are those of the whole; the bank stands, who runs stays, and the set is of all that are ready.
+-- The steps so far and those of a dispatch from here are those of the whole; the bank is valid, who runs stays, and the set is of all that are ready.
 use borrow.Author.Needs.{needs}
 use Prim.Native.Nat.{ℕ, _+_, _-_, _≤_, _<_}
 use native.Mathlib.Omega.{arith}
@@ -179,7 +179,7 @@ newest-valid-requires c κs =
     let w = turned q .within in
     (subst (λ (t : Tree). t .columns ≤ 16) (at (chosen (q .before .before)) .loop .inv .1 .1 .0) (w .0), w .1)
 
--- whether the bank stands, as it is tested
+-- whether the bank is valid, as it is tested
 tested : (c : tie.After-newest-valid Inv-loop μ-loop)
     → let p = c .before .before .before .before .before in
     c .newest-valid .result ≡ eqb (bankRefusal (after p)) 0
@@ -202,7 +202,7 @@ returns-2 c =
     over (c .ended2 .ensures)
     (going-broken (turned (k .before .before .before) .on) (λ z. true≢false (sym (eq-eqb _ 0 z) ∙ sym (tested k) ∙ not-true _ (f .if2 .taken))))
 
--- the turn after which the bank stands
+-- the turn after which the bank is valid
 abbrev turn : tie.Else2 Inv-loop μ-loop → tie.Else1 Inv-loop μ-loop
 turn e = e .before .before .before .before
 

@@ -28,7 +28,7 @@ returns-2 c =
     let k = c .before .before in
     sym (broken-rests (given k) (k .before .if1 .left) (λ e. c .if2 .taken (refusal k ∙ e)))
 
--- the bank stands
+-- the bank is valid
 good : (c : tie.Else2) → bankRefusal (given (c .before .before)) ≡ 0
 good c = sym (refusal (c .before .before)) ∙ c .if2 .left
 

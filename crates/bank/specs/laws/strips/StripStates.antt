@@ -1,4 +1,4 @@
--- A bank with the members of a set halted: what becomes of its words and places, and that it still stands. Assumes nothing.
+-- A bank with the members of a set halted: what becomes of its words and places, and that it is still valid. Assumes nothing.
 use Prim.Native.Nat.{ℕ, zero, suc, _+_, _-_, _≤_, _<_}
 use mathlib.Core.Path.{_≡_, refl, sym, ap, ap₂, subst, _∙_}
 use mathlib.Core.Bool.{Bool, true, false, not, _&&_, _||_, cond}
@@ -109,7 +109,7 @@ halted-one s i = λ t.
     let v = vanished s (only i) in
     state (record { tree = s .bank .tree; columns = (ap (λ n. rewriting stopped (only n) 0 (s .bank .columns)) e ∙ rewriting-one stopped i 0 (s .bank .columns)) t; count = v .bank .count }) (v .heads) (v .doors)
 
--- ---- a bank that stands still stands with members stopped
+-- ---- a valid bank is still valid with members stopped
 
 -- a word that is kept, and the place where it was
 record Found (f : ℕ → Bool) (hs ds : List ℕ) (h d : ℕ) : Type 0 where

@@ -1,4 +1,4 @@
--- In a bank that stands the step found by sets is the first that is accepted. Assumes nothing.
+-- In a valid bank the step found by sets is the first that is accepted. Assumes nothing.
 use Prim.Native.Nat.{ℕ, zero, suc, _+_, _^_, _≤_, _<_}
 use mathlib.Core.Path.{_≡_, refl, sym, ap, _∙_}
 use mathlib.Core.Logic.{_⊎_, inl, inr}

@@ -1,4 +1,4 @@
--- In a bank that stands a step of a running column is refused exactly where the test by sets fails. Assumes nothing.
+-- In a valid bank a step of a running column is refused exactly where the test by sets fails. Assumes nothing.
 use Prim.Native.Nat.{ℕ, _^_, _<_}
 use mathlib.Core.Path.{_≡_, refl, sym, ap, _∙_}
 use mathlib.Core.Logic.{_⊎_, inl, inr}
@@ -36,7 +36,7 @@ use Rattle.bank.specs.declared.bank.Step.the-variants.{Send, Ack, All, N
 use Rattle.bank.specs.inner.Turning.{fits, canSend, canAck, canTakeOver, isFull}
 use Rattle.bank.specs.declared.bank.Bank.{Bank}
 
--- ---- a bank that stands refuses by the step's own number, and where a packet has no room
+-- ---- a valid bank refuses by the step's own number, and where a packet has no room
 
 module _ (s : State) (st : Valid s) (i : ℕ) (h : i < s .bank .tree .columns) (r : runs (s .bank) i ≡ true) where
   abbrev b : Bank

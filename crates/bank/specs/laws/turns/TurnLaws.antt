@@ -1,4 +1,4 @@
--- Who acts in a turn of the dispatcher, and what its step comes to in a bank that stands. Assumes nothing.
+-- Who acts in a turn of the dispatcher, and what its step comes to in a valid bank. Assumes nothing.
 use Prim.Native.Nat.{ℕ, zero, suc, _+_, _≤_, _<_}
 use native.Mathlib.Omega.{arith}
 use mathlib.Core.Path.{_≡_, refl, sym, ap, subst, _∙_}

@@ -1,5 +1,5 @@
--- The turns of the dispatcher in a bank that stands, by the step that the sets give: one that is refused ends the dispatch; after one that
--- is accepted the bank stands, or it does not and refuses every step. Assumes nothing.
+-- The turns of the dispatcher in a valid bank, by the step that the sets give: one that is refused ends the dispatch; after one that
+-- is accepted the bank is valid, or it is not and refuses every step. Assumes nothing.
 use Prim.Native.Nat.{ℕ, zero, suc, _+_, _-_, _≤_, _<_}
 use native.Mathlib.Omega.{arith}
 use mathlib.Core.Path.{_≡_, refl, sym, ap, subst, _∙_}
@@ -51,7 +51,7 @@ module _ (s : State) (ok : bankRefusal s ≡ 0) (x : Step) (quick : x ≡ quickT
     unfolding dispatched dispatch
     goes s' e = rw (sym (e ∙ own)) (refl, refl)
 
--- a bank that does not stand takes no step
+-- a bank that is not valid takes no step
 pub broken : (limit : ℕ) (s : State) → (bankRefusal s ≡ 0 → ⊥) → (0 ≡ length (dispatched limit s)) × (s ≡ dispatch limit s)
 unfolding dispatched dispatch
 broken zero s ne = (refl, refl)

@@ -9,7 +9,7 @@ use Rattle.script.specs.laws.BankListLaws.{acting-sixteen}
 use Rattle.script.proofs.bank_list.list_refusal.Statement.{statement}
 use Rattle.script.proofs.bank_list.list_refusal.Tie as tie
 
--- the bank and the column stand
+-- the bank and the column are valid
 module _ (c : tie.Else1) where
   good : (doors : List ℕ) → let a = c .before .before .args in
       actingRefusal (state (a .t1) (a .heads .now) doors) (a .i) ≡ 0
