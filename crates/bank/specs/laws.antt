@@ -7,6 +7,7 @@ pub mod HeadLaws
 pub mod SetsWordLaws
 pub mod SurveyLaws
 pub mod StepLaws
+pub mod SettledLaws
 pub mod ChangeLaws
 pub mod MoveLaws
 pub mod Kinds
