@@ -3,6 +3,8 @@
 #include "laps.h"
 #include <stdio.h>
 
+enum { TREES = 4 };
+
 static struct column column(uint64_t lap, bool whole) {
     return (struct column){.running = true, .number = lap % 1000, .doors = lap, .whole = whole};
 }
@@ -24,13 +26,13 @@ static struct column column_lap(char letter, const struct tree *t, uint64_t lap)
     return c;
 }
 
-/* The trees of even and odd laps differ, so that no test of a tree is made once for all laps. */
+/* The trees differ from lap to lap, so that no test of a tree is made once for all laps. */
 static uint64_t column_laps(char letter, uint8_t read, uint64_t laps) {
-    struct tree trees[] = {heap(16, read), heap(16, read)};
-    trees[0].up[15] = trees[0].up[14];
+    struct tree trees[] = {heap(16, read), heap(16, read), heap(16, read), heap(16, read)};
+    trees[read % TREES].up[15] = trees[0].up[14];
     uint64_t sum = 0;
     for (uint64_t lap = 0; lap < laps; lap++) {
-        struct column c = column_lap(letter, &trees[lap % 2], lap);
+        struct column c = column_lap(letter, &trees[lap % TREES], lap);
         sum = fold(sum, (uint64_t)c.number + c.send + c.awaited + c.owed + c.noted + c.running);
     }
     return sum;

@@ -8,6 +8,7 @@ pub mod SetsWordLaws
 pub mod SurveyLaws
 pub mod Kinds
 pub mod StepLaws
+pub mod SettledLaws
 pub mod ChangeLaws
 pub mod MoveLaws
 pub mod Places

@@ -14,7 +14,7 @@ use column::state::Column;
 ghost use mathlib.Core.Path.{_≡_};
 ghost use Prim.Native.Nat.{_≤_, _<_};
 ghost use Rattle.bank.specs.Banks.{columnAt};
-ghost use Rattle.bank.specs.inner.Changes.{isRefusal, takesOff, Becomes, Delivers, Settles, SettlesTaken};
+ghost use Rattle.bank.specs.inner.Changes.{isRefusal, takesOff, changeOf, Comes, Delivers, Settles, Leaves, SettlesTaken};
 ghost use Rattle.bank.specs.declared.bank.Answer.the-variants.{Done, Refused};
 
 // Column i, or one that does not run where there is no such place.
@@ -35,47 +35,69 @@ pub struct Change {
     pub answer: Answer,
 }
 
-fn changed(c: Column, count: usize) -> Change
-    ensures { λ r. ⌜ Becomes r c count Done ⌝ }
+// The same but for the column, which is the core's: handed on and back it would be copied each time.
+pub struct Settled {
+    pub count: usize,
+    pub answer: Answer,
+}
+
+fn changed(count: usize) -> Settled
+    ensures { λ r. ⌜ Comes r count Done ⌝ }
 {
-    Change {
-        column: c,
+    Settled {
         count,
         answer: Answer::Done,
     }
 }
 
-// The step is refused by n, with its column and the count as they were.
-pub fn unchanged(c: Column, count: usize, n: u8) -> Change
-    ensures { λ r. ⌜ Becomes r c count (Refused n) ⌝ }
+// The step is refused by n, with the count as it was.
+fn unchanged(count: usize, n: u8) -> Settled
+    ensures { λ r. ⌜ Comes r count (Refused n) ⌝ }
 {
-    Change {
-        column: c,
+    Settled {
         count,
         answer: Answer::Refused(n),
     }
 }
 
-// The acting column is c, and packet p is put where its addressee runs.
-fn deliver(
+// Packet p is put where its addressee runs.
+fn deliver(running: u16, p: Packet, count: usize, heads: &mut Words, doors: &mut Words) -> Settled
+    requires { ⌜ count ≤ 512 ⌝ }
+    ensures { λ r. ⌜ Delivers r running p count (now (heads .entry)) (now (doors .entry)) (now (heads .exit)) (now (doors .exit)) ⌝ }
+{
+    if !has(running, receiver(p)) {
+        return changed(count);
+    }
+    if count == CAPACITY {
+        return unchanged(count, 9);
+    }
+    append(p, count, heads, doors);
+    changed(count + 1)
+}
+
+// What the core's outcome o makes of the network, once a packet that the step takes is off.
+fn settle_network(
     running: u16,
-    c: Column,
-    p: Packet,
+    o: column::outcome::Outcome,
     count: usize,
     heads: &mut Words,
     doors: &mut Words,
-) -> Change
+) -> Settled
     requires { ⌜ count ≤ 512 ⌝ }
-    ensures { λ r. ⌜ Delivers r running c p count (now (heads .entry)) (now (doors .entry)) (now (heads .exit)) (now (doors .exit)) ⌝ }
+    ensures { λ r. ⌜ Settles (changeOf (o .column) r) running o count (now (heads .entry)) (now (doors .entry)) (now (heads .exit)) (now (doors .exit)) ⌝ }
 {
-    if !has(running, receiver(p)) {
-        return changed(c, count);
+    let a = o.answer;
+    match a {
+        column::outcome::Answer::Done => changed(count),
+        column::outcome::Answer::Put(p) | column::outcome::Answer::Left(p) => deliver(
+            running,
+            p,
+            count,
+            heads,
+            doors,
+        ),
+        column::outcome::Answer::Refused(n) => unchanged(count, n),
     }
-    if count == CAPACITY {
-        return unchanged(c, count, 9);
-    }
-    append(p, count, heads, doors);
-    changed(c, count + 1)
 }
 
 // The core's outcome o for the acting column, once a packet that the step takes is off.
@@ -89,18 +111,13 @@ pub fn settle(
     requires { ⌜ count ≤ 512 ⌝ }
     ensures { λ r. ⌜ Settles r running o count (now (heads .entry)) (now (doors .entry)) (now (heads .exit)) (now (doors .exit)) ⌝ }
 {
-    let a = o.answer;
-    match a {
-        column::outcome::Answer::Done => changed(o.column, count),
-        column::outcome::Answer::Put(p) | column::outcome::Answer::Left(p) => deliver(
-            running,
-            o.column,
-            p,
-            count,
-            heads,
-            doors,
-        ),
-        column::outcome::Answer::Refused(n) => unchanged(o.column, count, n),
+    let s = settle_network(running, o, count, heads, doors);
+    let column = o.column;
+    let answer = s.answer;
+    Change {
+        column,
+        count: s.count,
+        answer,
     }
 }
 
@@ -116,6 +133,24 @@ fn takes_off(a: column::outcome::Answer) -> bool
     }
 }
 
+// The packet at a place is gone where the core's answer a takes it off; answers how many are left.
+fn take_off(
+    place: usize,
+    a: column::outcome::Answer,
+    count: usize,
+    heads: &mut Words,
+    doors: &mut Words,
+) -> usize
+    requires { ⌜ (place < count) × (count ≤ 512) ⌝ }
+    ensures { λ r. ⌜ Leaves r place a count (now (heads .entry)) (now (doors .entry)) (now (heads .exit)) (now (doors .exit)) ⌝ }
+{
+    if !takes_off(a) {
+        return count;
+    }
+    remove(place, count, heads, doors);
+    count - 1
+}
+
 // The core's outcome o for the acting column, to which the packet at a place was given. Once that is off there is room for the one that is put.
 pub fn settle_taken(
     running: u16,
@@ -129,11 +164,8 @@ pub fn settle_taken(
     ensures { λ r. ⌜ SettlesTaken r running place o count (now (heads .entry)) (now (doors .entry)) (now (heads .exit)) (now (doors .exit)) ⌝ }
 {
     let a = o.answer;
-    if !takes_off(a) {
-        return settle(running, o, count, heads, doors);
-    }
-    remove(place, count, heads, doors);
-    settle(running, o, count - 1, heads, doors)
+    let left = take_off(place, a, count, heads, doors);
+    settle(running, o, left, heads, doors)
 }
 
 // Whether the answer is a refusal.

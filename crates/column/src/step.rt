@@ -7,7 +7,8 @@ use crate::precedence::earlier;
 use crate::refusal::halt_refusal;
 use crate::refusal::packet_refusal;
 use crate::state::Column;
-use crate::state::validity_refusal;
+use crate::state::state_refusal;
+use crate::topology::tree_refusal;
 use crate::tree::Tree;
 use crate::unchecked_for_bank;
 ghost use mathlib.Core.Path.{_≡_};
@@ -17,7 +18,7 @@ ghost use Rattle.column.specs.Steps.{outcomeMeant, order, send, take, ac
 pub fn order(t: Tree, i: usize, c: Column, doors: u64) -> Outcome
     ensures { λ r. ⌜ outcomeMeant r ≡ order t i c doors ⌝ }
 {
-    let n = validity_refusal(t, i, c);
+    let n = earlier(tree_refusal(t), state_refusal(t, i, c));
     if n != 0 {
         return refused(c, n);
     }
@@ -28,7 +29,7 @@ pub fn order(t: Tree, i: usize, c: Column, doors: u64) -> Outcome
 pub fn send(t: Tree, i: usize, c: Column) -> Outcome
     ensures { λ r. ⌜ outcomeMeant r ≡ send t i c ⌝ }
 {
-    let n = validity_refusal(t, i, c);
+    let n = earlier(tree_refusal(t), state_refusal(t, i, c));
     if n != 0 {
         return refused(c, n);
     }
@@ -39,7 +40,10 @@ pub fn send(t: Tree, i: usize, c: Column) -> Outcome
 pub fn take(t: Tree, i: usize, c: Column, p: Packet) -> Outcome
     ensures { λ r. ⌜ outcomeMeant r ≡ take t i c p ⌝ }
 {
-    let n = earlier(validity_refusal(t, i, c), packet_refusal(t, p));
+    let n = earlier(
+        earlier(tree_refusal(t), state_refusal(t, i, c)),
+        packet_refusal(t, p),
+    );
     if n != 0 {
         return refused(c, n);
     }
@@ -50,7 +54,7 @@ pub fn take(t: Tree, i: usize, c: Column, p: Packet) -> Outcome
 pub fn ack(t: Tree, i: usize, c: Column) -> Outcome
     ensures { λ r. ⌜ outcomeMeant r ≡ ack t i c ⌝ }
 {
-    let n = validity_refusal(t, i, c);
+    let n = earlier(tree_refusal(t), state_refusal(t, i, c));
     if n != 0 {
         return refused(c, n);
     }
@@ -61,7 +65,7 @@ pub fn ack(t: Tree, i: usize, c: Column) -> Outcome
 pub fn all(t: Tree, i: usize, c: Column) -> Outcome
     ensures { λ r. ⌜ outcomeMeant r ≡ all t i c ⌝ }
 {
-    let n = validity_refusal(t, i, c);
+    let n = earlier(tree_refusal(t), state_refusal(t, i, c));
     if n != 0 {
         return refused(c, n);
     }
@@ -72,7 +76,7 @@ pub fn all(t: Tree, i: usize, c: Column) -> Outcome
 pub fn note(t: Tree, i: usize, c: Column, j: usize) -> Outcome
     ensures { λ r. ⌜ outcomeMeant r ≡ note t i c j ⌝ }
 {
-    let n = validity_refusal(t, i, c);
+    let n = earlier(tree_refusal(t), state_refusal(t, i, c));
     if n != 0 {
         return refused(c, n);
     }

@@ -1,4 +1,5 @@
 // Laps of one step of a lone column. The root and the trees come from the input, so that no column and no parent is known when the program is compiled.
+// Each step is called at one place, as by a controller: of one that is called at two, the column and the outcome go through memory.
 use column::outcome::Outcome;
 use column::packet::Number;
 use column::packet::Packet;
@@ -15,13 +16,8 @@ use laps_timing::fold;
 use laps_timing::heap;
 ghost use Prim.Native.Nat.{_<_};
 
-// The trees of even and odd laps differ, so that no test of a tree is made once for all laps.
-fn tree(even: Tree, odd: Tree, lap: u64) -> Tree {
-    if lap % 2 == 0 {
-        return even;
-    }
-    odd
-}
+// As many trees as laps have in turn: where there are two, a compiler makes the tests of both once for all.
+const TREES: usize = 4;
 
 fn column(lap: u64, whole: bool) -> Column {
     Column {
@@ -45,37 +41,40 @@ fn ordered(t: Tree, root: usize, lap: u64) -> Outcome
     order(t, root, column(lap, true), lap)
 }
 
-fn sent(t: Tree, root: usize, lap: u64) -> Outcome
+// A message is put; or there is nobody to send to, and the send is refused.
+fn sent(t: Tree, root: usize, lap: u64, puts: bool) -> Outcome
     requires { ⌜ root < 8 ⌝ }
 {
     let mut c = column(lap, true);
-    c.send = 6;
+    if puts {
+        c.send = 6;
+    }
     send(t, root, c)
 }
 
-fn received(t: Tree, root: usize, lap: u64) -> Outcome
+// A message to a child of the root, or an acknowledgement to the root.
+fn received(t: Tree, root: usize, lap: u64, message: bool) -> Outcome
     requires { ⌜ root < 8 ⌝ }
 {
-    let p = Packet::Message {
+    let mut i = root;
+    let mut c = column(lap, !message);
+    let mut p = Packet::Message {
         from: 0,
         to: 1,
         number: 1000,
         doors: lap,
     };
-    take(t, root + 1, column(lap, false), p)
-}
-
-fn ended(t: Tree, root: usize, lap: u64) -> Outcome
-    requires { ⌜ root < 8 ⌝ }
-{
-    let mut c = column(lap, true);
-    c.awaited = 6;
-    let p = Packet::Acknowledgement {
-        from: 2,
-        to: 0,
-        number: c.number,
-    };
-    take(t, root, c, p)
+    if message {
+        i = root + 1;
+    } else {
+        c.awaited = 6;
+        p = Packet::Acknowledgement {
+            from: 2,
+            to: 0,
+            number: c.number,
+        };
+    }
+    take(t, i, c, p)
 }
 
 fn acknowledged(t: Tree, root: usize, lap: u64) -> Outcome
@@ -108,25 +107,17 @@ fn halted(t: Tree, root: usize, lap: u64) -> Outcome
     halt(t, root + 5, column(lap, false))
 }
 
-fn refused(t: Tree, root: usize, lap: u64) -> Outcome
-    requires { ⌜ root < 8 ⌝ }
-{
-    send(t, root, column(lap, true))
-}
-
 fn step(letter: u8, t: Tree, root: usize, lap: u64) -> Outcome
     requires { ⌜ root < 8 ⌝ }
 {
     match letter {
         b'o' => ordered(t, root, lap),
-        b's' => sent(t, root, lap),
-        b'm' => received(t, root, lap),
-        b'e' => ended(t, root, lap),
+        b'm' | b'e' => received(t, root, lap, letter == b'm'),
         b'a' => acknowledged(t, root, lap),
         b'l' => took_over(t, root, lap),
         b'n' => noted(t, root, lap),
         b'h' => halted(t, root, lap),
-        _ => refused(t, root, lap),
+        _ => sent(t, root, lap, letter == b's'),
     }
 }
 
@@ -142,13 +133,15 @@ fn folded(sum: u64, c: Column) -> u64 {
     fold(sum, c.number as u64 + sets + flag(c.running))
 }
 
-fn laps_of(letter: u8, even: Tree, odd: Tree, root: usize, laps: u64) -> u64
+// The trees differ from lap to lap, and are found in memory, so that nothing of a tree is found out once for all laps.
+fn laps_of(letter: u8, trees: [Tree; TREES], root: usize, laps: u64) -> u64
     requires { ⌜ root < 8 ⌝ }
 {
     let mut sum: u64 = 0;
     let mut lap: u64 = 0;
     while lap < laps {
-        let o = step(letter, tree(even, odd, lap), root, lap);
+        let t = trees[lap as usize % TREES];
+        let o = step(letter, t, root, lap);
         sum = folded(sum, o.column);
         lap += 1;
     }
@@ -158,8 +151,11 @@ fn laps_of(letter: u8, even: Tree, odd: Tree, root: usize, laps: u64) -> u64
 pub fn run(letter: u8, read: u8, laps: u64) -> u64
     requires { ⌜ read < 8 ⌝ }
 {
-    let odd = heap(16, read);
-    let mut even = odd;
-    even.up[15] = odd.up[14];
-    laps_of(letter, even, odd, read as usize, laps)
+    let usual = heap(16, read);
+    let mut other = usual;
+    other.up[15] = usual.up[14];
+    let mut trees = [usual; TREES];
+    // A place that is read, so that no compiler knows which tree is where.
+    trees[read as usize % TREES] = other;
+    laps_of(letter, trees, read as usize, laps)
 }

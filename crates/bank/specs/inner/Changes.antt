@@ -1,7 +1,8 @@
 -- What a step makes of the place of its column and of the network, for functions that are handed these and not the whole bank: said of
 -- every bank of which they may be the parts.
-use Prim.Native.Nat.{ℕ, _<_}
+use Prim.Native.Nat.{ℕ, _<_, _-_}
 use mathlib.Core.Path.{_≡_}
+use mathlib.Core.Logic.{_⊎_}
 use mathlib.Core.Bool.{Bool, true, false}
 use mathlib.Core.List.{List, [], _∷_}
 use lib.ListN.{set}
@@ -26,6 +27,8 @@ use Rattle.bank.specs.declared.bank.Answer.{Answer}
 use Rattle.bank.specs.declared.bank.Answer.the-variants.{Done, Refused}
 use Rattle.bank.specs.declared.bank.Outcome.{Outcome}
 use Rattle.bank.specs.declared.settling.Change.{Change}
+use Rattle.bank.specs.declared.settling.Settled.{Settled}
+use Rattle.bank.specs.inner.NetworkWords.{ClosedUp}
 use Rattle.bank.specs.declared.bank.Step.{Step}
 use Rattle.bank.specs.declared.bank.Step.the-variants.{Order, Send, Take, Ack, All, Note, Halt, Back, Write}
 
@@ -35,6 +38,14 @@ pub record Becomes (r : Change) (c : Column) (count : ℕ) (a : Answer) : Type 0
   pub column-is : r .column ≡ c
   pub count-is : r .count ≡ count
   pub answer-is : r .answer ≡ a
+
+pub record Comes (r : Settled) (count : ℕ) (a : Answer) : Type 0 where
+  pub count-is : r .count ≡ count
+  pub answer-is : r .answer ≡ a
+
+-- the change of a column that is now c
+abbrev pub changeOf : Column → Settled → Change
+changeOf c r = record { column = c; count = r .count; answer = r .answer }
 
 -- "a step returns it with one place rewritten"
 abbrev pub stored : Bank → ℕ → Change → Bank
@@ -62,10 +73,10 @@ pub record Handed (b : Bank) (t : Tree) (running i : ℕ) (c : Column) (count : 
 
 -- ---- what the functions answer
 
-abbrev pub Delivers : Change → ℕ → Column → Packet → ℕ → List ℕ → List ℕ → List ℕ → List ℕ → Type 0
-Delivers r running c p count heads doors heads' doors' =
-    (b : Bank) (i : ℕ) → b .count ≡ count → RunningIs running b → c .running ≡ runs b i → receiver p < b .tree .columns
-    → changed b i r heads' doors' ≡ fitting (state b heads doors) (put (withColumn (state b heads doors) i c) p)
+abbrev pub Delivers : Settled → ℕ → Packet → ℕ → List ℕ → List ℕ → List ℕ → List ℕ → Type 0
+Delivers r running p count heads doors heads' doors' =
+    (c : Column) (b : Bank) (i : ℕ) → b .count ≡ count → RunningIs running b → c .running ≡ runs b i → receiver p < b .tree .columns
+    → changed b i (changeOf c r) heads' doors' ≡ fitting (state b heads doors) (put (withColumn (state b heads doors) i c) p)
 
 abbrev pub Steady : Column → core.Result → Type 0
 Steady c (core.accepted d [] left) = d .running ≡ c .running
@@ -82,6 +93,19 @@ abbrev pub Settles : Change → ℕ → core-outcome.Outcome → ℕ → List �
 Settles r running o count heads doors heads' doors' =
     (b : Bank) (i : ℕ) → b .count ≡ count → RunningIs running b → Steady (columnAt b i) (core.outcomeMeant o) → Aimed (b .tree) (core.outcomeMeant o)
     → changed b i r heads' doors' ≡ settled (state b heads doors) (state b heads doors) i (core.outcomeMeant o)
+
+-- whether an answer of the core's takes the packet of its step off
+abbrev pub takesOff : core-answer.Answer → Bool
+takesOff core-is.Done = true
+takesOff (core-is.Put p) = true
+takesOff (core-is.Left p) = false
+takesOff (core-is.Refused n) = false
+
+-- what is left where the answer takes the packet at a place off, or leaves it there
+abbrev pub Leaves : ℕ → ℕ → core-answer.Answer → ℕ → List ℕ → List ℕ → List ℕ → List ℕ → Type 0
+Leaves r place a count heads doors heads' doors' =
+    ((takesOff a ≡ false) × ((r ≡ count) × ((heads' ≡ heads) × (doors' ≡ doors))))
+    ⊎ ((takesOff a ≡ true) × ((r ≡ count - 1) × ClosedUp place count heads doors heads' doors'))
 
 abbrev pub SettlesTaken : Change → ℕ → ℕ → core-outcome.Outcome → ℕ → List ℕ → List ℕ → List ℕ → List ℕ → Type 0
 SettlesTaken r running place o count heads doors heads' doors' =
@@ -125,9 +149,3 @@ isRefusal (Refused n) = true
 -- what is answered, whatever the doors under way, which a write keeps
 abbrev pub Writes : Outcome → Bank → List ℕ → ℕ → ℕ → ℕ → Type 0
 Writes r b heads i offset value = (doors : List ℕ) → outcomeMeant r heads doors ≡ write (state b heads doors) i offset value
-
-abbrev pub takesOff : core-answer.Answer → Bool
-takesOff core-is.Done = true
-takesOff (core-is.Put p) = true
-takesOff (core-is.Left p) = false
-takesOff (core-is.Refused n) = false

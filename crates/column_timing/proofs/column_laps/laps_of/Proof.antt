@@ -4,16 +4,19 @@ use Rattle.column_timing.proofs.column_laps.laps_of.Statement.{statemen
 use Rattle.column_timing.proofs.column_laps.laps_of.Tie as tie
 
 abbrev Inv-loop : tie.InvT-loop
-Inv-loop letter even odd root laps sum₀ lap₀ sum lap = Unit {0}
+Inv-loop letter root laps trees sum₀ lap₀ sum lap = Unit {0}
 
 abbrev μ-loop : tie.MeasureT-loop
-μ-loop letter even odd root laps sum₀ lap₀ sum lap = laps - lap
+μ-loop letter root laps trees sum₀ lap₀ sum lap = laps - lap
 
 loop-holds : tie.Need-loop-holds Inv-loop μ-loop
 loop-holds c = search needs
 
-tree-requires : tie.Need-tree-requires Inv-loop μ-loop
-tree-requires c κs = search needs
+mul-t : tie.Need-mul-t Inv-loop μ-loop
+mul-t c = search needs
+
+array-copy-out-t : tie.Need-array-copy-out-t Inv-loop μ-loop
+array-copy-out-t c = search needs
 
 step-requires : tie.Need-step-requires Inv-loop μ-loop
 step-requires c κs = search needs
@@ -40,7 +43,8 @@ laps-of-spec =
     Inv-loop
     μ-loop
     loop-holds
-    tree-requires
+    mul-t
+    array-copy-out-t
     step-requires
     folded-requires
     add-lap
