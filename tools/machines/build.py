@@ -32,7 +32,7 @@ def compiled(module, machine, folder):
     """The object of a module for a machine."""
     if layout(machine) != [machine.layout, machine.triple]:
         raise kit.Failed(f"{machine.name}: clang's layout and triple are not those of the table: {layout(machine)}")
-    text, made = os.path.join(folder, "module.ll"), os.path.join(folder, "module.o")
+    text, made = (os.path.join(folder, module.crate + end) for end in (".ll", ".o"))
     with open(text, "w", encoding="utf8") as file:
         file.write(f'target datalayout = "{machine.layout}"\ntarget triple = "{machine.triple}"\n{module.text}')
     kit.run("clang", *words(module, machine), "-c", "-x", "ir", text, "-o", made)
