@@ -7,6 +7,7 @@ status: 0 all that was asked for ran and is as on x86-64; 1 something differs; 2
 """
 import argparse
 import os
+import subprocess
 import sys
 import tempfile
 
@@ -37,11 +38,12 @@ def tried(name, modules, folder, calls, banks):
     right, wrong = (libraries.made(each, name, os.path.join(folder, name, kind)) for kind, each in modules.items())
     yield trials.replayed(name, right, folder, calls)
     yield trials.replayed_wrong(name, wrong, folder, calls)
-    if name != WASM.name:
-        yield trials.example(name, right, folder)
     if emulated.is_linux(name):
+        yield trials.example(name, right, folder)
         yield trials.uses(name, right, folder)
         yield trials.banks(name, right, folder, banks)
+    elif name != WASM.name:
+        yield trials.outside(name, folder)
 
 
 def run(asked, folder):
@@ -60,7 +62,7 @@ def run(asked, folder):
         try:
             print(f"{name}: {'; '.join(tried(name, modules, folder, calls, asked.banks))}", flush=True)
             ran.append(name)
-        except (trials.Differs, RuntimeError) as seen:
+        except (trials.Differs, RuntimeError, subprocess.CalledProcessError) as seen:
             differ.append(name)
             print(f"{name}: DIFFERS: {seen}", flush=True)
     return ran, differ, not_run

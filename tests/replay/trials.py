@@ -1,8 +1,11 @@
 """What a machine is tried with: the recorded calls, with the library and with a wrong one, the examples, wrong uses, and banks of processes. Each trial answers
 what it has shown, in words; one that fails is a Differs."""
+import glob
 import json
 import os
 import re
+import subprocess
+import tarfile
 
 from cases.test_firmware_uses import BANK, FITTER, PRINTED
 from helpers.firmware import EXAMPLES, use
@@ -57,13 +60,28 @@ def replayed_wrong(name, library, folder, recorded):
     return f"with an instruction changed {differ} differ"
 
 
-def example(name, library, folder):
-    """The example of README.md prints there what it prints on x86-64."""
-    program = emulated.compiled(name, library, os.path.join(folder, f"order_{name}"), os.path.join(EXAMPLES, "order.c"), options=("-Os",))
-    done = emulated.ran(name, program)
+def is_as_told(done):
+    """The example of README.md prints what stands there."""
     if done.returncode or not done.stdout or f"```\n{done.stdout}```\n" not in read("README.md"):
         raise Differs(f"order.c, status {done.returncode}: {done.stdout}{done.stderr}")
     return "order.c as on x86-64"
+
+
+def example(name, library, folder):
+    program = emulated.compiled(name, library, os.path.join(folder, f"order_{name}"), os.path.join(EXAMPLES, "order.c"), options=("-Os",))
+    return is_as_told(emulated.ran(name, program))
+
+
+def outside(name, folder):
+    """The example of a board, built outside of the repository from what `make dist` writes."""
+    subprocess.run(["make", "-s", "-C", ROOT, "dist", f"TARGET={name}"], check=True, capture_output=True)
+    packed, = glob.glob(os.path.join(ROOT, "target", f"mudasgup-*-{name}.tar.gz"))
+    with tarfile.open(packed) as file:
+        file.extractall(folder)
+    bare, = glob.glob(os.path.join(folder, f"mudasgup-*-{name}", "examples", "bare"))
+    subprocess.run(["make", "-s", "-C", bare, f"TARGET={name}", "order.elf"], check=True, capture_output=True)
+    done = subprocess.run(["make", "-s", "-C", bare, f"TARGET={name}", "run"], stdin=subprocess.DEVNULL, capture_output=True, text=True)
+    return f"{is_as_told(done)}, from make dist"
 
 
 def uses(name, library, folder):

@@ -13,32 +13,30 @@ STREAMS = os.path.join(ROOT, "tools", "machines")
 SECONDS = 1800
 # By its machine: compiler and its words, what runs a program, and Debian's packages with both.
 Emulated = collections.namedtuple("Emulated", "name compiler runner packages")
-SEMIHOSTING = ("-display", "none", "-monitor", "none", "-serial", "none", "-chardev", "stdio,id=said,signal=off", "-semihosting-config", "enable=on,target=native,chardev=said", "-kernel")
 
 
-def arm(name, processor, board, memory, *more):
-    compiler = ("arm-none-eabi-gcc", f"-mcpu={processor}", "-mthumb", *more, "-nostartfiles", "--specs=rdimon.specs", "-Wl,--gc-sections", "-Wl,--no-warn-rwx-segments",
-                "-Wl,-z,noexecstack", "-L", BARE, "-T", memory)
-    return Emulated(name, compiler, ("qemu-system-arm", "-M", board, *SEMIHOSTING), "gcc-arm-none-eabi libnewlib-arm-none-eabi qemu-system-arm")
+def words(name, which):
+    """What the Makefile of boards without a system says of one."""
+    done = subprocess.run(["make", "-s", "-C", BARE, f"TARGET={name}", which], capture_output=True, text=True, check=True)
+    return tuple(done.stdout.split())
+
+
+def board(name, packages):
+    return Emulated(name, words(name, "compiler"), words(name, "emulator"), packages)
 
 
 def linux(name, compiler, runner, packages):
     return Emulated(name, (compiler, "-static"), (runner,) if runner else (), packages)
 
 
-# picolibc's start code: code and constants in the first half of the board's memory, all else in the second.
-RISCV = ("-march=rv32imac", "-mabi=ilp32", "--specs=picolibc.specs", "--oslib=semihost", "--crt0=hosted", *(f"-Wl,--defsym=__{name}={number}" for name, number in (
-    ("flash", 0x80000000), ("flash_size", 0x400000), ("ram", 0x80400000), ("ram_size", 0x400000), ("stack_size", 0x10000))))
+ARM = "gcc-arm-none-eabi libnewlib-arm-none-eabi qemu-system-arm"
 EMULATED = {each.name: each for each in (
     linux("x86_64", "gcc", None, "gcc libc6-dev"),
     linux("aarch64", "aarch64-linux-gnu-gcc", "qemu-aarch64", "gcc-aarch64-linux-gnu libc6-dev-arm64-cross qemu-user"),
     linux("riscv64", "riscv64-linux-gnu-gcc", "qemu-riscv64", "gcc-riscv64-linux-gnu libc6-dev-riscv64-cross qemu-user"),
     linux("armv7", "arm-linux-gnueabihf-gcc", "qemu-arm", "gcc-arm-linux-gnueabihf libc6-dev-armhf-cross qemu-user"),
-    arm("thumbv6m", "cortex-m0", "microbit", "microbit.ld"),
-    arm("thumbv7m", "cortex-m3", "mps2-an385", "mps2.ld"),
-    arm("thumbv7em", "cortex-m4", "mps2-an386", "mps2.ld", "-mfloat-abi=hard", "-mfpu=fpv4-sp-d16"),
-    Emulated("riscv32", ("riscv64-unknown-elf-gcc", *RISCV), ("qemu-system-riscv32", "-M", "virt", "-bios", "none", *SEMIHOSTING),
-             "gcc-riscv64-unknown-elf picolibc-riscv64-unknown-elf qemu-system-misc"),
+    *(board(name, ARM) for name in ("thumbv6m", "thumbv7m", "thumbv7em")),
+    board("riscv32", "gcc-riscv64-unknown-elf picolibc-riscv64-unknown-elf qemu-system-misc"),
     Emulated(WASM.name, (), ("node",), "nodejs"),
 )}
 
@@ -57,9 +55,8 @@ def compiled(name, archive, program, *sources, options=("-O1",)):
     """A program of C sources and an archive for a machine, compiled without a warning; a stream is its input, where a source asks for one."""
     each = EMULATED[name]
     stream = [os.path.join(STREAMS, "stream_linux.c" if is_linux(name) else "stream_semihosting.c")] if any("stream.h" in text(path) for path in sources) else []
-    start = [os.path.join(BARE, "start.c")] if "-nostartfiles" in each.compiler else []
     done = subprocess.run([*each.compiler, "-std=gnu99", "-Wall", "-Wextra", "-Werror", *options, "-I", INCLUDE, "-I", STREAMS, "-I", os.path.dirname(program),
-                           "-o", program, *start, *stream, *sources, archive], capture_output=True, text=True)
+                           "-o", program, *stream, *sources, archive], capture_output=True, text=True)
     if done.returncode:
         raise RuntimeError(f"{name}: {done.stderr[:2000]}")
     return program
