@@ -15,7 +15,7 @@ from cases import test_firmware
 def main():
     test_firmware.CALLS = int(sys.argv[1])
     test = test_firmware.Calls("test_random_calls_answer_and_leave_what_the_model_does_and_every_refusal_is_met")
-    passed = unittest.TextTestRunner().run(test).wasSuccessful()
+    passed = unittest.TextTestRunner().run(unittest.TestSuite([test])).wasSuccessful()
     print(f"{test_firmware.CALLS} calls, {len(test.told)} counters, the least {min(test.told.values())}, {len(test_firmware.firmware_mutants.WRONG)} wrong models")
     return 0 if passed else 1
 
