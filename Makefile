@@ -2,24 +2,30 @@
 #   make check                the tests of the library
 #   make install PREFIX=DIR   header, archive and pkg-config file, under /usr/local without PREFIX
 #   make dist                 target/mudasgup-VERSION.tar.gz, which unpacked is such a DIR, with the examples
+# With TARGET=MACHINE, as thumbv7em, the archive is for that machine (docs/MACHINES.md); tools/targets -h has their names.
 
 PREFIX = /usr/local
 DESTDIR =
 VERSION = $(shell sed -n 's/^Version: //p' mudasgup.pc)
-LIBRARY = target/libmudasgup.a
+TARGET =
+LIBRARY = $(if $(TARGET),target/machines/$(TARGET)/libmudasgup.a,target/libmudasgup.a)
 BUILT = target/staticlib/libfirmware.a
-DIST = target/mudasgup-$(VERSION)
+DIST = target/mudasgup-$(VERSION)$(if $(TARGET),-$(TARGET))
 EXAMPLES = $(wildcard examples/firmware/*.c examples/firmware/*.h) examples/firmware/Makefile
+BARE = $(wildcard examples/firmware/bare/*.c examples/firmware/bare/*.ld) examples/firmware/bare/Makefile
 CRATES = firmware $(shell sed -n 's/^firmware: //p' crates.txt)
 SOURCES = $(foreach crate,$(CRATES),$(wildcard crates/$(crate)/src/*.rt))
 
 all: $(LIBRARY)
 
-$(LIBRARY): $(BUILT)
+target/libmudasgup.a: $(BUILT)
 	cp $(BUILT) $@
 
 $(BUILT): $(SOURCES)
 	rt staticlib firmware
+
+target/machines/%/libmudasgup.a: $(BUILT)
+	tools/targets $*
 
 check: $(LIBRARY)
 	python3 tests/run.py test_firmware
@@ -35,8 +41,9 @@ install: $(LIBRARY)
 dist: $(LIBRARY)
 	rm -rf $(DIST)
 	$(MAKE) install PREFIX=$(DIST) DESTDIR=
-	install -d $(DIST)/examples
+	install -d $(DIST)/examples/bare
 	install -m 644 $(EXAMPLES) $(DIST)/examples
-	tar -C target -czf $(DIST).tar.gz mudasgup-$(VERSION)
+	install -m 644 $(BARE) $(DIST)/examples/bare
+	tar -C target -czf $(DIST).tar.gz $(notdir $(DIST))
 
 .PHONY: all check install dist
