@@ -23,8 +23,9 @@ export function runText(text, at = 0) {
 }
 
 // A script that replaces another can be taken back.
-function replace(text, at) {
+function replace(text, at, example = "") {
   script.undone.push({ bytes: script.bytes, at: view.at });
+  byId("example").value = example;
   runText(text, at);
 }
 
@@ -113,7 +114,7 @@ function pressed(event) {
 
 function connectScript(examples) {
   byId("example").append(new Option("Choose an example", ""), ...Object.keys(examples).map(name => new Option(name)));
-  byId("example").onchange = () => { if (examples[byId("example").value]) replace(examples[byId("example").value], 0); };
+  byId("example").onchange = () => { if (examples[byId("example").value]) replace(examples[byId("example").value], 0, byId("example").value); };
   byId("run-script").onclick = () => replace(byId("script").value, 0);
   byId("open").onclick = () => byId("file").click();
   byId("file").onchange = () => { if (byId("file").files.length) open(byId("file").files[0]); byId("file").value = ""; };

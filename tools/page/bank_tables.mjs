@@ -1,10 +1,10 @@
 // The columns of a bank and the packets under way as tables, and the doors as a wall of lockers.
 import { has, members, occupiedDoors } from "./columns.mjs";
 import { element, escaped, recordClass } from "./svg.mjs";
-import { kindOf } from "./telling.mjs";
+import { kindOf, ranges } from "./telling.mjs";
 
 const cells = (kind, list) => list.map(text => element(kind, {}, text)).join("");
-const set = columns => columns ? members(columns).join(", ") : "";
+const set = columns => ranges(members(columns));
 const record = number => element("span", { class: `dot ${recordClass(number)}` }, escaped(number));
 
 const HEADS = ["", "Column", "", "Record", "Doors", "To send to", "Awaits", "Owes", "Noted as halted", "Goal"];

@@ -7,6 +7,17 @@ export function enumerated(list) {
   return list.length < 2 ? list.join("") : `${list.slice(0, -1).join(", ")} and ${list[list.length - 1]}`;
 }
 
+// "1, 2, 5–15": three or more in a row by the first and the last.
+export function ranges(list) {
+  const parts = [];
+  for (let from = 0, to; from < list.length; from = to + 1) {
+    for (to = from; list[to + 1] === list[to] + 1;) to++;
+    if (to - from > 1) parts.push(`${list[from]}–${list[to]}`);
+    else parts.push(...list.slice(from, to + 1));
+  }
+  return parts.join(", ");
+}
+
 export const columnsNamed = list => `column${list.length === 1 ? "" : "s"} ${enumerated(list)}`;
 export const capital = words => words[0].toUpperCase() + words.slice(1);
 export const counted = (count, word) => `${count} ${word}${count === 1 ? "" : "s"}`;
