@@ -2,7 +2,7 @@
 """Builds docs/bank.html, the page that runs the proved programs in a browser, from the sources of tools/page, the scripts of examples/ and the four
 programs as WebAssembly:
 
-    tools/build_page.py WASM                     writes docs/bank.html with the programs of the folder WASM: lockers.wasm, fastest.wasm, ...
+    tools/build_page.py                          makes the programs by tools/targets and writes docs/bank.html with them
     tools/build_page.py --programs-of PAGE OUT   writes OUT with the programs that a built page has
 """
 import base64
@@ -10,7 +10,9 @@ import glob
 import json
 import os
 import re
+import subprocess
 import sys
+import tempfile
 
 from repository import ROOT, read
 
@@ -73,25 +75,28 @@ def programs_of(path):
     return json.loads(re.search(r'id="programs">(.*?)</script>', read(path), re.S)[1])
 
 
-def programs_in(folder):
+def programs_made():
+    """The programs as tools/targets makes them of the proved modules, each as base64."""
     found = {}
-    for name in PROGRAMS:
-        with open(os.path.join(folder, f"{name}.wasm"), "rb") as file:
-            found[name] = base64.b64encode(file.read()).decode()
+    with tempfile.TemporaryDirectory() as folder:
+        subprocess.run([os.path.join(ROOT, "tools", "targets"), "-o", folder, *PROGRAMS], check=True, stdout=subprocess.DEVNULL)
+        for name in PROGRAMS:
+            with open(os.path.join(folder, "wasm32", f"{name}.wasm"), "rb") as file:
+                found[name] = base64.b64encode(file.read()).decode()
     return found
 
 
 def main(words):
-    if len(words) == 3 and words[0] == "--programs-of":
-        programs, out = programs_of(os.path.abspath(words[1])), words[2]
-    elif len(words) == 1 and not words[0].startswith("-"):
-        programs, out = programs_in(words[0]), PAGE
-    else:
-        sys.exit(print(__doc__.strip()) if words in (["-h"], ["--help"]) else __doc__)
+    if words in (["-h"], ["--help"]):
+        print(__doc__.strip())
+        return
+    if words and (len(words) != 3 or words[0] != "--programs-of"):
+        sys.exit(__doc__)
+    programs, out = (programs_of(os.path.abspath(words[1])), words[2]) if words else (programs_made(), PAGE)
     text = page(programs)
     with open(out, "w", encoding="utf8") as file:
         file.write(text)
-    print(f"{out}: {len(text.encode())} bytes")
+    print(f"{os.path.relpath(out)}: {len(text.encode())} bytes")
 
 
 if __name__ == "__main__":

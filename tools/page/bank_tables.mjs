@@ -7,13 +7,13 @@ const cells = (kind, list) => list.map(text => element(kind, {}, text)).join("")
 const set = columns => ranges(members(columns));
 const record = number => element("span", { class: `dot ${recordClass(number)}` }, escaped(number));
 
-const HEADS = ["", "Column", "", "Record", "Doors", "To send to", "Awaits", "Owes", "Noted as halted", "Goal"];
+const HEADS = ["", "Column", "Record", "Doors", "To send to", "Awaits", "Owes", "Noted as<br>halted", "Goal"];
 
 function columnRow(bank, i, shown) {
   const column = bank.columns[i], { root, watch } = bank.table;
   const mark = `<input type="checkbox" data-mark="${i}" aria-label="select column ${i}"${shown.selected.has(i) ? " checked" : ""}>`;
-  const state = `${i === root ? "root" : ""}${column.running ? "" : `${i === root ? ", " : ""}halted`}`;
-  const list = [mark, String(i), state, record(column.number), String(occupiedDoors(column.doors).length), set(column.send), set(column.awaited), set(column.owed), set(column.noted),
+  const name = `${i}${i === root ? " root" : ""}${column.running ? "" : ", halted"}`;
+  const list = [mark, name, record(column.number), String(occupiedDoors(column.doors).length), set(column.send), set(column.awaited), set(column.owed), set(column.noted),
     column.whole ? "whole bank" : "subtree", ...watch === "sender" ? [String(column.sender)] : []];
   return element("tr", { "data-column": i, class: `${column.running ? "" : "halted"}${shown.selected.has(i) ? " chosen" : ""}` }, cells("td", list));
 }

@@ -1,5 +1,5 @@
 // What is shown of a run: the frame at which it is looked at, with its picture, sentence, tables and the closing list of the selected column.
-import { listsAt } from "./asking.mjs";
+import { askedAt } from "./asking.mjs";
 import { bankPicture } from "./bank_picture.mjs";
 import { columnSteps, columnsTable, lockersWall, packetsTable } from "./bank_tables.mjs";
 import { atRest } from "./dispatcher.mjs";
@@ -21,8 +21,8 @@ function tellFrame(frame) {
 
 // Where the program's lists at this frame are not what the page draws, that is told in place of the picture.
 function tellLists(asked) {
-  const text = asked === null ? "The script is too long to ask the proved program for its lists at this step." : asked.fits ? ""
-    : "The proved program lists something else at this step than the page has. The picture is not drawn; the lists below are the program's.";
+  const text = asked === null ? "The script is too long to ask the proved program at this step: the picture is the page's alone." : asked.fits ? ""
+    : "The proved program answers at this step otherwise than the page expects. The picture is not drawn; the closing list is the program's.";
   byId("difference").textContent = text || differenceTold(view.run);
   byId("difference").hidden = !byId("difference").textContent;
 }
@@ -71,13 +71,22 @@ function keepingFocus(write) {
   if (again) again.focus({ preventScroll: true });
 }
 
+// Where the picture is wider than its room, the acting column comes into sight.
+function showActing() {
+  const box = byId("picture"), acting = box.querySelector(".column.acting .box");
+  if (!acting || box.scrollWidth <= box.clientWidth) return;
+  const left = Number(acting.getAttribute("x")), right = left + Number(acting.getAttribute("width"));
+  if (left < box.scrollLeft || right > box.scrollLeft + box.clientWidth) box.scrollLeft = (left + right - box.clientWidth) / 2;
+}
+
 function writeFrame() {
-  const frame = frameNow(), { bank } = frame, asked = listsAt(view.program, view.run, view.at);
+  const frame = frameNow(), { bank } = frame, asked = askedAt(view.program, view.run, view.at);
   tellFrame(frame);
   tellLists(asked);
   byId("picture").innerHTML = asked && !asked.fits ? "" : bankPicture(frame, byId("picture").clientWidth, view);
-  byId("columns").innerHTML = columnsTable(bank, view);
-  byId("packets").innerHTML = packetsTable(bank, view);
+  showActing();
+  byId("columns").innerHTML = asked && !asked.fits ? "" : columnsTable(bank, view);
+  byId("packets").innerHTML = asked && !asked.fits ? "" : packetsTable(bank, view);
   byId("packets-title").textContent = `${capital(counted(bank.network.length, "packet"))} under way`;
   writeList(asked);
   writeActions();

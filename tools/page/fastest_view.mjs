@@ -15,14 +15,14 @@ function requestOf() {
 }
 
 // The tree of a table, with a text under each column's number and on each edge.
-export function treePicture(table, width, under, onEdge) {
+export function treePicture(table, width, under, onEdge, level = LEVEL) {
   const tree = treeLayout(table), slot = Math.max(BOX.width + 8, Math.min(120, (width - 2 * MARGIN) / tree.leaves)), whole = Math.max(slot * tree.leaves + 2 * MARGIN, Math.min(width, 400));
-  const begin = (whole - slot * tree.leaves) / 2, x = i => begin + (tree.left[i] + 0.5) * slot, y = i => MARGIN + BOX.height / 2 + tree.depth[i] * LEVEL;
+  const begin = (whole - slot * tree.leaves) / 2, x = i => begin + (tree.left[i] + 0.5) * slot, y = i => MARGIN + BOX.height / 2 + tree.depth[i] * level;
   const parts = table.up.map((parent, i) => i === table.root ? "" : element("line", { x1: x(parent), y1: y(parent), x2: x(i), y2: y(i), class: "edge" })
     + words(x(i) + (x(parent) - x(i)) * 0.42, y(i) + (y(parent) - y(i)) * 0.42, onEdge(i), "axis"));
   const boxes = table.up.map((_, i) => element("g", { class: "column record1" }, element("rect", { x: x(i) - BOX.width / 2, y: y(i) - BOX.height / 2, width: BOX.width, height: BOX.height, rx: 6, class: "box" }),
     words(x(i), y(i) - 3, `${i}${i === table.root ? " root" : ""}`, "number"), words(x(i), y(i) + 13, under(i), "axis")));
-  const height = 2 * MARGIN + BOX.height + (tree.levels - 1) * LEVEL;
+  const height = 2 * MARGIN + BOX.height + (tree.levels - 1) * level;
   return element("svg", { xmlns: "http://www.w3.org/2000/svg", width: whole, height, viewBox: `0 0 ${whole} ${height}`, role: "img", "aria-label": "The tree" }, ...parts, ...boxes);
 }
 

@@ -4,7 +4,7 @@ import { treePicture } from "./fastest_view.mjs";
 import { encode, readTable } from "./script.mjs";
 import { byId, element, escaped, words } from "./svg.mjs";
 
-const CHART = { width: 560, height: 200, left: 34, bottom: 34 }, COLUMNS = 8;
+const CHART = { width: 560, height: 200, left: 34, bottom: 34 }, COLUMNS = 8, LEVEL = 62;
 const MEANINGS = { 1: "the table has another form", 2: "a bank has 1 to 16 columns", 3: "the parents, the root or the sequence make no tree", 13: "after= is a count of 0 to 999", 23: "losses are counted for up to 8 columns, and where the root is watched" };
 const SHAPES = { chain: count => Array.from({ length: count }, (_, i) => Math.max(0, i - 1)), bush: count => Array(count).fill(0), "fastest tree, delay 2 and gap 1": count => fastestTree(count, 2, 1).up };
 
@@ -32,7 +32,7 @@ function bar(side, row, steps, width) {
     below -= size;
     if (row[kind]) parts.push(element("rect", { x, y: below, width: width * 0.86, height: Math.max(size, 1.5), class: `bar-${kind}` }));
   }
-  if (row.lost && width > 14) parts.push(words(x + width * 0.43, height - row.lost / whole * height - 3, String(row.lost), "axis"));
+  if (row.lost && width > 14) parts.push(words(x + width * 0.43, height - row.lost / whole * height - 3, String(row.lost), "bar-number"));
   if (steps % (side.rows.length > 60 ? 10 : side.rows.length > 24 ? 4 : 2) === 0) parts.push(words(x + width * 0.43, height + 14, String(steps), "axis"));
   if (steps === Math.min(state.after, side.rest)) parts.push(element("rect", { x: x - 1, y: 0, width: width * 0.86 + 2, height, class: "bar-now" }));
   return element("g", { "data-after": steps }, element("title", {}, `after ${steps} steps: kept ${row.kept}, lost ${row.lost}, none ${row.none}`), element("rect", { x, y: 0, width, height, fill: "transparent" }), ...parts);
@@ -64,7 +64,7 @@ function drawSide(side, k) {
   const part = byId(`losses-answer-${k}`), read = readTable(side.table);
   part.innerHTML = `<p class="${side.refused ? "refused" : ""}" aria-live="polite">${escaped(told(side))}</p>` + (side.refused ? "" :
     chart(side) + '<p class="legend"><span><i class="square kept"></i> kept</span><span><i class="square lost"></i> lost</span><span><i class="square none"></i> none</span></p>'
-    + treePicture(read.table, part.clientWidth, i => i === read.table.root ? "" : `under ${read.table.up[i]}`, () => "") + rowsTable(side));
+    + treePicture(read.table, part.clientWidth, i => i === read.table.root ? "" : `under ${read.table.up[i]}`, () => "", LEVEL) + rowsTable(side));
 }
 
 // Counts for one step count after the other, so that the page stays awake; a newer table ends it.

@@ -115,7 +115,7 @@ function* frameGroups(text, read) {
     bank = frames[frames.length - 1].bank;
     yield frames;
   }
-  if (last) yield [refusedFrame(bank, refusal(13, "the line does not end"), { line: before + lines.length, text: last, dispatched: 0 })];
+  if (last) yield [refusedFrame(bank, refusal(13, "the line does not end"), { line: before + lines.length, text: last, dispatched: 0, unended: true })];
   yield [{ line: -1, text: "end", dispatched: 0, answer: atRest(bank) ? "rest=yes\n" : "rest=no\n", bank, event: { step: "end" } }];
 }
 
