@@ -23,12 +23,21 @@ export function columnsTable(bank, shown) {
   return `<table><thead><tr>${cells("th", heads)}</tr></thead><tbody>${bank.columns.map((_, i) => columnRow(bank, i, shown)).join("")}</tbody></table>`;
 }
 
+// More packets than these are listed for the selected columns alone.
+const MANY_PACKETS = 60;
+
+function packetRow(packet, place, shown) {
+  return element("tr", { "data-packet": place, class: packet === shown.packet ? "chosen" : "" },
+    cells("td", [String(place), kindOf(packet), record(packet.number), String(packet.from), String(packet.to), `<button data-line="take=${place}">Take</button>`]));
+}
+
 // The packets under way, oldest first; each can be taken.
 export function packetsTable(bank, shown) {
-  if (!bank.network.length) return "<p>No packet is under way.</p>";
-  const rows = bank.network.map((packet, place) => element("tr", { "data-packet": place, class: packet === shown.packet ? "chosen" : "" },
-    cells("td", [String(place), kindOf(packet), record(packet.number), String(packet.from), String(packet.to), `<button data-line="take=${place}">Take</button>`])));
-  return `<table><thead><tr>${cells("th", ["Place", "Packet", "Number", "From", "To", ""])}</tr></thead><tbody>${rows.join("")}</tbody></table>`;
+  const { network } = bank, wanted = packet => network.length <= MANY_PACKETS || packet === shown.packet || shown.selected.has(packet.to) || shown.selected.has(packet.from);
+  const rows = network.map((packet, place) => wanted(packet) ? packetRow(packet, place, shown) : "").filter(Boolean);
+  if (!network.length) return "<p>No packet is under way.</p>";
+  const told = rows.length < network.length ? `<p class="faint">${rows.length} of ${network.length}: those from and to what is selected.</p>` : "";
+  return `${told}<table><thead><tr>${cells("th", ["Place", "Packet", "Number", "From", "To", ""])}</tr></thead><tbody>${rows.join("")}</tbody></table>`;
 }
 
 // The 64 doors, a row of lockers for each eight; where `choose` is so each is a button.

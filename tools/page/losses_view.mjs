@@ -67,7 +67,7 @@ function drawSide(side, k) {
     + treePicture(read.table, part.clientWidth, i => i === read.table.root ? "" : `under ${read.table.up[i]}`, () => "", LEVEL) + rowsTable(side));
 }
 
-// Counts for one step count after the other, so that the page stays awake; a newer table ends it.
+// Counts for one step count after the other, so that clicks are answered meanwhile; a newer table ends it.
 function countOn(side, k, began) {
   const until = performance.now() + 40;
   while (side.rows.length <= side.rest && performance.now() < until) side.rows.push(counted(side.table, side.rows.length));

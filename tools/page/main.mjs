@@ -79,6 +79,7 @@ async function start() {
   connectJournals(programs.journals);
   addEventListener("beforeprint", writeForPrint);
   begin(examples);
+  document.body.dataset.milliseconds = String(Math.round(performance.now()));
   document.body.dataset.ready = "yes";
 }
 

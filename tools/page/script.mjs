@@ -53,7 +53,7 @@ function treeRefused({ count, root, up, first }) {
 // The table at the start of a text and how many characters it has, or its refusal.
 export function readTable(text) {
   const found = TABLE.exec(text);
-  if (!found) return refusal(1, "the table does not begin with the lines columns=, root= and up= of their form");
+  if (!found) return refusal(1, text.includes("\r") ? "the lines end in a carriage return and a newline, where a newline alone is asked for" : "the table does not begin with the lines columns=, root= and up= of their form");
   const count = Number(found[1]), up = numbers(found[3]);
   const sequence = optionalLine(text.slice(found[0].length), "first=", NUMERALS);
   if (sequence.refused) return sequence;

@@ -1,0 +1,195 @@
+#!/usr/bin/env python3
+"""The page docs/bank.html in a real browser: every example played to its end, every button pressed, steps clicked to a script that the native program
+answers alike, and times measured.
+
+    python3 tests/outside_the_gate/page_in_browser.py [--pictures FOLDER]
+
+Needs Debian's chromium (or another of its kind) and the built programs of target/bin; where the browser is missing, that is told and the status is 1. With
+--pictures what is seen is kept, for a person to look at: wide, a phone's width, dark, on paper, 16 columns with 200 steps. It does not run other browsers
+than that one, no screen reader, and no finger on glass."""
+import argparse
+import glob
+import os
+import subprocess
+import sys
+import time
+
+sys.path.insert(0, os.path.dirname(os.path.dirname(os.path.abspath(__file__))))
+from helpers import browser
+from repository import ROOT, built, read
+
+ADDRESS = "file://" + os.path.join(ROOT, "docs", "bank.html")
+PARTS = ("bank", "fastest", "losses", "journals", "about")
+# Buttons that open a window of the system's own.
+OPENERS = ("open", "journal-open-0", "journal-open-1")
+# Sixteen columns whose root halts, and two hundred steps.
+CROWDED = "columns=16\nroot=0\nup=0,0,0,1,1,2,2,3,3,4,4,5,5,6,6,7\nwatch=sender\norder=0102000000000000\nsend=0\ntake=0\nhalt=0\nrun=9999\n"
+BUSH = "columns=16\nroot=0\nup=" + ",".join("0" * 16) + "\norder=ff02000000000080\nrun=40\nhalt=0,5\nrun=9999\n"
+# One script of some ten thousand steps: orders in a bush of 16 columns, each brought to rest.
+LONG = "columns=16\nroot=0\nup=" + ",".join("0" * 16) + "\n" + "order=0102000000000000\nrun=9999\n" * 167
+# A pause that a person notices, in milliseconds.
+NOTICED = 100
+
+
+def quoted(text):
+    """A string of JavaScript."""
+    return '"' + text.replace("\\", "\\\\").replace('"', '\\"').replace("\n", "\\n") + '"'
+
+
+def click(page, selector):
+    page.value(f"(part => part.dispatchEvent(new MouseEvent('click', {{ bubbles: true }})))(document.querySelector({quoted(selector)}))")
+
+
+def text(page, selector):
+    return page.value(f"document.querySelector({quoted(selector)}).textContent")
+
+
+def put(page, script, at=0):
+    """A script is typed and run, and looked at from a step."""
+    page.value(f"document.getElementById('script').value = {quoted(script)}")
+    click(page, "#run-script")
+    page.value(f"(slider => {{ slider.value = {at}; slider.oninput(); }})(document.getElementById('slider'))")
+
+
+def check(holds, words):
+    if not holds:
+        raise AssertionError(words)
+
+
+def native(script):
+    return subprocess.run([built("lockers_main")], input=script.encode(), capture_output=True, check=True).stdout.decode()
+
+
+def play_examples(page):
+    """Each example by its steps to the end: nothing differs, and what is printed is stored beside it."""
+    steps = 0
+    for path in sorted(glob.glob(os.path.join(ROOT, "examples", "*.script"))):
+        name = os.path.basename(path).removesuffix(".script")
+        page.value(f"(box => {{ box.value = {quoted(name)}; box.onchange(); }})(document.getElementById('example'))")
+        check(text(page, "#printed") == read(path.replace(".script", ".out")), f"{name}: printed otherwise")
+        last = page.value("Number(document.getElementById('slider').max)")
+        told = page.value(f"""(() => {{ const told = new Set();
+            for (let k = 0; k < {last}; k++) {{ document.getElementById('step').click(); if (!document.getElementById('difference').hidden) return null; told.add(document.getElementById('told').textContent); }}
+            return told.size; }})()""")
+        check(told is not None, f"{name}: a difference is told")
+        check(last == 0 or text(page, "#position") == f"{last} of {last}", f"{name}: not at its end")
+        steps += last
+    print(f"examples: every one played to its end, {steps} steps, no difference")
+
+
+def press_everything(page):
+    """Every button of every part, twice; none throws."""
+    pressed = set()
+    for part in PARTS:
+        page.open(f"{ADDRESS}#{part}")
+        for _ in range(2):
+            count = page.value(f"""(() => {{ const box = document.getElementById('{part}-part'), done = [];
+                for (const button of [...box.querySelectorAll('button')]) if (button.isConnected && !button.disabled && !{list(OPENERS)}.includes(button.id)) {{ button.click(); done.push(button.id || button.textContent); }}
+                for (const button of document.querySelectorAll('dialog button')) if (document.getElementById('order-dialog').open) {{ button.click(); done.push(button.id); }}
+                return done; }})()""")
+            pressed.update(count)
+    check(not page.told, page.told)
+    missing = {"first", "back", "play", "step", "last", "order", "rest", "turn", "undo", "save", "run-script", "fastest-make", "fastest-use", "losses-run-0", "journals-compare", "journals-swap", "journals-run"} - pressed
+    check(not missing, f"not pressed: {missing}")
+    print(f"buttons: {len(pressed)} pressed, nothing thrown")
+
+
+def click_a_script(page):
+    """A bank is stepped by clicks alone, with a strip, a note, a packet and a return; the native program answers the script alike."""
+    put(page, "columns=4\nroot=0\nup=0,0,0,1\n")
+    for selector in ("#order", "#order-wall [data-door='10']", "#order-wall [data-door='64']", "#order-give", "#actions [data-line='send=0']", "svg [data-packet='0']",
+                     "#actions [data-line='take=0']", "svg [data-column='2']", "#columns [data-mark='3']", "#actions [data-line='halt=2,3']", "svg [data-column='1']",
+                     "#actions [data-line='note=1,3']", "#actions [data-line='ack=1']", "#rest", "svg [data-column='3']", "#actions [data-line='back=3']", "#actions [data-line='list=3']", "#turn"):
+        click(page, selector)
+    script = page.value("document.getElementById('script').value")
+    check("halt=2,3\nnote=1,3\n" in script and "back=3\nlist=3\nrun=1\n" in script, script)
+    check(text(page, "#printed") == native(script), "the native program prints otherwise")
+    check("refused=6" in native(script) and "doors=10,64" in native(script), native(script))
+    click(page, "#save")
+    saved = os.path.join(page.folder.name, "bank.script")
+    for _ in range(100):
+        if os.path.exists(saved):
+            break
+        time.sleep(0.05)
+    check(read(saved) == script, "what was saved is another script")
+    print(f"clicks: a script of {script.count(chr(10))} lines, saved, answered alike by the native program")
+
+
+def use_keys(page):
+    page.open(f"{ADDRESS}#bank=taken-over:5")
+    for key, at in (("ArrowRight", 6), ("ArrowLeft", 5), ("End", 26), ("Home", 0)):
+        page.key(key)
+        check(text(page, "#position") == f"{at} of 26", f"{key}: {text(page, '#position')}")
+    page.value("document.querySelector('svg [data-column=\"2\"]').focus()")
+    page.key("Enter")
+    check("Column 2" in text(page, "#actions"), "Enter does not select")
+    print("keys: step, back, first, last and a selection")
+
+
+def tell_a_refusal(page):
+    put(page, "columns=3\nroot=0\nup=0,0,0\nsend=0\n", 1)
+    told = text(page, "#told")
+    check("Refused with 6: column 0 has nobody to send to" in told and "Line 4: send=0" in told, told)
+    put(page, "columns=3\nroot=0\nup=0,2,1\n")
+    check("refused with 3" in text(page, "#told"), text(page, "#told"))
+    print("refusals: told with their number, their meaning and their line")
+
+
+def measure(page):
+    """The size, the time to the first picture, and ten thousand steps."""
+    page.open(ADDRESS)
+    print(f"size: {os.path.getsize(os.path.join(ROOT, 'docs', 'bank.html'))} bytes")
+    ready, paint = page.value("[Number(document.body.dataset.milliseconds), performance.getEntriesByType('paint').map(entry => entry.startTime).pop() || 0]")
+    print(f"first picture: drawn {ready:.0f} ms after the page was asked for, first paint at {paint:.0f} ms")
+    page.value(f"document.getElementById('script').value = {quoted(LONG)}")
+    whole = page.value("(() => { const began = performance.now(); document.getElementById('run-script').click(); return performance.now() - began; })()")
+    frames = page.value("Number(document.getElementById('slider').max)")
+    steps = page.value("""(() => { const slider = document.getElementById('slider'), times = [];
+        for (let at = 0; at <= Number(slider.max); at += 97) { const began = performance.now(); slider.value = at; slider.oninput(); times.push(performance.now() - began); }
+        return [Math.max(...times), times.reduce((sum, time) => sum + time, 0) / times.length]; })()""")
+    check(frames >= 9999, frames)
+    print(f"a run of {frames} steps: {whole:.0f} ms to run and draw it; a step of it is drawn in {steps[1]:.0f} ms, at most {steps[0]:.0f} ms")
+    check(steps[0] < NOTICED, "drawing a step takes as long as a person notices")
+
+
+def take_pictures(page, folder):
+    os.makedirs(folder, exist_ok=True)
+    views = {"wide": (1400, 900, {}), "phone": (390, 844, {}), "dark": (1400, 900, {"dark": True}), "paper": (800, 1100, {"media": "print"})}
+    for name, (width, height, how) in views.items():
+        page.size(width, height, **how)
+        page.open(f"{ADDRESS}#bank=taken-over:11")
+        page.value("dispatchEvent(new Event('beforeprint'))")
+        page.picture(os.path.join(folder, f"taken-over-{name}.png"), True)
+        for script, at, called in ((CROWDED, 60, "crowded"), (BUSH, 70, "bush")):
+            put(page, script, at)
+            page.picture(os.path.join(folder, f"{called}-{name}.png"), True)
+        for part in PARTS[1:]:
+            click(page, f"#{part}-tab")
+            time.sleep(1)
+            page.picture(os.path.join(folder, f"{part}-{name}.png"), True)
+    print(f"pictures: {len(os.listdir(folder))} in {folder}, to be looked at")
+
+
+def main():
+    parser = argparse.ArgumentParser(description=__doc__, formatter_class=argparse.RawDescriptionHelpFormatter)
+    parser.add_argument("--pictures", metavar="FOLDER")
+    asked = parser.parse_args()
+    if not browser.path():
+        sys.exit(f"no browser is found ({', '.join(browser.NAMES)}): nothing was run")
+    sys.stdout.reconfigure(line_buffering=True)
+    page = browser.Page(ADDRESS)
+    page.size(1400, 900)
+    try:
+        for part in (play_examples, press_everything, click_a_script, use_keys, tell_a_refusal, measure):
+            part(page)
+        check(not page.told, page.told)
+        check(all(address.startswith(("file://", "about:", "blob:", "data:")) for address in page.asked), page.asked)
+        print("network: nothing asked for but the file")
+        if asked.pictures:
+            take_pictures(page, asked.pictures)
+    finally:
+        page.close()
+
+
+if __name__ == "__main__":
+    main()
