@@ -27,8 +27,8 @@ CROWDED = "columns=16\nroot=0\nup=0,0,0,1,1,2,2,3,3,4,4,5,5,6,6,7\nwatch=sender\
 BUSH = "columns=16\nroot=0\nup=" + ",".join("0" * 16) + "\norder=ff02000000000080\nrun=40\nhalt=0,5\nrun=9999\n"
 # One script of some ten thousand steps: orders in a bush of 16 columns, each brought to rest.
 LONG = "columns=16\nroot=0\nup=" + ",".join("0" * 16) + "\n" + "order=0102000000000000\nrun=9999\n" * 167
-# A pause that a person notices, in milliseconds.
-NOTICED = 100
+# In milliseconds: a pause between two steps that a person notices, and one for which a person who has pressed a button waits.
+NOTICED, WAITED = 100, 1000
 
 
 def quoted(text):
@@ -77,20 +77,24 @@ def play_examples(page):
     print(f"examples: every one played to its end, {steps} steps, no difference")
 
 
+# Presses each button that a part has or gets, once for each id or kind of step.
+PRESS = """((part, openers) => { const box = document.getElementById(part + '-part'), done = new Set(), key = button => button.id || (button.dataset.line || button.textContent).split('=')[0];
+    const next = () => [...box.querySelectorAll('button[data-line]'), ...box.querySelectorAll('button'), ...document.querySelectorAll('dialog[open] button[id]')].find(button => !button.disabled && !openers.includes(button.id) && !done.has(key(button)));
+    for (let button; (button = next());) { done.add(key(button)); button.click(); if (/^order-(give|cancel)$/.test(button.id)) document.getElementById('order').click(); }
+    document.getElementById('order-dialog').close();
+    return [...done]; })"""
+PRESSED = {"first", "back", "play", "step", "last", "order", "order-give", "order-none", "order-cancel", "rest", "turn", "undo", "save", "run-script", "send", "ack", "all", "halt", "list", "take",
+           "fastest-make", "fastest-use", "fastest-save", "losses-run-0", "losses-run-1", "journals-compare", "journals-swap", "journals-run"}
+
+
 def press_everything(page):
-    """Every button of every part, twice; none throws."""
+    """Every button of every part, also those that appear by pressing another; none throws."""
     pressed = set()
     for part in PARTS:
-        page.open(f"{ADDRESS}#{part}")
-        for _ in range(2):
-            count = page.value(f"""(() => {{ const box = document.getElementById('{part}-part'), done = [];
-                for (const button of [...box.querySelectorAll('button')]) if (button.isConnected && !button.disabled && !{list(OPENERS)}.includes(button.id)) {{ button.click(); done.push(button.id || button.textContent); }}
-                for (const button of document.querySelectorAll('dialog button')) if (document.getElementById('order-dialog').open) {{ button.click(); done.push(button.id); }}
-                return done; }})()""")
-            pressed.update(count)
+        page.open(f"{ADDRESS}#{part}" + ("=taken-over:2" if part == "bank" else ""))
+        pressed.update(page.value(f"{PRESS}({quoted(part)}, {list(OPENERS)})"))
     check(not page.told, page.told)
-    missing = {"first", "back", "play", "step", "last", "order", "rest", "turn", "undo", "save", "run-script", "fastest-make", "fastest-use", "losses-run-0", "journals-compare", "journals-swap", "journals-run"} - pressed
-    check(not missing, f"not pressed: {missing}")
+    check(PRESSED <= pressed, f"not pressed: {PRESSED - pressed}")
     print(f"buttons: {len(pressed)} pressed, nothing thrown")
 
 
@@ -105,8 +109,10 @@ def click_a_script(page):
     check("halt=2,3\nnote=1,3\n" in script and "back=3\nlist=3\nrun=1\n" in script, script)
     check(text(page, "#printed") == native(script), "the native program prints otherwise")
     check("refused=6" in native(script) and "doors=10,64" in native(script), native(script))
-    click(page, "#save")
     saved = os.path.join(page.folder.name, "bank.script")
+    if os.path.exists(saved):
+        os.remove(saved)
+    click(page, "#save")
     for _ in range(100):
         if os.path.exists(saved):
             break
@@ -146,10 +152,11 @@ def measure(page):
     frames = page.value("Number(document.getElementById('slider').max)")
     steps = page.value("""(() => { const slider = document.getElementById('slider'), times = [];
         for (let at = 0; at <= Number(slider.max); at += 97) { const began = performance.now(); slider.value = at; slider.oninput(); times.push(performance.now() - began); }
-        return [Math.max(...times), times.reduce((sum, time) => sum + time, 0) / times.length]; })()""")
+        times.sort((one, other) => one - other);
+        return [times[times.length >> 1], times[times.length - 1]]; })()""")
     check(frames >= 9999, frames)
-    print(f"a run of {frames} steps: {whole:.0f} ms to run and draw it; a step of it is drawn in {steps[1]:.0f} ms, at most {steps[0]:.0f} ms")
-    check(steps[0] < NOTICED, "drawing a step takes as long as a person notices")
+    print(f"a run of {frames} steps: {whole:.0f} ms to run and draw it; a step of it is drawn in {steps[0]:.0f} ms, the median, at most {steps[1]:.0f} ms")
+    check(steps[0] < NOTICED and whole < WAITED, "a person notices a pause")
 
 
 def take_pictures(page, folder):

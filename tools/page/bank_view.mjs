@@ -104,6 +104,7 @@ export function draw() {
 
 // Looks at a frame, or at the nearest that there is.
 export function go(at) {
+  if (!view.run.frames.length) return;
   view.at = Math.max(0, Math.min(view.run.frames.length - 1, at));
   const { bank } = frameNow();
   if (!bank.network.includes(view.packet)) view.packet = null;
