@@ -56,6 +56,16 @@ def ran(scripts, sources=SOURCES, requests=(), looks=LOOKS):
     return json.loads(done.stdout)
 
 
+def swapped(folder):
+    """A copy of the page's sources whose dispatcher looks at ack before send."""
+    wrong, text = shutil.copytree(SOURCES, os.path.join(folder, "page")), read(SOURCES, "dispatcher.mjs")
+    if text.count(KINDS) != 1:
+        raise AssertionError(f"{KINDS} is not once in dispatcher.mjs")
+    with open(os.path.join(wrong, "dispatcher.mjs"), "w", encoding="utf8") as file:
+        file.write(text.replace(KINDS, SWAPPED))
+    return wrong
+
+
 class Built(unittest.TestCase):
     def test_the_committed_page_is_what_the_tool_builds(self):
         self.assertEqual(build_page.page(build_page.programs_made()), read(build_page.PAGE))
@@ -106,11 +116,7 @@ class InNode(unittest.TestCase):
     def test_a_dispatcher_with_two_kinds_swapped_is_noticed(self):
         scripts = [data for data in random_scripts() if b"\nrun=" in data]
         with tempfile.TemporaryDirectory() as folder:
-            wrong = shutil.copytree(SOURCES, os.path.join(folder, "page"))
-            text = read(wrong, "dispatcher.mjs")
-            self.assertEqual(text.count(KINDS), 1)
-            with open(os.path.join(wrong, "dispatcher.mjs"), "w", encoding="utf8") as file:
-                file.write(text.replace(KINDS, SWAPPED))
+            wrong = swapped(folder)
             told = [run["sentences"] for run in ran(scripts, wrong, looks=1)["scripts"]]
             other = [data for data, run, sentences in zip(scripts, ran(scripts, looks=1)["scripts"], told) if run["sentences"] != sentences]
             runs = ran(other, wrong, looks=EVERY)["scripts"]

@@ -12,10 +12,13 @@ import glob
 import os
 import subprocess
 import sys
+import tempfile
 import time
 
 sys.path.insert(0, os.path.dirname(os.path.dirname(os.path.abspath(__file__))))
 from helpers import browser
+import build_page
+from cases.test_page import swapped
 from repository import ROOT, built, read
 
 ADDRESS = "file://" + os.path.join(ROOT, "docs", "bank.html")
@@ -25,6 +28,8 @@ OPENERS = ("open", "journal-open-0", "journal-open-1")
 # Sixteen columns whose root halts, and two hundred steps.
 CROWDED = "columns=16\nroot=0\nup=0,0,0,1,1,2,2,3,3,4,4,5,5,6,6,7\nwatch=sender\norder=0102000000000000\nsend=0\ntake=0\nhalt=0\nrun=9999\n"
 BUSH = "columns=16\nroot=0\nup=" + ",".join("0" * 16) + "\norder=ff02000000000080\nrun=40\nhalt=0,5\nrun=9999\n"
+# Column 1 may both send and acknowledge when the dispatcher takes its one step.
+EITHER = "columns=3\nroot=0\nup=0,0,0\nhalt=0\nnote=2,0\nall=2\nsend=2\nsend=2\nnote=1,0\nall=1\ntake=0\nrun=1\n"
 # One script of some ten thousand steps: orders in a bush of 16 columns, each brought to rest.
 LONG = "columns=16\nroot=0\nup=" + ",".join("0" * 16) + "\n" + "order=0102000000000000\nrun=9999\n" * 167
 # In milliseconds: a pause between two steps that a person notices, and one for which a person who has pressed a button waits.
@@ -141,6 +146,20 @@ def tell_a_refusal(page):
     print("refusals: told with their number, their meaning and their line")
 
 
+def tell_a_difference(page):
+    """A page whose dispatcher has two kinds swapped tells it, and draws no picture there."""
+    with tempfile.TemporaryDirectory() as folder:
+        with open(os.path.join(folder, "bank.html"), "w", encoding="utf8") as file:
+            file.write(build_page.page(build_page.programs_of(build_page.PAGE), swapped(folder)))
+        page.open(f"file://{folder}/bank.html")
+        put(page, EITHER)
+        told, drawn = page.value("""(() => { const step = document.getElementById('step'), difference = document.getElementById('difference'), last = Number(document.getElementById('slider').max);
+            for (let k = 0; k < last && difference.hidden; k++) step.click();
+            return [difference.textContent, document.getElementById('picture').innerHTML.length]; })()""")
+    check("proved program" in told and drawn == 0, told)
+    print(f"a swapped dispatcher is told: {told}")
+
+
 def measure(page):
     """The size, the time to the first picture, and ten thousand steps."""
     page.open(ADDRESS)
@@ -187,7 +206,7 @@ def main():
     page = browser.Page(ADDRESS)
     page.size(1400, 900)
     try:
-        for part in (play_examples, press_everything, click_a_script, use_keys, tell_a_refusal, measure):
+        for part in (play_examples, press_everything, click_a_script, use_keys, tell_a_refusal, tell_a_difference, measure):
             part(page)
         check(not page.told, page.told)
         check(all(address.startswith(("file://", "about:", "blob:", "data:")) for address in page.asked), page.asked)

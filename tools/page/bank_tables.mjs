@@ -19,7 +19,7 @@ function columnRow(bank, i, shown) {
 }
 
 export function columnsTable(bank, shown) {
-  const heads = bank.table.watch === "sender" ? [...HEADS, "Its sender"] : HEADS;
+  const heads = bank.table.watch === "sender" ? [...HEADS, "Its<br>sender"] : HEADS;
   return `<table><thead><tr>${cells("th", heads)}</tr></thead><tbody>${bank.columns.map((_, i) => columnRow(bank, i, shown)).join("")}</tbody></table>`;
 }
 

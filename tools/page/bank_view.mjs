@@ -2,8 +2,9 @@
 import { askedAt } from "./asking.mjs";
 import { bankPicture } from "./bank_picture.mjs";
 import { columnSteps, columnsTable, lockersWall, packetsTable } from "./bank_tables.mjs";
+import { doorsOf } from "./columns.mjs";
 import { atRest } from "./dispatcher.mjs";
-import { lineFrames } from "./script.mjs";
+import { lineFrames, numbers } from "./script.mjs";
 import { showRow, writeSteps } from "./step_list.mjs";
 import { byId, element, escaped } from "./svg.mjs";
 import { capital, columnsNamed, counted, lineNamed, sentence } from "./telling.mjs";
@@ -12,9 +13,9 @@ export const view = { program: null, run: null, at: 0, selected: new Set([0]), p
 
 const frameNow = () => view.run.frames[view.at];
 
-function tellFrame(frame) {
-  const line = lineNamed(frame), rests = atRest(frame.bank) ? " The bank is at rest." : "";
-  byId("told").innerHTML = element("p", { class: frame.refused ? "refused" : "" }, escaped(sentence(frame) + rests))
+function tellFrame(frame, fits) {
+  const line = lineNamed(frame), rests = fits && atRest(frame.bank) ? " The bank is at rest." : "";
+  byId("told").innerHTML = element("p", { class: frame.refused ? "refused" : "" }, escaped(fits ? sentence(frame) + rests : ""))
     + element("p", { class: "faint" }, escaped(`${capital(line || "the end")}${frame.text === "table" || line === "" ? "" : `: ${frame.text}`}${frame.answer ? ` prints ${frame.answer.trim().split("\n").join(", ")}` : ""}`));
   byId("told").className = rests ? "rests" : "";
 }
@@ -36,14 +37,14 @@ function differenceTold(run) {
 
 // The closing list of the selected column as the program prints it, with the wall of its doors.
 function writeList(asked) {
-  const { bank } = frameNow(), [i] = view.selected;
+  const [i] = view.selected;
   if (view.selected.size !== 1 || !asked) {
     byId("list").innerHTML = "<p>Select one column to see its closing list.</p>";
     return;
   }
-  const answer = asked.lists[i].trim();
+  const answer = asked.lists[i].trim(), doors = (/doors=([0-9,]+)$/.exec(answer) || ["", ""])[1];
   const told = answer.startsWith("refused") ? `Column ${i} is halted: ${answer}. Its doors are not to be had from it.` : "";
-  byId("list").innerHTML = element("pre", {}, escaped(answer)) + (told ? element("p", {}, escaped(told)) : lockersWall(bank.columns[i].doors, false));
+  byId("list").innerHTML = element("pre", {}, escaped(answer)) + (told ? element("p", {}, escaped(told)) : lockersWall(doorsOf(doors ? numbers(doors) : []), false));
 }
 
 function stepButton([label, line]) {
@@ -80,13 +81,13 @@ function showActing() {
 }
 
 function writeFrame() {
-  const frame = frameNow(), { bank } = frame, asked = askedAt(view.program, view.run, view.at);
-  tellFrame(frame);
+  const frame = frameNow(), { bank } = frame, asked = askedAt(view.program, view.run, view.at), fits = !asked || asked.fits;
+  tellFrame(frame, fits);
   tellLists(asked);
-  byId("picture").innerHTML = asked && !asked.fits ? "" : bankPicture(frame, byId("picture").clientWidth, view);
+  byId("picture").innerHTML = fits ? bankPicture(frame, byId("picture").clientWidth, view) : "";
   showActing();
-  byId("columns").innerHTML = asked && !asked.fits ? "" : columnsTable(bank, view);
-  byId("packets").innerHTML = asked && !asked.fits ? "" : packetsTable(bank, view);
+  byId("columns").innerHTML = fits ? columnsTable(bank, view) : "";
+  byId("packets").innerHTML = fits ? packetsTable(bank, view) : "";
   byId("packets-title").textContent = `${capital(counted(bank.network.length, "packet"))} under way`;
   writeList(asked);
   writeActions();
