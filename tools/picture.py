@@ -2,13 +2,13 @@
 """Draws the run of a script as SVG: a line for each column, time downwards, a row for each step. The answers are those of the program; where one does not
 fit the run, nothing is drawn and the status is 1.
 
-    tools/picture.py SCRIPT > PICTURE
-    tools/picture.py SCRIPT PROGRAM > PICTURE      # with another program than ./lockers
+    tools/picture.py examples/taken-over.script > mine.svg
 """
 import html
 import sys
 
 import recorded
+from repository import parser
 
 ROW = 22
 TOP = 108
@@ -180,12 +180,16 @@ def drawn(bank):
 
 
 def main():
-    script, *program = sys.argv[1:] or sys.exit(__doc__)
-    with open(script, "rb") as file:
-        data = file.read()
+    words = parser(__doc__)
+    words.add_argument("script", metavar="SCRIPT", help="the file of a script whose table is accepted")
+    words.add_argument("program", metavar="PROGRAM", nargs="?", default=recorded.PROGRAM, help="another program than ./lockers that answers a script")
+    asked = words.parse_args()
     try:
-        answers = recorded.answers_of(program[0] if program else recorded.PROGRAM, script)
-        sys.stdout.write(drawn(recorded.recorded(data, answers)))
+        with open(asked.script, "rb") as file:
+            data = file.read()
+        sys.stdout.write(drawn(recorded.recorded(data, recorded.answers_of(asked.program, asked.script))))
+    except OSError as error:
+        sys.exit(f"picture: cannot read {asked.script}: {error.strerror}")
     except recorded.Unfit as unfit:
         sys.exit(f"picture: {unfit}")
 

@@ -102,8 +102,8 @@ class Journals(Command):
 
     def test_another_count_of_files_is_refused(self):
         self.build()
-        for words in ((), (self.file,), (self.file, self.other, self.other), ("--help", self.file, self.other)):
-            self.assert_failed(self.run_command(*words), "two journals are asked for")
+        for words in ((), (self.file,), (self.file, self.other, self.other)):
+            self.assert_misused(self.run_command(*words), "two journals are asked for")
 
     def test_a_file_that_cannot_be_read_is_told_before_a_build(self):
         self.stand_in()
@@ -138,7 +138,7 @@ class Journals(Command):
         self.build()
         os.makedirs(self.path("examples"))
         shutil.copytree(os.path.join(ROOT, "tools", "model"), self.path("tools", "model"))
-        for path in ("tools/script_journals.py", "examples/strip-halted.script"):
+        for path in ("tools/script_journals.py", "tools/repository.py", "mudasgup.pc", "examples/strip-halted.script"):
             shutil.copy(os.path.join(ROOT, path), self.path(path))
         command, printed = BLOCK.findall(section(read("README.md"), "The journals of two columns"))
         self.assert_answered(self.run_in_shell(command), printed)

@@ -1,0 +1,63 @@
+"""How tools, the benchmark and the runners of tests are called: -h and --version answer, and a wrong call ends with a usage line and status 2."""
+import glob
+import os
+import subprocess
+import tempfile
+import unittest
+
+from repository import ROOT, read, version
+
+FOLDERS = ("tools", "bench", "tests", "tests/mutants", "tests/outside_the_gate", ".ci")
+
+
+def callable_files():
+    """The files of the folders that are run by their names: those whose first line names what runs them."""
+    paths = [path for folder in FOLDERS for path in glob.glob(os.path.join(ROOT, folder, "*")) if os.path.isfile(path)]
+    return sorted(os.path.relpath(path, ROOT) for path in paths if read(path).startswith("#!"))
+
+
+def called(path, *words):
+    runner = ["python3"] if "python3" in read(path).split("\n")[0] else ["bash"]
+    return subprocess.run([*runner, os.path.join(ROOT, path), *words], capture_output=True, text=True, stdin=subprocess.DEVNULL)
+
+
+class Tools(unittest.TestCase):
+    def test_every_tool_has_a_help_and_a_version(self):
+        self.assertGreaterEqual(len(callable_files()), 14)
+        for path in callable_files():
+            for word in ("-h", "--help"):
+                done = called(path, word)
+                self.assertEqual((done.stderr, done.returncode), ("", 0), path)
+                self.assertTrue(done.stdout.startswith(f"usage: {path} ") and done.stdout.count("\n") > 2, done.stdout)
+            done = called(path, "--version")
+            self.assertEqual((done.stdout, done.stderr, done.returncode), (f"{path} {version()}\n", "", 0), path)
+
+    def test_a_wrong_call_has_a_usage_line_and_status_2(self):
+        for path in callable_files():
+            done = called(path, "--no-such-word")
+            self.assertEqual((done.stdout, done.returncode), ("", 2), path)
+            self.assertTrue(done.stderr.startswith(f"usage: {path} "), done.stderr)
+            self.assertNotIn("Traceback", done.stderr)
+
+    def test_words_that_are_missing_or_wrong_are_told(self):
+        for path, *words in (("tools/picture.py",), ("tools/script_journals.py", "one"), ("tools/losses_picture.py",), ("tools/losses_picture.py", "p.svg", "bush"),
+                             ("tools/losses_picture.py", "p.svg", "bush=missing"), ("tests/mutants/run", "nothing"), ("tests/mutants/run", "column", "nothing"), ("tests/mutants/pick", "2", "1", "nothing"),
+                             ("tests/run.py", "test_nothing"), ("tests/outside_the_gate/seeds.py",), ("tests/outside_the_gate/script_seeds.py", "one"), ("tools/build.sh", "check"),
+                             ("tools/point_times.py", "14")):
+            done = called(path, *words)
+            self.assertEqual((done.stdout, done.returncode), ("", 2), path)
+            self.assertTrue(done.stderr.startswith(f"usage: {path} "), done.stderr)
+
+    def test_a_file_that_cannot_be_read_is_told_without_a_trace(self):
+        with tempfile.TemporaryDirectory() as folder:
+            for path, *words in (("tools/picture.py", "missing.script"), ("tools/script_journals.py", "missing.script", folder)):
+                done = called(path, *words)
+                self.assertEqual((done.stdout, done.returncode), ("", 1), path)
+                self.assertRegex(done.stderr, r"\A[^\n]*cannot read missing\.script[^\n]*\n\Z")
+
+    def test_make_says_what_it_proves(self):
+        makefile = read("Makefile")
+        self.assertIn("tools/build.sh staticlib firmware", makefile)
+        done = subprocess.run(["make", "help"], cwd=ROOT, capture_output=True, text=True)
+        self.assertEqual(done.returncode, 0)
+        self.assertIn("make install PREFIX=DIR", done.stdout)
