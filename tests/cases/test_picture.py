@@ -76,11 +76,12 @@ class Pictures(unittest.TestCase):
             self.assertIn("the program answers", picture.stderr)
 
     def test_the_pictures_of_the_documents_are_those_of_their_scripts(self):
-        readme = read("README.md")
+        document = read("docs", "SCRIPTS.md")
         for name, path in SHOWN.items():
             self.assertEqual(drawn(os.path.join(ROOT, "examples", f"{name}.script")).stdout, read(path), path)
-            self.assertIn(f"](docs/{name}.svg)\n", readme)
-            self.assertIn(f"\ntools/picture.py examples/{name}.script > docs/{name}.svg\n", readme)
+            self.assertIn(f"](docs/{name}.svg)\n", read("README.md"))
+            self.assertIn(f"]({name}.svg)\n", document)
+            self.assertIn(f"\ntools/picture.py examples/{name}.script > docs/{name}.svg\n", document)
 
 
 def box_of(element):
