@@ -1,6 +1,6 @@
 #!/usr/bin/env python3
 """What has to be believed, claim by claim: the definitions that public contracts and statements rest on, by file and lines, as rows of a table.
-What names what is read from the `use` lines: a name stands for the declaration that is imported under it, or for the file's own."""
+What names what is read from the `use` lines: a name means the declaration that is imported under it, or for the file's own."""
 import glob
 import itertools
 import os
