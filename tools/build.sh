@@ -39,19 +39,20 @@ for each in $(below "$crate"); do
 done
 left="$left$crate"
 
-# Those that are left and rest on none that is left.
-at_work() {
-    local each lower
+# Says which crates are at work, those that are left and rest on none that is left, and which come after them.
+say_left() {
+    local each lower now= later=
     for each in $left; do
         for lower in $(below "$each"); do
-            case " $left " in *" $lower "*) continue 2 ;; esac
+            case " $left " in *" $lower "*)
+                later="$later $each"
+                continue 2
+                ;;
+            esac
         done
-        printf ' %s' "$each"
+        now="$now $each"
     done
-}
-
-say_left() {
-    [ -z "$left" ] || echo "build: at work:$(at_work); still to prove: $left" >&2
+    [ -z "$now" ] || echo "build: at work:$now${later:+; then:$later}" >&2
 }
 
 said() {

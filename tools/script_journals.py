@@ -1,7 +1,7 @@
 #!/usr/bin/env python3
 """The journals that the columns of a bank keep in the run of a script, after Point 11 of document 02, written beside the steps of the model:
 
-    tools/script_journals.py examples/strip-halted.script pulled
+    tools/script_journals.py examples/strip-halted.script target/pulled
 
 The journal of each column I goes to FOLDER/I."""
 import os

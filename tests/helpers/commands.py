@@ -26,7 +26,8 @@ def said_of(program, lines):
     for crate, line in [(None, f"build: {program} is proved and built first, which may take MINUTES; later runs answer at once"), *lines]:
         left = [one for one in left if one != crate]
         ready = [one for one in left if not set(below(one)) & set(left)]
-        said += [line, *([f"build: at work: {' '.join(ready)}; still to prove: {' '.join(left)}"] if left else [])]
+        later = " ".join(one for one in left if one not in ready)
+        said += [line, *([f"build: at work: {' '.join(ready)}{'; then: ' if later else ''}{later}"] if left else [])]
     return "".join(f"{line}\n" for line in said)
 
 
