@@ -10,9 +10,9 @@ MEAN, LONGEST = 22, 45
 
 
 def documents():
-    """The documents by their paths; of docs/CHANGES.md the newest entry alone, since the others are of landings that are past."""
+    """The documents by their paths."""
     paths = ["README.md", "CONTRIBUTING.md", "tests/mutants/README.md", *(os.path.relpath(path, ROOT) for path in sorted(glob.glob(os.path.join(ROOT, "docs", "*.md"))))]
-    return {path: "\n## ".join(read(path).split("\n## ")[:2]) if path == "docs/CHANGES.md" else read(path) for path in paths}
+    return {path: read(path) for path in paths}
 
 
 class Sentences(unittest.TestCase):
