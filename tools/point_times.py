@@ -2,11 +2,11 @@
 """How long the check of the proofs takes before and after the landing of each Point of document 02: `rt prove`, every crate from nothing, at the commit of the landing
 and at the one before it, each in a clean clone. Prints a table for docs/CHANGES.md.
 
-    tools/point_times.py --results target/point-times.json          all thirteen
-    tools/point_times.py --results target/point-times.json 1 4      Points 1 and 4
-    tools/point_times.py --list                                     the commits, and which of them have the same sources
+    tools/point_times.py --results ../point-times.json          all thirteen
+    tools/point_times.py --results ../point-times.json 1 4      Points 1 and 4
+    tools/point_times.py --list                                 the commits, and which of them have the same sources
 
-What is measured is kept in the results file, commit by commit; a run that was stopped goes on where it ended. Commits that have the same crates are measured once.
+What is measured is kept in the results file, commit by commit; a run that was stopped goes on where it ended. Keep it outside of target, which `rt ci` removes. Commits that have the same crates are measured once.
 Nothing else should run on the machine."""
 import json
 import os
