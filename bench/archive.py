@@ -8,6 +8,7 @@ from repository import ROOT, read
 
 ARCHIVE = os.path.join(ROOT, "target", "staticlib", "libfirmware.a")
 INCLUDE = os.path.join(ROOT, "include")
+PREFIX = "mudasgup_raw_"
 TYPES = {"usize": "uint64_t", "u8": "uint8_t", "u32": "uint32_t"}
 
 
@@ -18,6 +19,11 @@ def archive():
     if not os.path.exists(ARCHIVE) or os.path.getmtime(ARCHIVE) < max(map(os.path.getmtime, sources)):
         subprocess.run(["rt", "staticlib", "firmware"], cwd=ROOT, check=True, capture_output=True)
     return ARCHIVE
+
+
+def sources():
+    """The texts of the crate."""
+    return [read(path) for path in sorted(glob.glob(os.path.join(ROOT, "crates", "firmware", "src", "*.rt")))]
 
 
 def exported():

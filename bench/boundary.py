@@ -5,7 +5,7 @@ import os
 import re
 import subprocess
 
-from archive import INCLUDE, archive, exported
+from archive import INCLUDE, PREFIX, archive, exported
 from laps import COLD, COUNTED, COUNTED_FRAMES, STEPS
 from measure import FOLDER, Side, Work, compiled, run
 from repository import ROOT

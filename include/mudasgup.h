@@ -260,8 +260,11 @@ static inline mudasgup_status mudasgup_packet_convert(
 static inline mudasgup_status mudasgup_frame_count(
     const uint8_t *frame, size_t size, size_t *packets);
 
-/* Joins a packet to the frame of the first `used` bytes, which grows by the packet's size. Refused
- * with 12 where these are no frame, or the packet is none; 11. */
+/* Joins a packet to the frame of the first `used` bytes, which grows by its size. Each call
+ * reads the whole frame, so that its time grows with the packets in it. Where all of these were put
+ * by steps, the cheap way is to copy their bytes one after the other and to count them up to
+ * MUDASGUP_FRAME_PACKETS: that is a frame. Refused with 12 where the bytes are no frame, or the
+ * packet is none; 11. */
 static inline mudasgup_status mudasgup_frame_join(
     const mudasgup_packet *packet, uint8_t *frame, size_t size, size_t *used);
 

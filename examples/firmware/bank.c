@@ -1,5 +1,5 @@
 /* Runs banks of real processes: bank SEED COUNT [JOURNALS]. Each has a random tree, random orders and columns that are killed at random; at rest some of
- * those come back, and it goes on. It fails where two lit columns list another order number or other doors at rest, where a root that is done finds a
+ * those come back, and it goes on. It fails where two running columns list another order number or other doors at rest, where a root that is done finds a
  * column without its last order, or where the program JOURNALS answers for the journals of two columns something else than what the line holds. */
 #include "supervisor.h"
 #include <signal.h>
@@ -18,7 +18,7 @@
 static void kill_column(size_t i) {
   kill(bank.process[i], SIGKILL);
   waitpid(bank.process[i], NULL, 0);
-  bank.lit[i] = 0;
+  bank.running[i] = 0;
   while (hear(i, 0))
     ;
   close(bank.line[i]);
@@ -31,7 +31,7 @@ static void kill_column(size_t i) {
 }
 
 static int tell(size_t i) {
-  if (!bank.lit[i] || bank.untold[i] == 0 || bank.busy[i] >= COMMANDS_MOST)
+  if (!bank.running[i] || bank.untold[i] == 0 || bank.busy[i] >= COMMANDS_MOST)
     return 0;
   uint8_t j = (uint8_t)__builtin_ctz(bank.untold[i]);
   bank.untold[i] &= bank.untold[i] - 1;
@@ -40,13 +40,13 @@ static int tell(size_t i) {
 }
 
 static int go_on(size_t i) {
-  if (!bank.lit[i] || bank.busy[i] > 0 || is_idle(&bank.last[i].column))
+  if (!bank.running[i] || bank.busy[i] > 0 || is_idle(&bank.last[i].column))
     return 0;
   command(i, GO_ON, "", 0);
   return 1;
 }
 
-static int may_order(void) { return bank.orders > 0 && bank.lit[bank.root] && bank.busy[bank.root] == 0 && is_done(&bank.last[bank.root].column); }
+static int may_order(void) { return bank.orders > 0 && bank.running[bank.root] && bank.busy[bank.root] == 0 && is_done(&bank.last[bank.root].column); }
 
 static void order(void) {
   uint8_t doors[MUDASGUP_DOORS_SIZE];
@@ -78,7 +78,7 @@ static int at_rest(void) {
   if (bank.packets_count > 0)
     return 0;
   for (size_t i = 0; i < bank.count; i++)
-    if (bank.lit[i] && (bank.busy[i] > 0 || bank.untold[i] != 0 || !is_idle(&bank.last[i].column)))
+    if (bank.running[i] && (bank.busy[i] > 0 || bank.untold[i] != 0 || !is_idle(&bank.last[i].column)))
       return 0;
   return 1;
 }
@@ -93,12 +93,12 @@ static const char *past_first_line(const struct done *done, size_t *size) {
   return end;
 }
 
-/* How many columns are lit; each must list what the first of them lists. */
+/* How many columns are running; each must list what the first of them lists. */
 static unsigned compare_lists(void) {
   const struct done *first = NULL;
-  unsigned lit = 0;
+  unsigned running = 0;
   for (size_t i = 0; i < bank.count; i++) {
-    if (!bank.lit[i])
+    if (!bank.running[i])
       continue;
     command(i, LIST, "", 0);
     hear_out();
@@ -106,40 +106,40 @@ static unsigned compare_lists(void) {
     first = first ? first : &bank.last[i];
     const char *list = past_first_line(first, &size), *mine = past_first_line(&bank.last[i], &own);
     if (size != own || memcmp(list, mine, size) != 0)
-      fail("two lit columns differ");
-    lit++;
+      fail("two running columns differ");
+    running++;
   }
-  if (bank.lit[bank.root] && number_of(&bank.last[bank.root].column) != bank.accepted)
+  if (bank.running[bank.root] && number_of(&bank.last[bank.root].column) != bank.accepted)
     fail("the root has another number than its orders");
-  if (bank.lit[bank.root] && !is_done(&bank.last[bank.root].column))
+  if (bank.running[bank.root] && !is_done(&bank.last[bank.root].column))
     fail("at rest the root still sends or awaits");
-  return lit;
+  return running;
 }
 
 /* ---- columns come back */
 
-static size_t lowest_lit(void) {
+static size_t lowest_running(void) {
   size_t i = 0;
-  while (i < bank.count && !bank.lit[i])
+  while (i < bank.count && !bank.running[i])
     i++;
   return i;
 }
 
-/* At rest: the column begins anew with the record of the lowest lit one, and all others strike it. */
+/* At rest: the column begins anew with the record of the lowest running one, and all others strike it. */
 static void bring_back(size_t j) {
-  struct comeback back = {.lowest = (uint32_t)lowest_lit()};
+  struct comeback back = {.lowest = (uint32_t)lowest_running()};
   const mudasgup_column *copied = &bank.last[back.lowest].column;
   back.number = number_of(copied);
   memcpy(back.doors, copied->bytes + MUDASGUP_COLUMN_DOORS, sizeof back.doors);
   for (size_t i = 0; i < bank.count; i++)
-    back.halted |= (uint32_t)(!bank.lit[i] && i != j) << i;
+    back.halted |= (uint32_t)(!bank.running[i] && i != j) << i;
   start_column(j, &back);
   uint8_t who = (uint8_t)j;
   for (size_t i = 0; i < bank.count; i++)
-    if (bank.lit[i] && i != j)
+    if (bank.running[i] && i != j)
       command(i, STRIKE, &who, 1);
   hear_out();
-  bank.came_back[j] = 1, bank.back++, bank.without_root += !bank.lit[bank.root];
+  bank.came_back[j] = 1, bank.back++, bank.without_root += !bank.running[bank.root];
   if (!at_rest())
     fail("not at rest after a return");
   compare_lists();
@@ -147,7 +147,7 @@ static void bring_back(size_t j) {
 
 static void bring_some_back(void) {
   for (size_t j = 0; j < bank.count; j++)
-    if (!bank.lit[j] && j != bank.root && lowest_lit() < bank.count && below(3) != 0)
+    if (!bank.running[j] && j != bank.root && lowest_running() < bank.count && below(3) != 0)
       bring_back(j);
 }
 
@@ -162,7 +162,7 @@ static void run_to_rest(const char *program) {
     if (bank.kills > 0 && below(12) == 0) {
       size_t i = below((unsigned)bank.count);
       bank.kills--;
-      if (bank.lit[i])
+      if (bank.running[i])
         kill_column(i);
     }
     if (pulls > 0 && bank.packets_count > 0 && below(4) == 0)
@@ -180,24 +180,24 @@ static void run_bank(unsigned seed, const char *program) {
   for (size_t i = 0; i < bank.count; i++)
     start_column(i, NULL);
   hear_out();
-  unsigned lit = 0, number = 0;
+  unsigned running = 0, number = 0;
   for (unsigned rounds = 2 + below(3); rounds > 0; rounds--) {
     bring_some_back();
     bank.orders = 1 + below(3);
     bank.kills = below((unsigned)bank.count + 1);
     run_to_rest(program);
-    lit = compare_lists();
+    running = compare_lists();
     compare_journals(program);
   }
   for (size_t i = 0; i < bank.count; i++) {
-    if (!bank.lit[i])
+    if (!bank.running[i])
       continue;
     number = number_of(&bank.last[i].column);
     kill_column(i), bank.killed--;
   }
-  printf("bank=%u columns=%zu root=%zu watch=%s killed=%u back=%u without_root=%u orders=%u packets=%u journals=%u missing=%u lit=%u number=%u agree\n", seed,
+  printf("bank=%u columns=%zu root=%zu watch=%s killed=%u back=%u without_root=%u orders=%u packets=%u journals=%u missing=%u running=%u number=%u agree\n", seed,
          bank.count, bank.root, bank.tree.bytes[MUDASGUP_TREE_COLUMNS] & MUDASGUP_WATCH_SENDER ? "sender" : "root", bank.killed, bank.back,
-         bank.without_root, bank.accepted, bank.carried, bank.compared, bank.missing, lit, number);
+         bank.without_root, bank.accepted, bank.carried, bank.compared, bank.missing, running, number);
 }
 
 int main(int count, char **words) {

@@ -18,7 +18,7 @@ unsigned below(unsigned n) { return (unsigned)rand_r(&bank.seed) % n; }
 void fail(const char *why) {
   printf("failed: %s\n", why);
   for (size_t i = 0; i < bank.count; i++)
-    if (bank.lit[i])
+    if (bank.running[i])
       kill(bank.process[i], SIGKILL);
   exit(1);
 }
@@ -75,14 +75,14 @@ void start_column(size_t i, const struct comeback *comeback) {
     fail("no process");
   if (bank.process[i] == 0) {
     for (size_t k = 0; k < bank.count; k++)
-      if (bank.lit[k])
+      if (bank.running[k])
         close(bank.line[k]);
     close(ends[0]);
     beginning.line = ends[1];
     run_column(beginning);
   }
   close(ends[1]);
-  bank.line[i] = ends[0], bank.lit[i] = 1, bank.busy[i] = 1, bank.untold[i] = 0;
+  bank.line[i] = ends[0], bank.running[i] = 1, bank.busy[i] = 1, bank.untold[i] = 0;
 }
 
 void command(size_t i, uint8_t kind, const void *bytes, size_t size) {
@@ -97,7 +97,7 @@ void command(size_t i, uint8_t kind, const void *bytes, size_t size) {
 
 static void keep_packet(const mudasgup_packet *packet) {
   uint8_t to = packet->bytes[MUDASGUP_PACKET_TO];
-  if (to >= bank.count || !bank.lit[to])
+  if (to >= bank.count || !bank.running[to])
     return;
   if (bank.packets_count == PACKETS_MOST)
     fail("too many packets");
@@ -156,14 +156,14 @@ int is_idle(const mudasgup_column *column) {
   return idle;
 }
 
-/* Once the root neither sends nor awaits, every lit column is asked whether it has the root's order. */
+/* Once the root neither sends nor awaits, every running column is asked whether it has the root's order. */
 static void ask_all(void) {
   uint32_t number = number_of(&bank.last[bank.root].column);
   if (!is_done(&bank.last[bank.root].column) || number == bank.asked)
     return;
   bank.asked = number;
   for (size_t i = 0; i < bank.count; i++)
-    if (bank.lit[i])
+    if (bank.running[i])
       command(i, ASK, &number, sizeof number);
 }
 
@@ -205,20 +205,20 @@ int hear(size_t i, int alive) {
 
 void hear_all(int wait) {
   struct pollfd lines[MUDASGUP_COLUMNS];
-  size_t lit[MUDASGUP_COLUMNS], count = 0;
+  size_t running[MUDASGUP_COLUMNS], count = 0;
   for (size_t i = 0; i < bank.count; i++)
-    if (bank.lit[i])
-      lines[count] = (struct pollfd){.fd = bank.line[i], .events = POLLIN}, lit[count++] = i;
+    if (bank.running[i])
+      lines[count] = (struct pollfd){.fd = bank.line[i], .events = POLLIN}, running[count++] = i;
   if (poll(lines, (nfds_t)count, wait ? PATIENCE : 0) == 0 && wait)
     fail("no answer");
   for (size_t k = 0; k < count; k++)
-    if (lines[k].revents && !hear(lit[k], 1))
+    if (lines[k].revents && !hear(running[k], 1))
       fail("a column has stopped by itself");
 }
 
 static int any_busy(void) {
   for (size_t i = 0; i < bank.count; i++)
-    if (bank.lit[i] && bank.busy[i] > 0)
+    if (bank.running[i] && bank.busy[i] > 0)
       return 1;
   return 0;
 }

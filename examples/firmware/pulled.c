@@ -55,7 +55,7 @@ static int two_owners(size_t *owners) {
   const uint8_t *packet = bank.packets_count > 0 ? bank.packets[below((unsigned)bank.packets_count)].bytes : NULL;
   for (size_t k = 0; k < 2; k++)
     owners[k] = packet ? packet[MUDASGUP_PACKET_FROM + k] : below((unsigned)bank.count);
-  return owners[0] != owners[1] && bank.lit[owners[0]] && bank.lit[owners[1]] && !bank.came_back[owners[0]] && !bank.came_back[owners[1]];
+  return owners[0] != owners[1] && bank.running[owners[0]] && bank.running[owners[1]] && !bank.came_back[owners[0]] && !bank.came_back[owners[1]];
 }
 
 void compare_journals(const char *program) {

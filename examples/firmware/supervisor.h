@@ -10,12 +10,12 @@
 
 struct bank {
   unsigned seed, orders, kills, accepted, killed, carried, asked;
-  unsigned back, without_root;  /* how many columns came back, and of these while the root was dead */
+  unsigned back, without_root;  /* how many columns came back, and of these while the root had halted */
   unsigned compared, missing;   /* pairs of journals, and lines that were missing in them */
   mudasgup_tree tree;
   size_t count, root, packets_count;
   pid_t process[MUDASGUP_COLUMNS];
-  int line[MUDASGUP_COLUMNS], lit[MUDASGUP_COLUMNS], busy[MUDASGUP_COLUMNS];
+  int line[MUDASGUP_COLUMNS], running[MUDASGUP_COLUMNS], busy[MUDASGUP_COLUMNS];
   int came_back[MUDASGUP_COLUMNS];
   uint32_t untold[MUDASGUP_COLUMNS]; /* those halted that a column has yet to be told of */
   struct wiring wiring[MUDASGUP_COLUMNS];

@@ -1,8 +1,7 @@
 """The core in a maker's firmware: every export of the archive called beside the model, with guards around all that is lent; outside the gate with as many
-calls as are asked for, `python3 tests/run.py test_firmware 100000`."""
+calls as are asked for (tests/outside_the_gate/firmware_calls.py)."""
 import collections
 import random
-import sys
 import tempfile
 import unittest
 
@@ -206,9 +205,3 @@ class Calls(unittest.TestCase):
         for wrong in (bytes(model.TREE), b"\xff" * model.TREE, column.ljust(model.TREE, b"\0"), tree[1:], tree[1:] + b"\0"):
             self.assertEqual(self.compare("next", wrong, bytearray(column), bytearray(15))[0], 1024)
             self.assertEqual(self.compare("tree_check", wrong)[0], 1024)
-
-
-if __name__ == "__main__":
-    if sys.argv[1:]:
-        CALLS = int(sys.argv.pop())
-    unittest.main()

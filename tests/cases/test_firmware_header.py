@@ -7,10 +7,10 @@ import tarfile
 import tempfile
 import unittest
 
-from archive import INCLUDE, archive, exported
+from archive import INCLUDE, PREFIX, archive, exported, sources
 from cases.test_firmware import REFUSALS
 from helpers import firmware
-from repository import read
+from repository import ROOT, read
 
 WIDTH = 100
 # Calls to which a maker lends no block of another size or layout.
@@ -53,12 +53,12 @@ class Header(unittest.TestCase):
     def test_every_export_is_declared_with_its_parameters_and_no_other(self):
         declared = re.findall(r"^uint64_t mudasgup_raw_\w+\([^;]*\);", self.raw, re.M)
         self.assertEqual(sorted(re.sub(r"\(\s+", "(", joined(one)) for one in declared), sorted(exported().values()))
-        self.assertEqual({name.removeprefix(firmware.PREFIX) for name in exported()}, set(REFUSALS))
+        self.assertEqual({name.removeprefix(PREFIX) for name in exported()}, set(REFUSALS))
 
     def test_no_export_answers_less_than_64_bits(self):
         exports = re.findall(r"^(\w+)\s+mudasgup_raw_\w+\([^;]*\);", self.header, re.M)
         self.assertEqual(set(exports), {"uint64_t"})
-        results = [result for text in firmware.sources() for result in re.findall(r'extern "C" fn \w+\([^)]*\)(?: -> (\w+))?', text)]
+        results = [result for text in sources() for result in re.findall(r'extern "C" fn \w+\([^)]*\)(?: -> (\w+))?', text)]
         self.assertEqual((set(results), len(results)), ({"usize"}, len(exports)))
         self.assertNotIn("size_t", re.sub(r"uint64_t", "", "".join(re.findall(r"^uint64_t mudasgup_raw_\w+\([^;]*\);", self.raw, re.M))))
 
@@ -78,7 +78,7 @@ class Header(unittest.TestCase):
         self.assertEqual(set(statuses), {0}.union(*REFUSALS.values()))
 
     def test_its_numbers_are_those_of_the_sources(self):
-        boundary = "".join(firmware.sources())
+        boundary = "".join(sources())
         journal, listing, frame, page = (read("crates", crate, "src", name + ".rt")
                                          for crate, name in (("firmware", "journal"), ("list", "list"), ("column", "frame"), ("column", "page")))
         for macro, constant, source in (
@@ -140,7 +140,7 @@ class Typed(unittest.TestCase):
 
 class Packages(unittest.TestCase):
     def make(self, *words):
-        done = subprocess.run(["make", *words], cwd=firmware.ROOT, capture_output=True, text=True)
+        done = subprocess.run(["make", *words], cwd=ROOT, capture_output=True, text=True)
         self.assertEqual(done.returncode, 0, done.stdout + done.stderr)
 
     def orders(self, folder, prefix):
@@ -167,7 +167,7 @@ class Packages(unittest.TestCase):
         archive()
         self.make("dist")
         with tempfile.TemporaryDirectory() as folder:
-            with tarfile.open(os.path.join(firmware.ROOT, "target", "mudasgup-2.0.tar.gz")) as archive:
-                archive.extractall(folder)
+            with tarfile.open(os.path.join(ROOT, "target", "mudasgup-2.0.tar.gz")) as packed:
+                packed.extractall(folder)
             prefix = os.path.join(folder, "mudasgup-2.0")
             self.orders(os.path.join(prefix, "examples"), prefix)

@@ -7,10 +7,10 @@ import unittest
 
 from archive import INCLUDE
 from helpers import firmware
-from repository import read
+from repository import ROOT, read
 
 BANKS = 50
-FITTER = os.path.join(firmware.ROOT, "target", "bin", "journals_main")
+FITTER = os.path.join(ROOT, "target", "bin", "journals_main")
 BANK = ("bank.c", "line.c", "pulled.c", "column.c", "column_loop.c")
 LISTED = "column={} number={} occupied={} doors={} \n"
 # What each program of tests/uses prints. The first list of `resume` and of `traps`, `lostput` and `torn` show what the header says that a maker owes.
@@ -89,8 +89,8 @@ class Uses(unittest.TestCase):
         self.assertEqual(len(lines), BANKS)
         sums, returns = collections.Counter(), collections.Counter()
         for line in lines:
-            sums.update({name: int(line[name]) for name in ("killed", "back", "orders", "packets", "journals", "missing", "lit")})
-            returns.update({(line["watch"], "lit"): int(line["back"]) - int(line["without_root"]), (line["watch"], "dead"): int(line["without_root"])})
+            sums.update({name: int(line[name]) for name in ("killed", "back", "orders", "packets", "journals", "missing", "running")})
+            returns.update({(line["watch"], "running"): int(line["back"]) - int(line["without_root"]), (line["watch"], "halted"): int(line["without_root"])})
         self.assertEqual({name: count for name, count in sums.items() if count <= BANKS // 2}, {})
-        self.assertEqual(set(returns), {(watch, root) for watch in ("root", "sender") for root in ("lit", "dead")})
+        self.assertEqual(set(returns), {(watch, root) for watch in ("root", "sender") for root in ("running", "halted")})
         self.assertEqual({which: count for which, count in returns.items() if count <= BANKS // 10}, {})

@@ -1,16 +1,14 @@
 """The archive of `crates/firmware` as a shared object, programs of the examples, and calls with memory lent between guards."""
 import ctypes
-import glob
 import os
 import subprocess
 
-from archive import INCLUDE, archive
-from repository import ROOT, read
+from archive import INCLUDE, PREFIX, archive
+from repository import ROOT
 
 EXAMPLES = os.path.join(ROOT, "examples", "firmware")
 # What stands on both sides of lent memory and must be as it was.
 GUARD = bytes([0xA5]) * 16
-PREFIX = "mudasgup_raw_"
 
 
 def shared_object(folder):
@@ -30,11 +28,6 @@ def compiled(folder, name, *sources, compiler=("gcc", "-std=gnu99"), options=("-
 def use(name):
     """The path of a program of tests/uses."""
     return os.path.join(ROOT, "tests", "uses", name)
-
-
-def sources():
-    """The texts of the crate."""
-    return [read(path) for path in sorted(glob.glob(os.path.join(ROOT, "crates", "firmware", "src", "*.rt")))]
 
 
 class Library:

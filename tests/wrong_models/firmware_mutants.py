@@ -1,4 +1,4 @@
-"""Wrong models of the exports, each an edit of tests/models/model_firmware.py's source: a name, the exports of which some random call must tell it from the
+"""Wrong models of the exports, each an edit of the source of tests/models/model_firmware: a name, the exports of which some random call must tell it from the
 archive, the text that stands there once, and what stands in its place."""
 STEPS = ("order", "send", "ack", "all", "note", "take", "next", "halt", "page_write", "rejoin", "strike")
 STATES = ("list", "page_read", "idle")

@@ -58,11 +58,11 @@ pub record Filled : Type 0 where
   pub answer : ℕ
   pub buffer : List ℕ
 
-abbrev pub filled : ℕ → List ℕ → Filled
-filled r buffer = record { answer = r; buffer = buffer }
+abbrev pub filledMeant : ℕ → List ℕ → Filled
+filledMeant r buffer = record { answer = r; buffer = buffer }
 
 abbrev pub unfilled : ℕ → List ℕ → Filled
-unfilled n old = filled (refusedBy + n) old
+unfilled n old = filledMeant (refusedBy + n) old
 
 abbrev pub filledOver : Bool → Filled → List ℕ → Filled
 filledOver good f old = cond good f (unfilled otherBlock old)
@@ -73,8 +73,8 @@ unfoldable pub treeCall : List ℕ → ℕ
 treeCall tree = overBlocks (isTree tree) (answerOf (givenUnless (treeRefusal (treeIn tree)) 0))
 
 -- the tree of a table's text, and how many bytes the table takes; the block to be written need only have its size
-abbrev pub tableLeft : bank.Outcome Placed → List ℕ → Filled
-tableLeft (bank.accepted p) old = filled (p .end) (treeBytes (p .tree))
+abbrev pub tableLeft : bank.Result Placed → List ℕ → Filled
+tableLeft (bank.accepted p) old = filledMeant (p .end) (treeBytes (p .tree))
 tableLeft (bank.refused n p) old = unfilled n old
 
 unfoldable pub tableCall : List ℕ → List ℕ → Filled
@@ -83,7 +83,7 @@ tableCall text old = filledOver (eqb (length old) treeSize) (tableLeft (readTabl
 -- ---- a column as it begins: the block to be written need only have its size
 
 abbrev pub freshLeft : ℕ → Given Column → List ℕ → Filled
-freshLeft i (given c) old = filled 0 (columnBytes i c)
+freshLeft i (given c) old = filledMeant 0 (columnBytes i c)
 freshLeft i (refused n) old = unfilled n old
 
 unfoldable pub freshCall : List ℕ → ℕ → List ℕ → Filled
@@ -95,7 +95,7 @@ abbrev pub packetSize : ℕ
 packetSize = messageSize wide
 
 abbrev pub sizeLeft : Given ℕ → List ℕ → List ℕ → Filled
-sizeLeft (given n) bytes old = filled n bytes
+sizeLeft (given n) bytes old = filledMeant n bytes
 sizeLeft (refused n) bytes old = unfilled n old
 
 abbrev pub packetLeft : Wrote → List ℕ → Filled
@@ -123,7 +123,7 @@ packetCount s = frameOf (readFrame s) .count
 -- a packet of `used` bytes is joined from a place on to a frame that holds `count`, where it fits and is not the 513th
 unfoldable pub joinedAt : List ℕ → List ℕ → ℕ → ℕ → ℕ → Filled
 joinedAt bytes old at used count =
-    cond (leb (at + used) (length old) && ltb count framePackets) (filled used (written old at (take used bytes))) (unfilled noRoom old)
+    cond (leb (at + used) (length old) && ltb count framePackets) (filledMeant used (written old at (take used bytes))) (unfilled noRoom old)
 
 abbrev pub joinLeft : Given Part → Given ℕ → List ℕ → List ℕ → ℕ → Filled
 joinLeft (given q) (given count) bytes old at = joinedAt bytes old at (q .used) count
@@ -137,7 +137,7 @@ joinCall bytes old at = joinLeft (read bytes) (packetCount (take at old)) bytes 
 -- ---- texts: the closing list
 
 abbrev pub listLeft : Listed → Filled
-listLeft l = filled (answerOf (l .answer)) (l .buffer)
+listLeft l = filledMeant (answerOf (l .answer)) (l .buffer)
 
 unfoldable pub listCall : List ℕ → List ℕ → List ℕ → Filled
 listCall tree column old = filledOver (areBlocks tree column) (listLeft (loneList (treeIn tree) (ownIn column) (columnIn column) old)) old
@@ -185,7 +185,7 @@ idleCall tree column = overBlocks (areBlocks tree column) (answerOf (idleOf (tre
 -- ---- steps that put nothing: the column's block
 
 abbrev pub quietLeft : ℕ → core.Result → List ℕ → Filled
-quietLeft own (core.accepted c ps left) old = filled 0 (columnBytes own c)
+quietLeft own (core.accepted c ps left) old = filledMeant 0 (columnBytes own c)
 quietLeft own (core.refused n c) old = unfilled n old
 
 unfoldable pub quietCall : (Tree → ℕ → Column → core.Result) → List ℕ → List ℕ → Filled
@@ -215,16 +215,16 @@ pub record Called : Type 0 where
   pub column : List ℕ
   pub put : List ℕ
 
-abbrev pub called : ℕ → List ℕ → List ℕ → Called
-called r column put = record { answer = r; column = column; put = put }
+abbrev pub calledMeant : ℕ → List ℕ → List ℕ → Called
+calledMeant r column put = record { answer = r; column = column; put = put }
 
 abbrev pub uncalled : ℕ → List ℕ → List ℕ → Called
-uncalled n column put = called (refusedBy + n) column put
+uncalled n column put = calledMeant (refusedBy + n) column put
 
 -- a step puts one packet at most: its bytes with 0 past them, and their count
 abbrev pub stepLeft : ℕ → core.Result → List ℕ → List ℕ → Called
-stepLeft own (core.accepted c [] left) column put = called 0 (columnBytes own c) (padded [])
-stepLeft own (core.accepted c (p ∷ ps) left) column put = called (length (bytesOf p) + cond left leftInPlace 0) (columnBytes own c) (padded (bytesOf p))
+stepLeft own (core.accepted c [] left) column put = calledMeant 0 (columnBytes own c) (padded [])
+stepLeft own (core.accepted c (p ∷ ps) left) column put = calledMeant (length (bytesOf p) + cond left leftInPlace 0) (columnBytes own c) (padded (bytesOf p))
 stepLeft own (core.refused n c) column put = uncalled n column put
 
 abbrev pub stepBlocks : List ℕ → List ℕ → ℕ → Bool

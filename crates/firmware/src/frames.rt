@@ -11,7 +11,7 @@ ghost use mathlib.Core.Path.{_≡_};
 ghost use lib.Dec.{leb};
 ghost use lib.ListN.{take};
 ghost use Rattle.column.specs.Frames.{countMeant};
-ghost use Rattle.firmware.specs.Calls.{answerOf, filled, packetCount, joinCall};
+ghost use Rattle.firmware.specs.Calls.{answerOf, filledMeant, packetCount, joinCall};
 
 // The number of bytes that are no frame.
 const NO_FRAME: u8 = 12;
@@ -73,7 +73,7 @@ fn count_before(s: &[u8], at: usize) -> Count
 // Joins the packet that stands at the start of the bytes to the frame before a place and answers its size; refused with 12, 11.
 #[no_mangle]
 pub extern "C" fn mudasgup_raw_frame_join(bytes: &[u8], frame: &mut [u8], at: usize) -> usize
-    ensures { λ r. ⌜ filled r (now (frame .exit)) ≡ joinCall (now (bytes .entry)) (now (frame .entry)) at ⌝ }
+    ensures { λ r. ⌜ filledMeant r (now (frame .exit)) ≡ joinCall (now (bytes .entry)) (now (frame .entry)) at ⌝ }
 {
     match read(bytes) {
         Reading::Refused(n) => refusal(n),

@@ -12,25 +12,20 @@ use column::packet::is_message;
 use column::packet::number_of;
 use column::packet::receiver;
 use column::packet::sender;
-use io::decimal;
-ghost use Prim.Native.Nat.{_+_, _≤_, _<_};
-ghost use mathlib.Core.List.{[], _∷_};
+use text::writing::put_all;
+use text::writing::put_field;
+use text::writing::put_next;
+ghost use Prim.Native.Nat.{_≤_, _<_};
 ghost use mathlib.Core.Path.{_≡_};
 ghost use lib.ListN.{length};
-ghost use Rattle.text.specs.Text.{decimal as Text·decimal, Writes};
+ghost use Rattle.text.specs.Text.{Puts};
 ghost use Rattle.list.specs.Closing.{placed};
 ghost use Rattle.journals.specs.PacketLines.{kindOf};
-ghost use Rattle.firmware.specs.Calls.{filled, listLeft, ownerCall, sentCall, gotCall};
-ghost use Rattle.firmware.specs.inner.JournalTexts.{markedText, ownerText, packetText};
+ghost use Rattle.firmware.specs.Calls.{filledMeant, listLeft, ownerCall, sentCall, gotCall};
+ghost use Rattle.firmware.specs.inner.JournalTexts.{packetText};
 
 // A line of a packet has 21 bytes at most, and an owner's 11.
 const LONGEST: usize = 21;
-
-const EQUALS: u8 = 61;
-
-const COMMA: u8 = 44;
-
-const NEWLINE: u8 = 10;
 
 // The kinds of a line's packet.
 const MESSAGE: u64 = 1;
@@ -39,37 +34,6 @@ const ACKNOWLEDGEMENT: u64 = 2;
 
 // The number of a packet that is not this column's.
 const NOT_ITS_OWN: u8 = 4;
-
-// A mark and a number after it; answers the place after them.
-fn put_marked(out: &mut [u8], at: usize, mark: u8, n: u64) -> usize
-    requires { ⌜ at + length (markedText mark n) ≤ length (now out) ⌝ }
-    ensures { λ r. ⌜ Writes r (now (out .exit)) (now (out .entry)) at (markedText mark n) ⌝ }
-{
-    let mut text = [0u8; 20];
-    let k = decimal(n, &mut text);
-    out[at] = mark;
-    put_bytes(out, at + 1, &text[..k]);
-    at + 1 + k
-}
-
-// The end of a line; answers the place after it.
-fn put_end(out: &mut [u8], at: usize) -> usize
-    requires { ⌜ at < length (now out) ⌝ }
-    ensures { λ r. ⌜ Writes r (now (out .exit)) (now (out .entry)) at (10 ∷ []) ⌝ }
-{
-    out[at] = NEWLINE;
-    at + 1
-}
-
-// The journal's first line.
-fn put_owner(out: &mut [u8], owner: u8) -> usize
-    requires { ⌜ length (ownerText owner) ≤ length (now out) ⌝ }
-    ensures { λ r. ⌜ Writes r (now (out .exit)) (now (out .entry)) 0 (ownerText owner) ⌝ }
-{
-    put_bytes(out, 0, b"column");
-    let end = put_marked(out, 6, EQUALS, owner as u64);
-    put_end(out, end)
-}
 
 fn kind_of(p: Packet) -> u64
     ensures { λ r. ⌜ r ≡ kindOf p ⌝ }
@@ -80,21 +44,19 @@ fn kind_of(p: Packet) -> u64
     ACKNOWLEDGEMENT
 }
 
-// The line of a packet: a key, its kind, the other column and its number.
+// The line of a packet: a key, its kind, the other column and its number, as much of it as has room.
 fn put_line(out: &mut [u8], key: &[u8], kind: u64, other: usize, number: u32) -> usize
-    requires { ⌜ length (packetText (now key) kind other number) ≤ length (now out) ⌝ }
-    ensures { λ r. ⌜ Writes r (now (out .exit)) (now (out .entry)) 0 (packetText (now (key .entry)) kind other number) ⌝ }
+    ensures { λ r. ⌜ Puts r (now (out .exit)) (now (out .entry)) 0 (packetText (now (key .entry)) kind other number) ⌝ }
 {
-    put_bytes(out, 0, key);
-    let column = put_marked(out, key.len(), EQUALS, kind);
-    let last = put_marked(out, column, COMMA, other as u64);
-    let end = put_marked(out, last, COMMA, number as u64);
-    put_end(out, end)
+    let value = put_all(out, 0, key);
+    let column = put_next(out, value, true, kind);
+    let last = put_next(out, column, false, other as u64);
+    put_field(out, last, b",", number as u64)
 }
 
 // Leaves a text at the start of the buffer and answers its length; refused with 11.
 fn leave_text(text: &[u8], buffer: &mut [u8]) -> usize
-    ensures { λ r. ⌜ filled r (now (buffer .exit)) ≡ listLeft (placed (now (buffer .entry)) 0 (now (text .entry))) ⌝ }
+    ensures { λ r. ⌜ filledMeant r (now (buffer .exit)) ≡ listLeft (placed (now (buffer .entry)) 0 (now (text .entry))) ⌝ }
 {
     if buffer.len() < text.len() {
         return refusal(NO_ROOM);
@@ -105,8 +67,8 @@ fn leave_text(text: &[u8], buffer: &mut [u8]) -> usize
 
 // Leaves the line of a packet: a key, its kind, the other column and its number.
 fn leave_line(key: &[u8], kind: u64, other: usize, number: u32, buffer: &mut [u8]) -> usize
-    requires { ⌜ (length (now key) ≤ 4) × ((kind < 10) × (other < 16)) ⌝ }
-    ensures { λ r. ⌜ filled r (now (buffer .exit)) ≡ listLeft (placed (now (buffer .entry)) 0 (packetText (now (key .entry)) kind other number)) ⌝ }
+    requires { ⌜ (length (now key) ≤ 5) × ((kind < 10) × (other < 16)) ⌝ }
+    ensures { λ r. ⌜ filledMeant r (now (buffer .exit)) ≡ listLeft (placed (now (buffer .entry)) 0 (packetText (now (key .entry)) kind other number)) ⌝ }
 {
     let mut line = [0u8; LONGEST];
     let n = put_line(&mut line, key, kind, other, number);
@@ -116,20 +78,20 @@ fn leave_line(key: &[u8], kind: u64, other: usize, number: u32, buffer: &mut [u8
 // Leaves the first line of the column's journal and answers its length; refused with 24, 11.
 #[no_mangle]
 pub extern "C" fn mudasgup_raw_journal_owner(column: &[u8], text: &mut [u8]) -> usize
-    ensures { λ r. ⌜ filled r (now (text .exit)) ≡ ownerCall (now (column .entry)) (now (text .entry)) ⌝ }
+    ensures { λ r. ⌜ filledMeant r (now (text .exit)) ≡ ownerCall (now (column .entry)) (now (text .entry)) ⌝ }
 {
     if !is_column(column) {
         return refusal(OTHER_BLOCK);
     }
     let mut line = [0u8; LONGEST];
-    let n = put_owner(&mut line, own_in(column));
+    let n = put_field(&mut line, 0, b"column=", own_in(column) as u64);
     leave_text(&line[..n], text)
 }
 
 // Leaves the line of a packet that the column sent and answers its length, 21 at most; refused with 24, 12, 4, 11.
 #[no_mangle]
 pub extern "C" fn mudasgup_raw_journal_sent(column: &[u8], packet: &[u8], text: &mut [u8]) -> usize
-    ensures { λ r. ⌜ filled r (now (text .exit)) ≡ sentCall (now (column .entry)) (now (packet .entry)) (now (text .entry)) ⌝ }
+    ensures { λ r. ⌜ filledMeant r (now (text .exit)) ≡ sentCall (now (column .entry)) (now (packet .entry)) (now (text .entry)) ⌝ }
 {
     if !is_column(column) {
         return refusal(OTHER_BLOCK);
@@ -140,7 +102,7 @@ pub extern "C" fn mudasgup_raw_journal_sent(column: &[u8], packet: &[u8], text: 
             if sender(p) != own_in(column) as usize {
                 return refusal(NOT_ITS_OWN);
             }
-            leave_line(b"sent", kind_of(p), receiver(p), number_of(p), text)
+            leave_line(b"sent=", kind_of(p), receiver(p), number_of(p), text)
         }
     }
 }
@@ -148,7 +110,7 @@ pub extern "C" fn mudasgup_raw_journal_sent(column: &[u8], packet: &[u8], text: 
 // Leaves the line of a packet that the column got and answers its length, 21 at most; refused with 24, 12, 4, 11.
 #[no_mangle]
 pub extern "C" fn mudasgup_raw_journal_got(column: &[u8], packet: &[u8], text: &mut [u8]) -> usize
-    ensures { λ r. ⌜ filled r (now (text .exit)) ≡ gotCall (now (column .entry)) (now (packet .entry)) (now (text .entry)) ⌝ }
+    ensures { λ r. ⌜ filledMeant r (now (text .exit)) ≡ gotCall (now (column .entry)) (now (packet .entry)) (now (text .entry)) ⌝ }
 {
     if !is_column(column) {
         return refusal(OTHER_BLOCK);
@@ -159,7 +121,7 @@ pub extern "C" fn mudasgup_raw_journal_got(column: &[u8], packet: &[u8], text: &
             if receiver(p) != own_in(column) as usize {
                 return refusal(NOT_ITS_OWN);
             }
-            leave_line(b"got", kind_of(p), sender(p), number_of(p), text)
+            leave_line(b"got=", kind_of(p), sender(p), number_of(p), text)
         }
     }
 }

@@ -79,7 +79,7 @@ fn done(c: Column) -> Outcome
     }
 }
 
-// Whether a column that runs, and whose tree and state stand, may acknowledge to someone.
+// Whether a column that runs, and whose tree and state are valid, may acknowledge to someone.
 fn acknowledges(t: Tree, i: usize, c: Column) -> bool
     ensures { λ r. ⌜ r ≡ acknowledges t i c ⌝ }
 {
@@ -99,7 +99,7 @@ fn next(t: Tree, i: usize, c: Column) -> Chosen
     Chosen::All
 }
 
-// Whether column i, whose tree and state stand, does not run, or could neither send nor acknowledge nor take over.
+// Whether column i, whose tree and state are valid, does not run, or could neither send nor acknowledge nor take over.
 pub fn own_rests(t: Tree, i: usize, c: Column) -> bool
     ensures { λ r. ⌜ r ≡ ownRests t i c ⌝ }
 {

@@ -14,7 +14,7 @@ ghost use mathlib.Core.Path.{_≡_};
 ghost use mathlib.Core.List.{_∷_, _++_};
 ghost use lib.ListN.{length};
 ghost use Rattle.column.specs.Packets.{numberSize, doorsSize, lowFirst, highFirst, goodEnds, bytesOf, padded, writeMeant, write};
-ghost use Rattle.firmware.specs.Calls.{packetSize, filled, packetCall};
+ghost use Rattle.firmware.specs.Calls.{packetSize, filledMeant, packetCall};
 
 pub const PACKET_SIZE: usize = 15;
 
@@ -80,7 +80,7 @@ fn good_ends(p: Packet) -> bool
 
 // Leaves a packet as the writer gives it, and answers its size; refused with 24, 12.
 pub fn leave_packet(p: Packet, packet: &mut [u8]) -> usize
-    ensures { λ r. ⌜ filled r (now (packet .exit)) ≡ packetCall (write p) (now (packet .entry)) ⌝ }
+    ensures { λ r. ⌜ filledMeant r (now (packet .exit)) ≡ packetCall (write p) (now (packet .entry)) ⌝ }
 {
     if packet.len() != PACKET_SIZE {
         return refusal(OTHER_BLOCK);
@@ -93,7 +93,7 @@ pub fn leave_packet(p: Packet, packet: &mut [u8]) -> usize
 
 // Leaves the bytes of what a writer gave, and answers their size; where it refused, every byte is as it was.
 pub fn leave_written(w: Written, packet: &mut [u8]) -> usize
-    ensures { λ r. ⌜ filled r (now (packet .exit)) ≡ packetCall (writeMeant w) (now (packet .entry)) ⌝ }
+    ensures { λ r. ⌜ filledMeant r (now (packet .exit)) ≡ packetCall (writeMeant w) (now (packet .entry)) ⌝ }
 {
     if packet.len() != PACKET_SIZE {
         return refusal(OTHER_BLOCK);

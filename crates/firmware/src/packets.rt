@@ -17,7 +17,7 @@ ghost use mathlib.Core.Path.{_≡_};
 ghost use Rattle.column.specs.Packets.{read as Packets·read, write as Packets·write};
 ghost use Rattle.column.specs.Conversions.{convert as Conversions·convert};
 ghost use Rattle.column.specs.declared.packet.Packet.the-variants.{Message, Acknowledgement};
-ghost use Rattle.firmware.specs.Calls.{filled, rewritten, packetCall, doorsCall};
+ghost use Rattle.firmware.specs.Calls.{filledMeant, rewritten, packetCall, doorsCall};
 
 // What stands in the place of an acknowledgement's doors.
 const NO_DOORS: [u8; DOORS_SIZE] = [0; DOORS_SIZE];
@@ -26,7 +26,7 @@ const NO_DOORS: [u8; DOORS_SIZE] = [0; DOORS_SIZE];
 // The bytes are copied: they are what the writer gives.
 #[no_mangle]
 pub extern "C" fn mudasgup_raw_packet_read(bytes: &[u8], packet: &mut [u8]) -> usize
-    ensures { λ r. ⌜ filled r (now (packet .exit)) ≡ packetCall (rewritten (Packets·read (now (bytes .entry)))) (now (packet .entry)) ⌝ }
+    ensures { λ r. ⌜ filledMeant r (now (packet .exit)) ≡ packetCall (rewritten (Packets·read (now (bytes .entry)))) (now (packet .entry)) ⌝ }
 {
     if packet.len() != PACKET_SIZE {
         return refusal(OTHER_BLOCK);
@@ -55,7 +55,7 @@ pub extern "C" fn mudasgup_raw_message(
     doors: &[u8],
     packet: &mut [u8],
 ) -> usize
-    ensures { λ r. ⌜ filled r (now (packet .exit)) ≡ doorsCall (λ d. Packets·write (Message from to number d)) (now (doors .entry)) (now (packet .entry)) ⌝ }
+    ensures { λ r. ⌜ filledMeant r (now (packet .exit)) ≡ doorsCall (λ d. Packets·write (Message from to number d)) (now (doors .entry)) (now (packet .entry)) ⌝ }
 {
     if doors.len() != DOORS_SIZE {
         return refusal(OTHER_BLOCK);
@@ -80,7 +80,7 @@ pub extern "C" fn mudasgup_raw_acknowledgement(
     number: u32,
     packet: &mut [u8],
 ) -> usize
-    ensures { λ r. ⌜ filled r (now (packet .exit)) ≡ packetCall (Packets·write (Acknowledgement from to number)) (now (packet .entry)) ⌝ }
+    ensures { λ r. ⌜ filledMeant r (now (packet .exit)) ≡ packetCall (Packets·write (Acknowledgement from to number)) (now (packet .entry)) ⌝ }
 {
     leave_packet(Packet::Acknowledgement { from, to, number }, packet)
 }
@@ -88,7 +88,7 @@ pub extern "C" fn mudasgup_raw_acknowledgement(
 // Leaves the one packet that the bytes are, of the old kinds in the new and of the new in the old, and answers its size; refused with 24, 12, 18.
 #[no_mangle]
 pub extern "C" fn mudasgup_raw_packet_convert(bytes: &[u8], packet: &mut [u8]) -> usize
-    ensures { λ r. ⌜ filled r (now (packet .exit)) ≡ packetCall (Conversions·convert (now (bytes .entry))) (now (packet .entry)) ⌝ }
+    ensures { λ r. ⌜ filledMeant r (now (packet .exit)) ≡ packetCall (Conversions·convert (now (bytes .entry))) (now (packet .entry)) ⌝ }
 {
     leave_written(convert(bytes), packet)
 }

@@ -25,7 +25,7 @@ use list::list::Listing;
 use list::list::lone_list;
 use table::table::read_table;
 ghost use mathlib.Core.Path.{_≡_};
-ghost use Rattle.firmware.specs.Calls.{treeCall, tableCall, filled, freshCall, idleCall, listCall, byteCall, lineUpCall};
+ghost use Rattle.firmware.specs.Calls.{treeCall, tableCall, filledMeant, freshCall, idleCall, listCall, byteCall, lineUpCall};
 
 // 0 of a tree that a bank may have; refused with 24, 2, 3.
 #[no_mangle]
@@ -45,7 +45,7 @@ pub extern "C" fn mudasgup_raw_tree_check(tree: &[u8]) -> usize
 // Leaves the tree of the table that the text begins with and answers how many bytes the table takes, 137 at most; refused with 24, 1, 2, 3.
 #[no_mangle]
 pub extern "C" fn mudasgup_raw_tree_read(text: &[u8], tree: &mut [u8]) -> usize
-    ensures { λ r. ⌜ filled r (now (tree .exit)) ≡ tableCall (now (text .entry)) (now (tree .entry)) ⌝ }
+    ensures { λ r. ⌜ filledMeant r (now (tree .exit)) ≡ tableCall (now (text .entry)) (now (tree .entry)) ⌝ }
 {
     if tree.len() != TREE_SIZE {
         return refusal(OTHER_BLOCK);
@@ -64,7 +64,7 @@ pub extern "C" fn mudasgup_raw_tree_read(text: &[u8], tree: &mut [u8]) -> usize
 // Leaves column i as it begins and answers 0; refused with 24, 2, 3, 4.
 #[no_mangle]
 pub extern "C" fn mudasgup_raw_column_fresh(tree: &[u8], i: usize, column: &mut [u8]) -> usize
-    ensures { λ r. ⌜ filled r (now (column .exit)) ≡ freshCall (now (tree .entry)) i (now (column .entry)) ⌝ }
+    ensures { λ r. ⌜ filledMeant r (now (column .exit)) ≡ freshCall (now (tree .entry)) i (now (column .entry)) ⌝ }
 {
     if !(is_tree(tree) & (column.len() == COLUMN_SIZE)) {
         return refusal(OTHER_BLOCK);
@@ -103,7 +103,7 @@ pub extern "C" fn mudasgup_raw_idle(tree: &[u8], column: &[u8]) -> usize
 // Leaves the column's closing list at the start of the buffer and answers its length, 229 at most; refused with 24, 2, 3, 4, 5, 11.
 #[no_mangle]
 pub extern "C" fn mudasgup_raw_list(tree: &[u8], column: &[u8], buffer: &mut [u8]) -> usize
-    ensures { λ r. ⌜ filled r (now (buffer .exit)) ≡ listCall (now (tree .entry)) (now (column .entry)) (now (buffer .entry)) ⌝ }
+    ensures { λ r. ⌜ filledMeant r (now (buffer .exit)) ≡ listCall (now (tree .entry)) (now (column .entry)) (now (buffer .entry)) ⌝ }
 {
     if !are_blocks(tree, column) {
         return refusal(OTHER_BLOCK);

@@ -24,7 +24,7 @@ ghost use lib.ListN.{length};
 ghost use Rattle.column.specs.Steps.{outcomeMeant, send as core·send, ack as core·ack, all as core·all, note as core·note, halt as core·halt};
 ghost use Rattle.firmware.specs.Blocks.{columnSize};
 ghost use Rattle.firmware.specs.LoneSteps.{next as LoneSteps·next, strike as LoneSteps·strike};
-ghost use Rattle.firmware.specs.Calls.{packetSize, filled, quietLeft, quietCall, orderCall, writeCall, rejoinCall, called, stepLeft, stepBlocks, stepCall, takeCall};
+ghost use Rattle.firmware.specs.Calls.{packetSize, filledMeant, quietLeft, quietCall, orderCall, writeCall, rejoinCall, calledMeant, stepLeft, stepBlocks, stepCall, takeCall};
 ghost use Rattle.firmware.specs.inner.StepCalls.{quietOf, puttingOf};
 
 // What is left where no packet is to be put.
@@ -36,7 +36,7 @@ const LEFT: usize = 100;
 // What a step that puts no packet left, and its answer.
 fn leave_quietly(own: u8, o: Outcome, column: &mut [u8]) -> usize
     requires { ⌜ length (now column) ≡ columnSize ⌝ }
-    ensures { λ r. ⌜ filled r (now (column .exit)) ≡ quietLeft own (outcomeMeant o) (now (column .entry)) ⌝ }
+    ensures { λ r. ⌜ filledMeant r (now (column .exit)) ≡ quietLeft own (outcomeMeant o) (now (column .entry)) ⌝ }
 {
     let answer = o.answer;
     let c = o.column;
@@ -59,7 +59,7 @@ fn leave_quietly(own: u8, o: Outcome, column: &mut [u8]) -> usize
 
 // A step that puts no packet, over its column's block.
 fn stepped_quietly(x: QuietStep, tree: &[u8], column: &mut [u8]) -> usize
-    ensures { λ r. ⌜ filled r (now (column .exit)) ≡ quietCall (quietOf x) (now (tree .entry)) (now (column .entry)) ⌝ }
+    ensures { λ r. ⌜ filledMeant r (now (column .exit)) ≡ quietCall (quietOf x) (now (tree .entry)) (now (column .entry)) ⌝ }
 {
     if !are_blocks(tree, column) {
         return refusal(OTHER_BLOCK);
@@ -72,7 +72,7 @@ fn stepped_quietly(x: QuietStep, tree: &[u8], column: &mut [u8]) -> usize
 // What a step that may put a packet left, and its answer.
 fn leave(own: u8, o: Outcome, column: &mut [u8], put: &mut [u8]) -> usize
     requires { ⌜ (length (now column) ≡ columnSize) × (length (now put) ≡ packetSize) ⌝ }
-    ensures { λ r. ⌜ called r (now (column .exit)) (now (put .exit)) ≡ stepLeft own (outcomeMeant o) (now (column .entry)) (now (put .entry)) ⌝ }
+    ensures { λ r. ⌜ calledMeant r (now (column .exit)) (now (put .exit)) ≡ stepLeft own (outcomeMeant o) (now (column .entry)) (now (put .entry)) ⌝ }
 {
     let answer = o.answer;
     let c = o.column;
@@ -103,7 +103,7 @@ fn step_blocks(tree: &[u8], column: &[u8], put: usize) -> bool
 
 // A step that may put a packet, over its column's block.
 fn stepped(x: PuttingStep, tree: &[u8], column: &mut [u8], put: &mut [u8]) -> usize
-    ensures { λ r. ⌜ called r (now (column .exit)) (now (put .exit)) ≡ stepCall (puttingOf x) (now (tree .entry)) (now (column .entry)) (now (put .entry)) ⌝ }
+    ensures { λ r. ⌜ calledMeant r (now (column .exit)) (now (put .exit)) ≡ stepCall (puttingOf x) (now (tree .entry)) (now (column .entry)) (now (put .entry)) ⌝ }
 {
     if !step_blocks(tree, column, put.len()) {
         return refusal(OTHER_BLOCK);
@@ -121,7 +121,7 @@ fn stepped(x: PuttingStep, tree: &[u8], column: &mut [u8], put: &mut [u8]) -> us
 // The root takes an order: its doors, eight bytes; refused with 24, 2, 3, 4, 5, 7, 8.
 #[no_mangle]
 pub extern "C" fn mudasgup_raw_order(tree: &[u8], column: &mut [u8], doors: &[u8]) -> usize
-    ensures { λ r. ⌜ filled r (now (column .exit)) ≡ orderCall (now (tree .entry)) (now (column .entry)) (now (doors .entry)) ⌝ }
+    ensures { λ r. ⌜ filledMeant r (now (column .exit)) ≡ orderCall (now (tree .entry)) (now (column .entry)) (now (doors .entry)) ⌝ }
 {
     if doors.len() != DOORS_SIZE {
         return refusal(OTHER_BLOCK);
@@ -132,7 +132,7 @@ pub extern "C" fn mudasgup_raw_order(tree: &[u8], column: &mut [u8], doors: &[u8
 // One is served of those to send to; refused with 24, 2, 3, 4, 5, 6.
 #[no_mangle]
 pub extern "C" fn mudasgup_raw_send(tree: &[u8], column: &mut [u8], put: &mut [u8]) -> usize
-    ensures { λ r. ⌜ called r (now (column .exit)) (now (put .exit)) ≡ stepCall core·send (now (tree .entry)) (now (column .entry)) (now (put .entry)) ⌝ }
+    ensures { λ r. ⌜ calledMeant r (now (column .exit)) (now (put .exit)) ≡ stepCall core·send (now (tree .entry)) (now (column .entry)) (now (put .entry)) ⌝ }
 {
     stepped(PuttingStep::Send, tree, column, put)
 }
@@ -145,7 +145,7 @@ pub extern "C" fn mudasgup_raw_take(
     packet: &[u8],
     put: &mut [u8],
 ) -> usize
-    ensures { λ r. ⌜ called r (now (column .exit)) (now (put .exit)) ≡ takeCall (now (tree .entry)) (now (column .entry)) (now (packet .entry)) (now (put .entry)) ⌝ }
+    ensures { λ r. ⌜ calledMeant r (now (column .exit)) (now (put .exit)) ≡ takeCall (now (tree .entry)) (now (column .entry)) (now (packet .entry)) (now (put .entry)) ⌝ }
 {
     if !step_blocks(tree, column, put.len()) {
         return refusal(OTHER_BLOCK);
@@ -159,7 +159,7 @@ pub extern "C" fn mudasgup_raw_take(
 // The lowest owed gets its acknowledgement; refused with 24, 2, 3, 4, 5, 6.
 #[no_mangle]
 pub extern "C" fn mudasgup_raw_ack(tree: &[u8], column: &mut [u8], put: &mut [u8]) -> usize
-    ensures { λ r. ⌜ called r (now (column .exit)) (now (put .exit)) ≡ stepCall core·ack (now (tree .entry)) (now (column .entry)) (now (put .entry)) ⌝ }
+    ensures { λ r. ⌜ calledMeant r (now (column .exit)) (now (put .exit)) ≡ stepCall core·ack (now (tree .entry)) (now (column .entry)) (now (put .entry)) ⌝ }
 {
     stepped(PuttingStep::Ack, tree, column, put)
 }
@@ -167,7 +167,7 @@ pub extern "C" fn mudasgup_raw_ack(tree: &[u8], column: &mut [u8], put: &mut [u8
 // The first accepted of send, ack and all; refused with 24, 2, 3, 4, 5, 6.
 #[no_mangle]
 pub extern "C" fn mudasgup_raw_next(tree: &[u8], column: &mut [u8], put: &mut [u8]) -> usize
-    ensures { λ r. ⌜ called r (now (column .exit)) (now (put .exit)) ≡ stepCall LoneSteps·next (now (tree .entry)) (now (column .entry)) (now (put .entry)) ⌝ }
+    ensures { λ r. ⌜ calledMeant r (now (column .exit)) (now (put .exit)) ≡ stepCall LoneSteps·next (now (tree .entry)) (now (column .entry)) (now (put .entry)) ⌝ }
 {
     stepped(PuttingStep::Next, tree, column, put)
 }
@@ -175,7 +175,7 @@ pub extern "C" fn mudasgup_raw_next(tree: &[u8], column: &mut [u8], put: &mut [u
 // The column takes over the whole bank; refused with 24, 2, 3, 4, 5, 6.
 #[no_mangle]
 pub extern "C" fn mudasgup_raw_all(tree: &[u8], column: &mut [u8]) -> usize
-    ensures { λ r. ⌜ filled r (now (column .exit)) ≡ quietCall core·all (now (tree .entry)) (now (column .entry)) ⌝ }
+    ensures { λ r. ⌜ filledMeant r (now (column .exit)) ≡ quietCall core·all (now (tree .entry)) (now (column .entry)) ⌝ }
 {
     stepped_quietly(QuietStep::All, tree, column)
 }
@@ -183,7 +183,7 @@ pub extern "C" fn mudasgup_raw_all(tree: &[u8], column: &mut [u8]) -> usize
 // Column j is noted as halted; refused with 24, 2, 3, 4, 5, 6.
 #[no_mangle]
 pub extern "C" fn mudasgup_raw_note(tree: &[u8], column: &mut [u8], j: usize) -> usize
-    ensures { λ r. ⌜ filled r (now (column .exit)) ≡ quietCall (λ t i c. core·note t i c j) (now (tree .entry)) (now (column .entry)) ⌝ }
+    ensures { λ r. ⌜ filledMeant r (now (column .exit)) ≡ quietCall (λ t i c. core·note t i c j) (now (tree .entry)) (now (column .entry)) ⌝ }
 {
     stepped_quietly(QuietStep::Note(j), tree, column)
 }
@@ -191,7 +191,7 @@ pub extern "C" fn mudasgup_raw_note(tree: &[u8], column: &mut [u8], j: usize) ->
 // The column stops; refused with 24, 2, 3, 4, 5.
 #[no_mangle]
 pub extern "C" fn mudasgup_raw_halt(tree: &[u8], column: &mut [u8]) -> usize
-    ensures { λ r. ⌜ filled r (now (column .exit)) ≡ quietCall core·halt (now (tree .entry)) (now (column .entry)) ⌝ }
+    ensures { λ r. ⌜ filledMeant r (now (column .exit)) ≡ quietCall core·halt (now (tree .entry)) (now (column .entry)) ⌝ }
 {
     stepped_quietly(QuietStep::Halt, tree, column)
 }
@@ -204,7 +204,7 @@ pub extern "C" fn mudasgup_raw_page_write(
     offset: usize,
     value: u8,
 ) -> usize
-    ensures { λ r. ⌜ filled r (now (column .exit)) ≡ writeCall (now (tree .entry)) (now (column .entry)) offset value ⌝ }
+    ensures { λ r. ⌜ filledMeant r (now (column .exit)) ≡ writeCall (now (tree .entry)) (now (column .entry)) offset value ⌝ }
 {
     stepped_quietly(QuietStep::Write(offset, value), tree, column)
 }
@@ -219,7 +219,7 @@ pub extern "C" fn mudasgup_raw_rejoin(
     doors: &[u8],
     halted: usize,
 ) -> usize
-    ensures { λ r. ⌜ filled r (now (column .exit)) ≡ rejoinCall (now (tree .entry)) (now (column .entry)) lowest number (now (doors .entry)) halted ⌝ }
+    ensures { λ r. ⌜ filledMeant r (now (column .exit)) ≡ rejoinCall (now (tree .entry)) (now (column .entry)) lowest number (now (doors .entry)) halted ⌝ }
 {
     if doors.len() != DOORS_SIZE {
         return refusal(OTHER_BLOCK);
@@ -240,7 +240,7 @@ pub extern "C" fn mudasgup_raw_rejoin(
 // The column has another, which comes back, no longer noted; refused with 24, 2, 3, 4, 14.
 #[no_mangle]
 pub extern "C" fn mudasgup_raw_strike(tree: &[u8], column: &mut [u8], back: usize) -> usize
-    ensures { λ r. ⌜ filled r (now (column .exit)) ≡ quietCall (λ t i c. LoneSteps·strike t i c back) (now (tree .entry)) (now (column .entry)) ⌝ }
+    ensures { λ r. ⌜ filledMeant r (now (column .exit)) ≡ quietCall (λ t i c. LoneSteps·strike t i c back) (now (tree .entry)) (now (column .entry)) ⌝ }
 {
     stepped_quietly(QuietStep::Strike(back), tree, column)
 }

@@ -1,25 +1,19 @@
---
+-- The line of a packet in a journal, by the pieces that are written one after the other.
 use Prim.Native.Nat.{ℕ}
+use mathlib.Core.Bool.{true, false}
 use mathlib.Core.List.{List, _∷_, [], _++_}
-use Rattle.text.specs.Text.{decimal, bytes}
+use Rattle.text.specs.Text.{comma, field, nextText}
 
--- a mark and a number
-abbrev pub markedText : ℕ → ℕ → List ℕ
-markedText mark n = mark ∷ decimal n
-
--- the owner's line: key, number, end
-abbrev pub ownerText : ℕ → List ℕ
-ownerText owner = bytes "column" ++ (markedText 61 owner ++ (10 ∷ []))
-
--- a packet's line: key, kind, the other column, number, end
+-- the last number of a line, with the line's end
 abbrev pub fromNumber : ℕ → List ℕ
-fromNumber number = markedText 44 number ++ (10 ∷ [])
+fromNumber number = field (comma ∷ []) number
 
 abbrev pub fromOther : ℕ → ℕ → List ℕ
-fromOther other number = markedText 44 other ++ fromNumber number
+fromOther other number = nextText false other ++ fromNumber number
 
 abbrev pub fromKind : ℕ → ℕ → ℕ → List ℕ
-fromKind kind other number = markedText 61 kind ++ fromOther other number
+fromKind kind other number = nextText true kind ++ fromOther other number
 
+-- a packet's line: key, kind, the other column, number, end
 abbrev pub packetText : List ℕ → ℕ → ℕ → ℕ → List ℕ
 packetText key kind other number = key ++ fromKind kind other number

@@ -1,4 +1,4 @@
--- The core's steps by the number that the calls share one function under.
+-- The steps of a lone column by their names: what each makes of a column, and how the next one is chosen.
 use Prim.Native.Nat.{ℕ}
 use mathlib.Core.Bool.{Bool, not, _&&_}
 use mathlib.Core.List.{List}
@@ -45,7 +45,7 @@ chosenOf chosen.All = core.all
 abbrev pub refuses : List (ℕ × Bool) → Bool
 refuses conditions = not (eqb (first conditions) 0)
 
--- a column whose tree and state stand rests by the own conditions of its steps
+-- a column whose tree and state are valid rests by the own conditions of its steps
 abbrev pub ownRests : Tree → ℕ → Column → Bool
 ownRests t i c = refuses (sendConditions t i c) && (refuses (ackConditions t i c) && refuses (allConditions t i c))
 

@@ -27,13 +27,14 @@ use Rattle.list.specs.Closing.{listText, placed, loneRefusal, loneList}
 use Rattle.list.specs.laws.ClosingLaws.{list-longest}
 use Rattle.bank.specs.Steps as bank
 use Rattle.table.specs.Tables.{Placed, readTable}
+use Rattle.journals.specs.Journals.{sentKey, gotKey}
 use Rattle.journals.specs.PacketLines.{kindOf, sentLine, gotLine, ownerBytes, lineBytes}
 use Rattle.journals.specs.declared.line.Line.{Line}
 use Rattle.firmware.specs.Blocks.{isTree, treeIn, isColumn, ownIn, columnIn, areBlocks, columnSize, treeSize}
 use Rattle.firmware.specs.laws.BlockLaws.{block-column-fits}
-use Rattle.firmware.specs.laws.JournalTextLaws.{owner-text, owner-length, sent-text, got-text, kind-below, packet-length}
+use Rattle.firmware.specs.laws.JournalTextLaws.{owner-length, sent-text, got-text, kind-below, packet-length}
 use Rattle.firmware.specs.laws.TableLength.{table-length}
-use Rattle.firmware.specs.Calls.{refusedBy, otherBlock, leftInPlace, noRoom, notItsOwn, Filled, filled, unfilled, filledOver, tableLeft, tableCall, freshLeft, freshCall, packetSize, sizeLeft, packetCall, doorsCall, packetCount, joinedAt, joinLeft, joinCall, listLeft, listCall, ownerCall, lineLeft, sentLeft, sentCall, gotLeft, gotCall, quietLeft, quietCall, doorsOver, Called, uncalled, stepLeft, stepBlocks, stepCall, takeLeft, takeCall}
+use Rattle.firmware.specs.Calls.{refusedBy, otherBlock, leftInPlace, noRoom, notItsOwn, Filled, filledMeant, unfilled, filledOver, tableLeft, tableCall, freshLeft, freshCall, packetSize, sizeLeft, packetCall, doorsCall, packetCount, joinedAt, joinLeft, joinCall, listLeft, listCall, ownerCall, lineLeft, sentLeft, sentCall, gotLeft, gotCall, quietLeft, quietCall, doorsOver, Called, uncalled, stepLeft, stepBlocks, stepCall, takeLeft, takeCall}
 use Rattle.firmware.specs.inner.StepCalls.{quietOf, puttingOf}
 use Rattle.firmware.specs.declared.lone.QuietStep.{QuietStep}
 use Rattle.firmware.specs.declared.lone.PuttingStep.{PuttingStep}
@@ -51,7 +52,7 @@ pub table-told : (text tree : List ℕ) → Told (tableCall text tree) tree
 unfolding tableCall
 table-told text tree = over-told (eqb (length tree) treeSize) (tableLeft (readTable text) tree) tree (go (readTable text) refl)
   where
-    go : (o : bank.Outcome Placed) → readTable text ≡ o → Told (tableLeft o tree) tree
+    go : (o : bank.Result Placed) → readTable text ≡ o → Told (tableLeft o tree) tree
     go (bank.accepted p) e = inl (omega (arith, table-length text p e))
     go (bank.refused n p) e = inr (n, refl)
 
@@ -151,7 +152,7 @@ module _ (tree column old : List ℕ) (bytes : Bytes column) where
   unfolding ownerCall
   owner-told =
       over-told (isColumn column) (listLeft (placed old 0 (ownerBytes i))) old
-      (placed-told old (ownerBytes i) (omega (arith, ap length (owner-text i), owner-length i (bytes 1))))
+      (placed-told old (ownerBytes i) (omega (arith, owner-length i (bytes 1))))
 
   module _ (packet : List ℕ) (packet-bytes : Bytes packet) where
     line-told : (end : ℕ) (x : Line) → length (lineBytes x) < refusedBy → Told (lineLeft i end x old) old
@@ -171,7 +172,7 @@ module _ (tree column old : List ℕ) (bytes : Bytes column) where
             let p = q .packet in
             let r = write-read wide packet packet-bytes q e in
             line-told (sender p) (sentLine p)
-            (omega (arith, ap length (sent-text p), packet-length (115 ∷ 101 ∷ 110 ∷ 116 ∷ []) (kindOf p) (receiver p) (numberOf p) (kind-below p) (good-ends p (r .ends) .1) (r .fits .number)))
+            (omega (arith, ap length (sent-text p), packet-length sentKey (kindOf p) (receiver p) (numberOf p) (kind-below p) (good-ends p (r .ends) .1) (r .fits .number)))
         go (refused n) e = inr (n, refl)
 
     pub got-told : Told (gotCall column packet old) old
@@ -183,7 +184,7 @@ module _ (tree column old : List ℕ) (bytes : Bytes column) where
             let p = q .packet in
             let r = write-read wide packet packet-bytes q e in
             line-told (receiver p) (gotLine p)
-            (omega (arith, ap length (got-text p), packet-length (103 ∷ 111 ∷ 116 ∷ []) (kindOf p) (sender p) (numberOf p) (kind-below p) (good-ends p (r .ends) .0) (r .fits .number)))
+            (omega (arith, ap length (got-text p), packet-length gotKey (kindOf p) (sender p) (numberOf p) (kind-below p) (good-ends p (r .ends) .0) (r .fits .number)))
         go (refused n) e = inr (n, refl)
 
 -- ---- frames
@@ -192,7 +193,7 @@ pub join-told : (bytes old : List ℕ) (at : ℕ) → Bytes bytes → Told (join
 unfolding joinedAt
 join-told bytes old at h = go (read bytes) refl (packetCount (take at old))
   where
-    fits : (used : ℕ) → used ≤ packetSize → (b : Bool) → Told (cond b (filled used (written old at (take used bytes))) (unfilled noRoom old)) old
+    fits : (used : ℕ) → used ≤ packetSize → (b : Bool) → Told (cond b (filledMeant used (written old at (take used bytes))) (unfilled noRoom old)) old
     fits used l true = inl (omega (arith, l))
     fits used l false = inr (noRoom, refl)
 

@@ -21,7 +21,7 @@ use Rattle.column.specs.declared.tree.Tree.{Tree}
 use Rattle.column.specs.declared.state.Column.{Column}
 use Rattle.firmware.specs.declared.lone.PuttingStep.the-variants.{Take}
 use Rattle.firmware.specs.Blocks.{isBlock, treeSize, treeLayout, isTree, treeIn, columnSize, columnLayout, isColumn, ownIn, columnIn, areBlocks, columnBytes}
-use Rattle.firmware.specs.Calls.{otherBlock, packetSize, Filled, unfilled, quietLeft, quietCall, Called, uncalled, stepLeft, stepBlocks, stepCall, takeCall, byteCall, filled, writeCall}
+use Rattle.firmware.specs.Calls.{otherBlock, packetSize, Filled, unfilled, quietLeft, quietCall, Called, uncalled, stepLeft, stepBlocks, stepCall, takeCall, byteCall, filledMeant, writeCall}
 use Rattle.firmware.specs.inner.StepCalls.{puttingOf}
 
 -- ---- blocks
@@ -150,17 +150,17 @@ module _ (tree column : List ℕ) (blocks : areBlocks tree column ≡ true) wher
     byte-within offset h = rw (blocks, read-within (treeIn tree) (ownIn column) here good offset h)
 
     -- "or a write elsewhere": every lent byte is as it was
-    pub elsewhere-called : (offset value : ℕ) → (offset ≡ 5 → ⊥) → (offset ≡ 7 → ⊥) → writeCall tree column offset value ≡ filled 1022 column
+    pub elsewhere-called : (offset value : ℕ) → (offset ≡ 5 → ⊥) → (offset ≡ 7 → ⊥) → writeCall tree column offset value ≡ filledMeant 1022 column
     unfolding quietCall
     elsewhere-called offset value h k = rw (blocks, write-elsewhere (treeIn tree) (ownIn column) here good offset value h k)
 
     -- "Byte 5 keeps all eight bits written"
-    pub mask-called : (value : ℕ) → writeCall tree column 5 value ≡ filled 0 (columnBytes (ownIn column) (withRegisters here value (here .pending)))
+    pub mask-called : (value : ℕ) → writeCall tree column 5 value ≡ filledMeant 0 (columnBytes (ownIn column) (withRegisters here value (here .pending)))
     unfolding quietCall
     mask-called value = rw (blocks, write-mask (treeIn tree) (ownIn column) here good value)
 
     -- "a write there clears the pending bits that are 1 in it"
     pub clear-called : (value : ℕ)
-        → writeCall tree column 7 value ≡ filled 0 (columnBytes (ownIn column) (withRegisters here (here .mask) (minus (here .pending) value)))
+        → writeCall tree column 7 value ≡ filledMeant 0 (columnBytes (ownIn column) (withRegisters here (here .mask) (minus (here .pending) value)))
     unfolding quietCall
     clear-called value = rw (blocks, write-clear (treeIn tree) (ownIn column) here good value)

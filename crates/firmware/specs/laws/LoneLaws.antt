@@ -1,4 +1,4 @@
--- How the code tells the next step, rest and a return: by the own conditions of the steps, once the tree and the state stand. Assumes nothing.
+-- How the code tells the next step, rest and a return: by the own conditions of the steps, once the tree and the state are valid. Assumes nothing.
 use Prim.Native.Nat.{ℕ, _^_, _≤_, _<_}
 use mathlib.Core.Path.{_≡_, refl, sym, ap, ap₂, _∙_}
 use mathlib.Core.Bool.{Bool, true, false, not, _&&_, _||_, cond, true≢false}
@@ -90,7 +90,7 @@ module _ (t : Tree) (i : ℕ) (c : Column) where
       go x y z p false true = refl
       go x y z p false false = refl
 
-  -- whether a step is refused, where the tree and the state stand
+  -- whether a step is refused, where the tree and the state are valid
   refused-by : (conditions : List (ℕ × Bool)) (effect : core.Result) → isRefused effect ≡ false → n ≡ 0 → isRefused (stepBy n conditions c effect) ≡ refuses conditions
   unfolding isRefused
   refused-by conditions effect a e = rw e (go (eqb (first conditions) 0))

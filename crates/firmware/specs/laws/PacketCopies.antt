@@ -16,7 +16,7 @@ use Rattle.column.specs.laws.NumberLaws.{Bytes}
 use Rattle.column.specs.Frames.{framePackets, prefixed, packetsIn, readFrame, frameOf}
 use Rattle.column.specs.declared.packet.Packet.{Packet}
 use Rattle.column.specs.declared.packet.Packet.the-variants.{Message, Acknowledgement}
-use Rattle.firmware.specs.Calls.{filled, packetLeft, rewritten, packetCount}
+use Rattle.firmware.specs.Calls.{filledMeant, packetLeft, rewritten, packetCount}
 
 -- ---- a packet by its own bytes
 
@@ -26,28 +26,28 @@ two-sizes (Message from to number doors) = inl refl
 two-sizes (Acknowledgement from to number) = inr refl
 
 module _ (s : List ℕ) (h : Bytes s) (q : Part) (e : read s ≡ given q) (old : List ℕ) where
-  copied : packetLeft (rewritten (read s)) old ≡ filled (q .used) (padded (take (q .used) s))
+  copied : packetLeft (rewritten (read s)) old ≡ filledMeant (q .used) (padded (take (q .used) s))
   copied = rw e (ap (λ (w : Wrote). packetLeft w old) (read-writes s h q e))
 
   first-size : (n : ℕ) → q .used ≡ n → length (take n s) ≡ n
   first-size n l = length-take-le n s (omega (arith, l, read-sized wide s q e .1))
 
-  pub copied-message : q .used ≡ 15 → packetLeft (rewritten (read s)) old ≡ filled 15 (take 15 s)
+  pub copied-message : q .used ≡ 15 → packetLeft (rewritten (read s)) old ≡ filledMeant 15 (take 15 s)
   copied-message l =
       copied
-      ∙ ap (λ (n : ℕ). filled n (padded (take n s))) l
-      ∙ ap (λ (w : List ℕ). filled 15 w) (ap (λ (n : ℕ). take 15 s ++ replicate (15 - n) 0) (first-size 15 l) ∙ append-nil (take 15 s))
+      ∙ ap (λ (n : ℕ). filledMeant n (padded (take n s))) l
+      ∙ ap (λ (w : List ℕ). filledMeant 15 w) (ap (λ (n : ℕ). take 15 s ++ replicate (15 - n) 0) (first-size 15 l) ∙ append-nil (take 15 s))
 
   pub short-used : (q .used ≡ 15 → ⊥) → q .used ≡ 7
   short-used n =
       let size = read-used wide s h q e in
       ⊎-elim (λ (l : length (bytesOf (q .packet)) ≡ 15). absurd (n (sym size ∙ l))) (λ (l : length (bytesOf (q .packet)) ≡ 7). sym size ∙ l) (two-sizes (q .packet))
 
-  pub copied-acknowledgement : q .used ≡ 7 → packetLeft (rewritten (read s)) old ≡ filled 7 (take 7 s ++ replicate 8 0)
+  pub copied-acknowledgement : q .used ≡ 7 → packetLeft (rewritten (read s)) old ≡ filledMeant 7 (take 7 s ++ replicate 8 0)
   copied-acknowledgement l =
       copied
-      ∙ ap (λ (n : ℕ). filled n (padded (take n s))) l
-      ∙ ap (λ (n : ℕ). filled 7 (take 7 s ++ replicate (15 - n) 0)) (first-size 7 l)
+      ∙ ap (λ (n : ℕ). filledMeant n (padded (take n s))) l
+      ∙ ap (λ (n : ℕ). filledMeant 7 (take 7 s ++ replicate (15 - n) 0)) (first-size 7 l)
 
 -- ---- packets counted
 

@@ -12,7 +12,7 @@ use Rattle.column.specs.Refusals.{given, refused}
 use Rattle.column.specs.Packets.{Part, part, wide, read}
 use Rattle.column.specs.laws.PacketLaws.{read-sized}
 use Rattle.text.specs.Text.{written}
-use Rattle.firmware.specs.Calls.{filled, packetCount, joinedAt}
+use Rattle.firmware.specs.Calls.{filledMeant, packetCount, joinedAt}
 use Rattle.firmware.proofs.frames.mudasgup_raw_frame_join.Statement.{statement}
 use Rattle.firmware.proofs.frames.mudasgup_raw_frame_join.Tie as tie
 
@@ -99,7 +99,7 @@ returns c =
     let m = taken k in
     let a = start m .args in
     let none : leb (a .at + used m) (length (a .frame .now)) ≡ false = sym (h .has-room .ensures) ∙ not-true _ (c .before .if1 .taken) in
-    rw (← is m, ← counted k, none) (ap (λ (r : ℕ). filled r (a .frame .now)) (c .refusal3 .ensures))
+    rw (← is m, ← counted k, none) (ap (λ (r : ℕ). filledMeant r (a .frame .now)) (c .refusal3 .ensures))
 
 refusal-requires-4 : tie.Need-refusal-requires-4
 refusal-requires-4 c κs = search needs
@@ -112,7 +112,7 @@ unfolding joinedAt
 returns-2 c =
     let e = c .before .before in
     let k = before e in
-    rw (← is (taken k), ← counted k, has-room e, le-ltb (k .count .given .0 .0) 512 (c .before .if2 .taken)) (ap (λ (r : ℕ). filled r (old e)) (c .refusal4 .ensures))
+    rw (← is (taken k), ← counted k, has-room e, le-ltb (k .count .given .0 .0) 512 (c .before .if2 .taken)) (ap (λ (r : ℕ). filledMeant r (old e)) (c .refusal4 .ensures))
 
 sub-put-bytes : tie.Need-sub-put-bytes
 sub-put-bytes c = search needs
@@ -136,7 +136,7 @@ returns-3 c =
     let r = m .before .before in
     let a = r .before .before .before .args in
     let none : refused (m .n .given .0 .0) ≡ read (a .bytes .now) = rw (m .n .given .1) at (r .read .ensures) in
-    rw (← none) (ap (λ (k : ℕ). filled k (a .frame .now)) (c .refusal .ensures))
+    rw (← none) (ap (λ (k : ℕ). filledMeant k (a .frame .now)) (c .refusal .ensures))
 
 same-length-3 : tie.Need-same-length-3
 same-length-3 c = search needs
@@ -148,7 +148,7 @@ returns-4 c =
     let m = b .before .before .before in
     let a = start m .args in
     let none : refused (q .n2 .given .0 .0) ≡ packetCount (take (a .at) (a .frame .now)) = rw (q .n2 .given .1) at (b .count-before .ensures) in
-    rw (← is m, ← none) (ap (λ (k : ℕ). filled k (a .frame .now)) (c .refusal2 .ensures))
+    rw (← is m, ← none) (ap (λ (k : ℕ). filledMeant k (a .frame .now)) (c .refusal2 .ensures))
 
 same-length-4 : tie.Need-same-length-4
 same-length-4 c = search needs
@@ -164,7 +164,7 @@ returns-5 c =
     let n = used m in
     let none : n - 0 ≡ n = omega arith in
     rw (← is m, ← counted k, has-room e, lt-ltb (k .count .given .0 .0) 512 (f .if2 .left))
-    (ap (λ (l : List ℕ). filled n l) (p .put-bytes .ensures ∙ ap (λ (d : ℕ). written (old e) (at e) (take d (start m .args .bytes .now))) none))
+    (ap (λ (l : List ℕ). filledMeant n l) (p .put-bytes .ensures ∙ ap (λ (d : ℕ). written (old e) (at e) (take d (start m .args .bytes .now))) none))
 
 pub mudasgup-raw-frame-join-spec : {M : Type 1} → statement M
 mudasgup-raw-frame-join-spec =

@@ -1,14 +1,13 @@
-use Prim.Native.Nat.{ℕ}
-use mathlib.Core.Path.{_≡_, sym, ap, ap₂, _∙_}
+use Prim.Native.Nat.{ℕ, _≤_}
+use mathlib.Core.Path.{_≡_, sym, ap, _∙_}
 use mathlib.Core.List.{List}
 use native.Mathlib.Omega.{arith}
-use lib.ListN.{length, take, replicate}
+use lib.ListN.{length, take}
 use borrow.Author.Needs.{needs}
-use Rattle.text.specs.laws.WritingLaws.{written-taken, writes-within}
 use Rattle.list.specs.Closing.{placed}
 use Rattle.firmware.specs.Calls.{listLeft}
 use Rattle.firmware.specs.inner.JournalTexts.{packetText}
-use Rattle.firmware.specs.laws.JournalTextLaws.{packet-length}
+use Rattle.firmware.specs.laws.JournalTextLaws.{packet-length, line-size, line-begins}
 use Rattle.firmware.proofs.journal.leave_line.Statement.{statement}
 use Rattle.firmware.proofs.journal.leave_line.Tie as tie
 
@@ -20,25 +19,31 @@ module _ (l : tie.After-put-line) where
   abbrev text : List ℕ
   text = packetText (start .args .key .now) (start .args .kind) (start .args .other) (start .args .number)
 
+  room : length text ≤ 21
+  room =
+      let a = start .args in
+      omega (
+        arith,
+        packet-length (a .key .now) (a .kind) (a .other) (a .number) (start .pre .1 .0) (start .pre .1 .1) (start .fits .number .fits),
+        start .pre .0,
+      )
+
   size : l .put-line .result ≡ length text
-  size = omega (arith, l .put-line .ensures .place)
+  size = line-size text room (l .put-line .ensures)
 
   begins : take (l .put-line .result) (l .put-line .last .0) ≡ text
-  begins = ap₂ (λ (k : ℕ) (w : List ℕ). take k w) size (l .put-line .ensures .left) ∙ written-taken (replicate 21 0) text
+  begins = line-begins text room (l .put-line .ensures)
 
 slice-aggregate-put-line : tie.Need-slice-aggregate-put-line
 slice-aggregate-put-line c = search needs
 
 put-line-requires : tie.Need-put-line-requires
-put-line-requires c κs =
-    let s = c .before .before .before in
-    let a = s .args in
-    omega (arith, packet-length (a .key .now) (a .kind) (a .other) (a .number) (s .pre .1 .0) (s .pre .1 .1) (s .fits .number .fits), s .pre .0)
+put-line-requires c κs = search needs
 
 array-share-prefix-line : tie.Need-array-share-prefix-line
 array-share-prefix-line c =
     let l = c .before in
-    omega (arith, writes-within (omega arith) (l .put-line .ensures), l .put-line .kept .0)
+    omega (arith, size l, room l)
 
 slice-aggregate-leave-text : tie.Need-slice-aggregate-leave-text
 slice-aggregate-leave-text c =

@@ -16,7 +16,7 @@ use borrow.Author.Needs.{needs}
 use Rattle.firmware.proofs.lone.rejoin_refusal.Statement.{statement}
 use Rattle.firmware.proofs.lone.rejoin_refusal.Tie as tie
 
--- the tree and the state stand
+-- the tree and the state are valid
 valid : (e : tie.Else1) → let a = e .before .before .args in
     validityRefusal (a .t) (a .i) (a .c) ≡ 0
 valid e = sym (e .before .validity-refusal .ensures) ∙ e .if1 .left

@@ -5,7 +5,7 @@ use mathlib.Core.List.{List}
 use lib.ListN.{length}
 use borrow.Author.Tests.{eq-eqb, ne-eqb, not-true, not-false}
 use Rattle.column.specs.Packets.{goodEnds, write}
-use Rattle.firmware.specs.Calls.{filled, packetCall}
+use Rattle.firmware.specs.Calls.{filledMeant, packetCall}
 use borrow.Author.Needs.{needs}
 use Rattle.firmware.proofs.packet_block.leave_packet.Statement.{statement}
 use Rattle.firmware.proofs.packet_block.leave_packet.Tie as tie
@@ -17,7 +17,7 @@ returns : tie.Need-returns
 unfolding packetCall
 returns c =
     let a = c .before .before .before .args in
-    rw (ne-eqb (length (a .packet .now)) 15 (c .before .if1 .taken)) (ap (λ (r : ℕ). filled r (a .packet .now)) (c .refusal .ensures))
+    rw (ne-eqb (length (a .packet .now)) 15 (c .before .if1 .taken)) (ap (λ (r : ℕ). filledMeant r (a .packet .now)) (c .refusal .ensures))
 
 good-ends-requires : tie.Need-good-ends-requires
 good-ends-requires c κs = search needs
@@ -32,7 +32,7 @@ returns-2 c =
     let e = g .before in
     let a = e .before .before .args in
     let bad : goodEnds (a .p) ≡ false = sym (g .good-ends .ensures) ∙ not-true _ (c .before .if2 .taken) in
-    rw (eq-eqb (length (a .packet .now)) 15 (e .if1 .left), bad) (ap (λ (r : ℕ). filled r (a .packet .now)) (c .refusal2 .ensures))
+    rw (eq-eqb (length (a .packet .now)) 15 (e .if1 .left), bad) (ap (λ (r : ℕ). filledMeant r (a .packet .now)) (c .refusal2 .ensures))
 
 put-packet-requires : tie.Need-put-packet-requires
 put-packet-requires c κs = search needs
@@ -49,7 +49,7 @@ returns-3 c =
     let e = g .before in
     let a = e .before .before .args in
     let good : goodEnds (a .p) ≡ true = sym (g .good-ends .ensures) ∙ not-false _ (e2 .if2 .left) in
-    rw (eq-eqb (length (a .packet .now)) 15 (e .if1 .left), good) (ap₂ (λ (r : ℕ) (l : List ℕ). filled r l) (k .put-packet .ensures .0) (k .put-packet .ensures .1))
+    rw (eq-eqb (length (a .packet .now)) 15 (e .if1 .left), good) (ap₂ (λ (r : ℕ) (l : List ℕ). filledMeant r l) (k .put-packet .ensures .0) (k .put-packet .ensures .1))
 
 pub leave-packet-spec : {M : Type 1} → statement M
 leave-packet-spec =

@@ -3,7 +3,7 @@ use mathlib.Core.Path.{_≡_, sym, ap, _∙_}
 use mathlib.Core.List.{List}
 use lib.ListN.{length}
 use borrow.Author.Tests.{eq-eqb, ne-eqb}
-use Rattle.firmware.specs.Calls.{filled, packetCall}
+use Rattle.firmware.specs.Calls.{filledMeant, packetCall}
 use borrow.Author.Needs.{needs}
 use Rattle.firmware.proofs.packet_block.leave_written.Statement.{statement}
 use Rattle.firmware.proofs.packet_block.leave_written.Tie as tie
@@ -15,7 +15,7 @@ returns : tie.Need-returns
 unfolding packetCall
 returns c =
     let a = c .before .before .before .args in
-    rw (ne-eqb (length (a .packet .now)) 15 (c .before .if1 .taken)) (ap (λ (r : ℕ). filled r (a .packet .now)) (c .refusal .ensures))
+    rw (ne-eqb (length (a .packet .now)) 15 (c .before .if1 .taken)) (ap (λ (r : ℕ). filledMeant r (a .packet .now)) (c .refusal .ensures))
 
 enum-known-size : tie.Need-enum-known-size
 enum-known-size c = search needs
@@ -41,7 +41,7 @@ returns-2 c =
     let m = c .before .before in
     let e = m .before .before .before in
     let a = e .before .before .args in
-    rw (eq-eqb (length (a .packet .now)) 15 (e .if1 .left), m .size .given .1) (ap (λ (r : ℕ). filled r (a .packet .now)) (c .refusal2 .ensures))
+    rw (eq-eqb (length (a .packet .now)) 15 (e .if1 .left), m .size .given .1) (ap (λ (r : ℕ). filledMeant r (a .packet .now)) (c .refusal2 .ensures))
 
 same-length : tie.Need-same-length
 same-length c = search needs
@@ -53,7 +53,7 @@ returns-3 c =
     let m = k .before .before .before .before in
     let e = m .before .before .before in
     rw (eq-eqb (length (e .before .before .args .packet .now)) 15 (e .if1 .left), m .size2 .given .1)
-    (ap (λ (l : List ℕ). filled (m .size2 .given .0 .0) l) (k .fill .ensures))
+    (ap (λ (l : List ℕ). filledMeant (m .size2 .given .0 .0) l) (k .fill .ensures))
 
 pub leave-written-spec : {M : Type 1} → statement M
 leave-written-spec =

@@ -6,7 +6,7 @@ use native.Mathlib.Omega.{arith}
 use Rattle.column.specs.Packets.{lowValue, write}
 use Rattle.column.specs.laws.NumberLaws.{word-is}
 use Rattle.column.specs.declared.packet.Packet.the-variants.{Message}
-use Rattle.firmware.specs.Calls.{filled, packetCall, doorsCall}
+use Rattle.firmware.specs.Calls.{filledMeant, packetCall, doorsCall}
 use borrow.Author.Needs.{needs}
 use Rattle.firmware.proofs.packets.mudasgup_raw_message.Statement.{statement}
 use Rattle.firmware.proofs.packets.mudasgup_raw_message.Tie as tie
@@ -18,7 +18,7 @@ returns : tie.Need-returns
 unfolding doorsCall
 returns c =
     let s = c .before .before .before .before in
-    rw (ne-eqb (length (s .args .doors .now)) 8 (c .before .if1 .taken)) (ap (λ (r : ℕ). filled r (s .args .packet .now)) (c .refusal .ensures))
+    rw (ne-eqb (length (s .args .doors .now)) 8 (c .before .if1 .taken)) (ap (λ (r : ℕ). filledMeant r (s .args .packet .now)) (c .refusal .ensures))
 
 low-value-requires : tie.Need-low-value-requires
 low-value-requires c κs = search needs

@@ -9,7 +9,7 @@ use Rattle.column.specs.Refusals.{given, refused}
 use Rattle.column.specs.Packets.{Part, part, wide, read}
 use Rattle.column.specs.laws.PacketLaws.{read-sized}
 use Rattle.column.specs.laws.NumberLaws.{Bytes}
-use Rattle.firmware.specs.Calls.{filled, packetCall}
+use Rattle.firmware.specs.Calls.{filledMeant, packetCall}
 use Rattle.firmware.specs.laws.FillLaws.{begun, more, all-filled}
 use Rattle.firmware.specs.laws.PacketCopies.{copied-message, short-used, copied-acknowledgement}
 use borrow.Author.Needs.{needs}
@@ -50,7 +50,7 @@ returns : tie.Need-returns
 unfolding packetCall
 returns c =
     let a = c .before .before .before .before .args in
-    rw (ne-eqb (length (a .packet .now)) 15 (c .before .if1 .taken)) (ap (λ (r : ℕ). filled r (a .packet .now)) (c .refusal .ensures))
+    rw (ne-eqb (length (a .packet .now)) 15 (c .before .if1 .taken)) (ap (λ (r : ℕ). filledMeant r (a .packet .now)) (c .refusal .ensures))
 
 read-requires : tie.Need-read-requires
 read-requires c κs = search needs
@@ -88,7 +88,7 @@ returns-2 c =
     let t = f .before .before .before in
     let m = t .before .before in
     rw (eq-eqb (length (start m .args .packet .now)) 15 (size m))
-    (ap (λ (l : List ℕ). filled 15 l) (f .fill .ensures) ∙ sym (copied-message (s m) (bytes m) (found m) (is m) (start m .args .packet .now) (t .if2 .taken)))
+    (ap (λ (l : List ℕ). filledMeant 15 l) (f .fill .ensures) ∙ sym (copied-message (s m) (bytes m) (found m) (is m) (start m .args .packet .now) (t .if2 .taken)))
 
 sub-put-bytes : tie.Need-sub-put-bytes
 sub-put-bytes c = search needs
@@ -119,7 +119,7 @@ returns-3 c =
     let e = r .before in
     let a = e .before .before .before .args in
     let none : refused (m .n .given .0 .0) ≡ read (a .bytes .now) = rw (m .n .given .1) at (r .read .ensures) in
-    rw (eq-eqb (length (a .packet .now)) 15 (e .if1 .left), ← none) (ap (λ (r : ℕ). filled r (a .packet .now)) (c .refusal2 .ensures))
+    rw (eq-eqb (length (a .packet .now)) 15 (e .if1 .left), ← none) (ap (λ (r : ℕ). filledMeant r (a .packet .now)) (c .refusal2 .ensures))
 
 same-length-2 : tie.Need-same-length-2
 same-length-2 c = search needs
@@ -135,7 +135,7 @@ returns-4 c =
     let first = more (take 7 (s m)) 7 (begun old) (h .put-bytes .ensures) (length-take-le 7 (s m) (omega (arith, among m, short e))) in
     let all = all-filled (more (replicate 8 0) 8 first (d .put-bytes2 .ensures) refl) (size m) in
     rw (eq-eqb (length old) 15 (size m))
-    (ap (λ (l : List ℕ). filled 7 l) all ∙ sym (copied-acknowledgement (s m) (bytes m) (found m) (is m) old (short e)))
+    (ap (λ (l : List ℕ). filledMeant 7 l) all ∙ sym (copied-acknowledgement (s m) (bytes m) (found m) (is m) old (short e)))
 
 pub mudasgup-raw-packet-read-spec : {M : Type 1} → statement M
 mudasgup-raw-packet-read-spec =

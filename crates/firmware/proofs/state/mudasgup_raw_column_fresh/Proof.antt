@@ -11,7 +11,7 @@ use Rattle.column.specs.Refusals.{given, refused}
 use Rattle.column.specs.Columns.{freshGiven}
 use Rattle.column.specs.declared.tree.Tree.{Tree}
 use Rattle.firmware.specs.Blocks.{isTree, treeIn}
-use Rattle.firmware.specs.Calls.{filled, freshCall}
+use Rattle.firmware.specs.Calls.{filledMeant, freshCall}
 use Rattle.firmware.specs.laws.CallLaws.{tree-size, fresh-column}
 use borrow.Author.Needs.{needs}
 use Rattle.firmware.proofs.state.mudasgup_raw_column_fresh.Statement.{statement}
@@ -52,7 +52,7 @@ returns c =
     let a = i .before .before .before .args in
     let size = eqb (length (a .column .now)) 25 in
     let bad : (isTree (a .tree .now) && size) ≡ false = ap (λ (b : Bool). b && size) (sym (i .is-tree .ensures)) ∙ not-true _ (c .before .if1 .taken) in
-    rw bad (ap (λ (r : ℕ). filled r (a .column .now)) (c .refusal .ensures))
+    rw bad (ap (λ (r : ℕ). filledMeant r (a .column .now)) (c .refusal .ensures))
 
 tree-in-requires : tie.Need-tree-in-requires
 tree-in-requires c κs = tree-size (start c .args .tree .now) (and-left (isTree (start c .args .tree .now)) (size c) (both c))
@@ -87,7 +87,7 @@ returns-2 c =
     let a = start e .args in
     let is : refused (m .n .given .0 .0) ≡ freshGiven (treeIn (a .tree .now)) (a .i) =
     rw (m .n .given .1) at (f .fresh .ensures) ∙ ap (λ (x : Tree). freshGiven x (a .i)) (f .before .tree-in .ensures) in
-    rw (both e, ← is) (ap (λ (r : ℕ). filled r (a .column .now)) (c .refusal2 .ensures))
+    rw (both e, ← is) (ap (λ (r : ℕ). filledMeant r (a .column .now)) (c .refusal2 .ensures))
 
 same-length : tie.Need-same-length
 same-length c = search needs
@@ -98,7 +98,7 @@ returns-3 c =
     let p = c .before .before in
     let m = p .before .before .before in
     let e = m .before .before .before .before in
-    rw (both e, ← found m) (ap (λ (l : List ℕ). filled 0 l) (p .put-column .ensures))
+    rw (both e, ← found m) (ap (λ (l : List ℕ). filledMeant 0 l) (p .put-column .ensures))
 
 pub mudasgup-raw-column-fresh-spec : {M : Type 1} → statement M
 mudasgup-raw-column-fresh-spec =

@@ -36,19 +36,19 @@ module _ (d : tie.After-column-in) where
   abbrev x : Column
   x = columnIn (start .args .column .now)
 
-  outcomeMeant : {A : Type 0} (f : Tree → ℕ → Column → A) → f (d .before .before .tree-in .result) (d .before .own-in .result) (d .column-in .result) ≡ f t i x
-  outcomeMeant f =
+  of-blocks : {A : Type 0} (f : Tree → ℕ → Column → A) → f (d .before .before .tree-in .result) (d .before .own-in .result) (d .column-in .result) ≡ f t i x
+  of-blocks f =
       ap₂ (λ (y : Tree) (k : ℕ). f y k (d .column-in .result)) (d .before .before .tree-in .ensures) (d .before .own-in .ensures)
       ∙ ap (λ (y : Column). f t i y) (d .column-in .ensures)
 
 valid : (s : tie.After-validity-refusal) → s .validity-refusal .result ≡ validityRefusal (t (s .before)) (i (s .before)) (x (s .before))
-valid s = s .validity-refusal .ensures ∙ outcomeMeant (s .before) (λ y k z. validityRefusal y k z)
+valid s = s .validity-refusal .ensures ∙ of-blocks (s .before) (λ y k z. validityRefusal y k z)
 
 resting : (r : tie.After-own-rests) → let d = r .before .before .before in r .own-rests .result ≡ rests (t d) (i d) (x d)
 resting r =
     let s = r .before .before in
     let d = s .before in
-    r .own-rests .ensures ∙ outcomeMeant d (λ y k z. ownRests y k z) ∙ sym (rests-by (t d) (i d) (x d) (sym (valid s) ∙ r .before .if2 .left))
+    r .own-rests .ensures ∙ of-blocks d (λ y k z. ownRests y k z) ∙ sym (rests-by (t d) (i d) (x d) (sym (valid s) ∙ r .before .if2 .left))
 
 are-blocks-requires : tie.Need-are-blocks-requires
 are-blocks-requires c κs = search needs

@@ -8,7 +8,7 @@ use Rattle.column.specs.declared.state.Column.{Column}
 use Rattle.list.specs.Closing.{Listed, listed, loneList}
 use Rattle.list.specs.declared.list.Listing.{Listing}
 use Rattle.firmware.specs.Blocks.{treeIn, ownIn, columnIn, areBlocks}
-use Rattle.firmware.specs.Calls.{filled, listLeft, listCall}
+use Rattle.firmware.specs.Calls.{filledMeant, listLeft, listCall}
 use Rattle.firmware.specs.laws.CallLaws.{Blocks, blocks}
 use Rattle.firmware.proofs.state.mudasgup_raw_list.Statement.{statement}
 use Rattle.firmware.proofs.state.mudasgup_raw_list.Tie as tie
@@ -48,7 +48,7 @@ returns c =
     let b = c .before .before in
     let a = b .before .before .before .before .args in
     let other : areBlocks (a .tree .now) (a .column .now) ≡ false = sym (b .are-blocks .ensures) ∙ not-true _ (c .before .if1 .taken) in
-    rw other (ap (λ (r : ℕ). filled r (a .buffer .now)) (c .refusal .ensures))
+    rw other (ap (λ (r : ℕ). filledMeant r (a .buffer .now)) (c .refusal .ensures))
 
 own-in-requires : tie.Need-own-in-requires
 own-in-requires c κs = fit c .column-size
@@ -83,7 +83,7 @@ returns-2 c =
     let m = c .before .before in
     let l = m .before .before .before .before in
     rw (fit (l .before .before .before .before .before) .tested)
-    (ap (λ (r : ℕ). filled r (l .lone-list .last .1 .1 .1 .0)) (c .refusal2 .ensures)
+    (ap (λ (r : ℕ). filledMeant r (l .lone-list .last .1 .1 .1 .0)) (c .refusal2 .ensures)
     ∙ sym (ap (λ (x : Listing). listLeft (listed x (l .lone-list .last .1 .1 .1 .0))) (m .n .given .1)) ∙ ap (λ (x : Listed). listLeft x) (left l))
 
 same-length-2 : tie.Need-same-length-2

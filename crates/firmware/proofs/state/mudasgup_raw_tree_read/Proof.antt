@@ -6,7 +6,7 @@ use borrow.Author.Tests.{eq-eqb, ne-eqb}
 use borrow.Author.Needs.{needs}
 use Rattle.bank.specs.Steps.{accepted, refused}
 use Rattle.table.specs.Tables.{placedAt, readTable}
-use Rattle.firmware.specs.Calls.{filled, tableCall}
+use Rattle.firmware.specs.Calls.{filledMeant, tableCall}
 use Rattle.firmware.proofs.state.mudasgup_raw_tree_read.Statement.{statement}
 use Rattle.firmware.proofs.state.mudasgup_raw_tree_read.Tie as tie
 
@@ -17,7 +17,7 @@ returns : tie.Need-returns
 unfolding tableCall
 returns c =
     let a = c .before .before .before .before .args in
-    rw (ne-eqb (length (a .tree .now)) 35 (c .before .if1 .taken)) (ap (λ (r : ℕ). filled r (a .tree .now)) (c .refusal .ensures))
+    rw (ne-eqb (length (a .tree .now)) 35 (c .before .if1 .taken)) (ap (λ (r : ℕ). filledMeant r (a .tree .now)) (c .refusal .ensures))
 
 read-table-requires : tie.Need-read-table-requires
 read-table-requires c κs = search needs
@@ -43,7 +43,7 @@ returns-2 c =
     let a = e .before .before .before .args in
     let t = r .read-table .result in
     let is : refused (m .answer .given .0 .0) (placedAt (t .tree) (t .end)) ≡ readTable (a .text .now) = rw (m .answer .given .1) at (r .read-table .ensures) in
-    rw (eq-eqb (length (a .tree .now)) 35 (e .if1 .left), ← is) (ap (λ (k : ℕ). filled k (a .tree .now)) (c .refusal2 .ensures))
+    rw (eq-eqb (length (a .tree .now)) 35 (e .if1 .left), ← is) (ap (λ (k : ℕ). filledMeant k (a .tree .now)) (c .refusal2 .ensures))
 
 same-length : tie.Need-same-length
 same-length c = search needs
@@ -58,7 +58,7 @@ returns-3 c =
     let a = e .before .before .before .args in
     let t = r .read-table .result in
     let is : accepted (placedAt (t .tree) (t .end)) ≡ readTable (a .text .now) = rw (m .enum-told .given .1) at (r .read-table .ensures) in
-    rw (eq-eqb (length (a .tree .now)) 35 (e .if1 .left), ← is) (ap (λ (l : List ℕ). filled (t .end) l) (p .put-tree .ensures))
+    rw (eq-eqb (length (a .tree .now)) 35 (e .if1 .left), ← is) (ap (λ (l : List ℕ). filledMeant (t .end) l) (p .put-tree .ensures))
 
 pub mudasgup-raw-tree-read-spec : {M : Type 1} → statement M
 mudasgup-raw-tree-read-spec =

@@ -7,7 +7,7 @@ use Rattle.column.specs.laws.PacketLaws.{length-bytes}
 use lib.ListN.{length}
 use Rattle.column.specs.declared.packet.Packet.{Packet}
 use Rattle.firmware.specs.Blocks.{columnBytes}
-use Rattle.firmware.specs.Calls.{called}
+use Rattle.firmware.specs.Calls.{calledMeant}
 use borrow.Author.Needs.{needs}
 use Rattle.firmware.proofs.steps.leave.Statement.{statement}
 use Rattle.firmware.proofs.steps.leave.Tie as tie
@@ -62,7 +62,7 @@ returns : tie.Need-returns
 returns c =
     let m = c .before .before in
     let a = m .before .before .before .before .before .args in
-    rw (m .answer .given .1) (ap (λ (r : ℕ). called r (a .column .now) (a .put .now)) (c .refusal .ensures))
+    rw (m .answer .given .1) (ap (λ (r : ℕ). calledMeant r (a .column .now) (a .put .now)) (c .refusal .ensures))
 
 same-length : tie.Need-same-length
 same-length c = search needs
@@ -79,8 +79,8 @@ returns-2 c =
     let p = m .answer2 .given .0 .0 in
     let size : k .put-packet .result ≡ length (bytesOf p) + 0 = k .put-packet .ensures .0 ∙ omega arith in
     rw (m .answer2 .given .1)
-    (ap₂ (λ (x y : List ℕ). called (k .put-packet .result) x y) (g .put-column .ensures) (k .put-packet .ensures .1)
-    ∙ ap (λ (r : ℕ). called r (columnBytes (a .own) (a .o .column)) (padded (bytesOf p))) size)
+    (ap₂ (λ (x y : List ℕ). calledMeant (k .put-packet .result) x y) (g .put-column .ensures) (k .put-packet .ensures .1)
+    ∙ ap (λ (r : ℕ). calledMeant r (columnBytes (a .own) (a .o .column)) (padded (bytesOf p))) size)
 
 same-length-3 : tie.Need-same-length-3
 same-length-3 c = search needs
@@ -97,8 +97,8 @@ returns-3 c =
     let p = m .answer3 .given .0 .0 in
     let size : 100 + k .put-packet2 .result ≡ length (bytesOf p) + 100 = omega (arith, k .put-packet2 .ensures .0) in
     rw (m .answer3 .given .1)
-    (ap₂ (λ (x y : List ℕ). called (100 + k .put-packet2 .result) x y) (g .put-column2 .ensures) (k .put-packet2 .ensures .1)
-    ∙ ap (λ (r : ℕ). called r (columnBytes (a .own) (a .o .column)) (padded (bytesOf p))) size)
+    (ap₂ (λ (x y : List ℕ). calledMeant (100 + k .put-packet2 .result) x y) (g .put-column2 .ensures) (k .put-packet2 .ensures .1)
+    ∙ ap (λ (r : ℕ). calledMeant r (columnBytes (a .own) (a .o .column)) (padded (bytesOf p))) size)
 
 same-length-5 : tie.Need-same-length-5
 same-length-5 c = search needs
@@ -110,7 +110,7 @@ returns-4 : tie.Need-returns-4
 returns-4 c =
     let k = c .before .before in
     let g = k .before .before .before .before .before in
-    rw (g .before .before .enum-told .given .1) (ap₂ (λ (x y : List ℕ). called 0 x y) (g .put-column3 .ensures) (k .fill .ensures))
+    rw (g .before .before .enum-told .given .1) (ap₂ (λ (x y : List ℕ). calledMeant 0 x y) (g .put-column3 .ensures) (k .fill .ensures))
 
 pub leave-spec : {M : Type 1} → statement M
 leave-spec =

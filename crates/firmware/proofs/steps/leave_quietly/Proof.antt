@@ -1,7 +1,7 @@
 use Prim.Native.Nat.{ℕ}
 use mathlib.Core.Path.{ap}
 use mathlib.Core.List.{List}
-use Rattle.firmware.specs.Calls.{filled}
+use Rattle.firmware.specs.Calls.{filledMeant}
 use borrow.Author.Needs.{needs}
 use Rattle.firmware.proofs.steps.leave_quietly.Statement.{statement}
 use Rattle.firmware.proofs.steps.leave_quietly.Tie as tie
@@ -34,7 +34,7 @@ returns : tie.Need-returns
 returns c =
     let m = c .before .before in
     let a = m .before .before .before .before .args in
-    rw (m .answer .given .1) (ap (λ (r : ℕ). filled r (a .column .now)) (c .refusal .ensures))
+    rw (m .answer .given .1) (ap (λ (r : ℕ). filledMeant r (a .column .now)) (c .refusal .ensures))
 
 same-length : tie.Need-same-length
 same-length c = search needs
@@ -42,7 +42,7 @@ same-length c = search needs
 returns-2 : tie.Need-returns-2
 returns-2 c =
     let k = c .before .before in
-    rw (k .before .before .enum-told .given .1) (ap (λ (l : List ℕ). filled 0 l) (k .put-column .ensures))
+    rw (k .before .before .enum-told .given .1) (ap (λ (l : List ℕ). filledMeant 0 l) (k .put-column .ensures))
 
 same-length-2 : tie.Need-same-length-2
 same-length-2 c = search needs
@@ -50,7 +50,7 @@ same-length-2 c = search needs
 returns-3 : tie.Need-returns-3
 returns-3 c =
     let k = c .before .before in
-    rw (k .before .before .enum-told2 .given .1) (ap (λ (l : List ℕ). filled 0 l) (k .put-column2 .ensures))
+    rw (k .before .before .enum-told2 .given .1) (ap (λ (l : List ℕ). filledMeant 0 l) (k .put-column2 .ensures))
 
 same-length-3 : tie.Need-same-length-3
 same-length-3 c = search needs
@@ -58,7 +58,7 @@ same-length-3 c = search needs
 returns-4 : tie.Need-returns-4
 returns-4 c =
     let k = c .before .before in
-    rw (k .before .before .enum-told3 .given .1) (ap (λ (l : List ℕ). filled 0 l) (k .put-column3 .ensures))
+    rw (k .before .before .enum-told3 .given .1) (ap (λ (l : List ℕ). filledMeant 0 l) (k .put-column3 .ensures))
 
 pub leave-quietly-spec : {M : Type 1} → statement M
 leave-quietly-spec =

@@ -6,7 +6,7 @@ use borrow.Author.Tests.{eq-eqb, ne-eqb}
 use Rattle.column.specs.Packets.{lowValue}
 use Rattle.column.specs.laws.NumberLaws.{word-is}
 use Rattle.firmware.specs.declared.lone.QuietStep.the-variants.{Rejoin}
-use Rattle.firmware.specs.Calls.{filled, quietCall, doorsOver}
+use Rattle.firmware.specs.Calls.{filledMeant, quietCall, doorsOver}
 use Rattle.firmware.specs.inner.StepCalls.{quietOf}
 use borrow.Author.Needs.{needs}
 use Rattle.firmware.proofs.steps.mudasgup_raw_rejoin.Statement.{statement}
@@ -19,7 +19,7 @@ returns : tie.Need-returns
 unfolding doorsOver
 returns c =
     let s = c .before .before .before .before .before in
-    rw (ne-eqb (length (s .args .doors .now)) 8 (c .before .if1 .taken)) (ap (λ (r : ℕ). filled r (s .args .column .now)) (c .refusal .ensures))
+    rw (ne-eqb (length (s .args .doors .now)) 8 (c .before .if1 .taken)) (ap (λ (r : ℕ). filledMeant r (s .args .column .now)) (c .refusal .ensures))
 
 low-value-requires : tie.Need-low-value-requires
 low-value-requires c κs = search needs

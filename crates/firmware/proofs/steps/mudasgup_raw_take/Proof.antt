@@ -3,7 +3,7 @@ use mathlib.Core.Path.{_≡_, sym, ap, _∙_}
 use borrow.Author.Tests.{not-true, not-false}
 use Rattle.column.specs.Refusals.{given, refused}
 use Rattle.column.specs.Packets.{part, read}
-use Rattle.firmware.specs.Calls.{called}
+use Rattle.firmware.specs.Calls.{calledMeant}
 use Rattle.firmware.specs.laws.CallLaws.{take-unfit, take-none, take-one}
 use borrow.Author.Needs.{needs}
 use Rattle.firmware.proofs.steps.mudasgup_raw_take.Statement.{statement}
@@ -22,7 +22,7 @@ returns : tie.Need-returns
 returns c =
     let e = c .before .before in
     let a = e .before .before .before .before .before .before .args in
-    ap (λ (r : ℕ). called r (a .column .now) (a .put .now)) (c .refusal .ensures)
+    ap (λ (r : ℕ). calledMeant r (a .column .now) (a .put .now)) (c .refusal .ensures)
     ∙ take-unfit (a .tree .now) (a .column .now) (a .put .now) (a .packet .now) (sym (e .step-blocks .ensures) ∙ not-true _ (c .before .if1 .taken))
 
 read-requires : tie.Need-read-requires
@@ -51,7 +51,7 @@ returns-2 c =
     let a = e .before .before .before .before .before .before .before .args in
     let n = m .n .given .0 .0 in
     let is : refused n ≡ read (a .packet .now) = rw (m .n .given .1) at (r .read .ensures) in
-    ap (λ (k : ℕ). called k (a .column .now) (a .put .now)) (c .refusal2 .ensures)
+    ap (λ (k : ℕ). calledMeant k (a .column .now) (a .put .now)) (c .refusal2 .ensures)
     ∙ take-none (a .tree .now) (a .column .now) (a .put .now) (a .packet .now) n (sym (e .before .step-blocks .ensures) ∙ not-false _ (e .if1 .left)) is
 
 same-length-3 : tie.Need-same-length-3

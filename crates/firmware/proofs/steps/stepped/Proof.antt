@@ -1,7 +1,7 @@
 use Prim.Native.Nat.{ℕ}
 use mathlib.Core.Path.{sym, ap, _∙_}
 use borrow.Author.Tests.{not-true, not-false}
-use Rattle.firmware.specs.Calls.{called}
+use Rattle.firmware.specs.Calls.{calledMeant}
 use Rattle.firmware.specs.inner.StepCalls.{puttingOf}
 use Rattle.firmware.specs.laws.CallLaws.{StepBlocks, step-blocks, step-unfit, step-fit}
 use borrow.Author.Needs.{needs}
@@ -28,7 +28,7 @@ returns c =
     let e = c .before .before in
     let s = e .before .before .before .before .before in
     let a = s .args in
-    ap (λ (r : ℕ). called r (a .column .now) (a .put .now)) (c .refusal .ensures)
+    ap (λ (r : ℕ). calledMeant r (a .column .now) (a .put .now)) (c .refusal .ensures)
     ∙ step-unfit (a .tree .now) (a .column .now) (a .put .now) (puttingOf (a .x)) (sym (e .step-blocks .ensures) ∙ not-true _ (c .before .if1 .taken))
 
 own-in-requires : tie.Need-own-in-requires

@@ -1,7 +1,7 @@
 use Prim.Native.Nat.{ℕ}
 use mathlib.Core.Path.{sym, ap, _∙_}
 use borrow.Author.Tests.{not-true, not-false}
-use Rattle.firmware.specs.Calls.{filled}
+use Rattle.firmware.specs.Calls.{filledMeant}
 use Rattle.firmware.specs.inner.StepCalls.{quietOf}
 use Rattle.firmware.specs.laws.CallLaws.{Blocks, blocks, quiet-unfit, quiet-fit}
 use borrow.Author.Needs.{needs}
@@ -27,7 +27,7 @@ returns : tie.Need-returns
 returns c =
     let e = c .before .before in
     let a = e .before .before .before .before .args in
-    ap (λ (r : ℕ). filled r (a .column .now)) (c .refusal .ensures)
+    ap (λ (r : ℕ). filledMeant r (a .column .now)) (c .refusal .ensures)
     ∙ quiet-unfit (a .tree .now) (a .column .now) (quietOf (a .x)) (sym (e .are-blocks .ensures) ∙ not-true _ (c .before .if1 .taken))
 
 own-in-requires : tie.Need-own-in-requires
