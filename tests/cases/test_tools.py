@@ -1,5 +1,7 @@
 """How tools, the benchmark and the runners of tests are called: -h and --version answer, and a wrong call ends with a usage line and status 2."""
+import contextlib
 import glob
+import io
 import os
 import shutil
 import subprocess
@@ -95,8 +97,9 @@ class PointTimes(unittest.TestCase):
         with tempfile.TemporaryDirectory() as folder:
             path, measured = os.path.join(folder, "times.json"), []
             one = {"seconds": 61, "processor": 100, "said": "rt: ok", "load": 0.5}
-            with unittest.mock.patch.multiple(point_times, sources=lambda commit: commit[0], proved=lambda commit: measured.append(commit) or one):
+            with contextlib.redirect_stderr(io.StringIO()) as said, unittest.mock.patch.multiple(point_times, sources=lambda commit: commit[0], proved=lambda commit: measured.append(commit) or one):
                 for _ in range(2):
                     self.assertEqual(point_times.measured(["a1", "a2", "b1"], path), {"a1": one, "a2": one, "b1": one})
             self.assertEqual(measured, ["a1", "b1"])
+            self.assertEqual(said.getvalue(), "rt prove at a1\nrt prove at b1\n")
         self.assertEqual(point_times.cell(one), "1 min 01 s (1 min 40 s)")
