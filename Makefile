@@ -1,4 +1,5 @@
-# The C library: `make` builds target/libmudasgup.a, which needs `rt`, the command of the Rattle kit.
+# The C library: `make` proves and builds target/libmudasgup.a, which needs `rt`, the command of the Rattle kit, and says which crate is at work.
+#   make help                 these lines
 #   make check                the tests of the library
 #   make install PREFIX=DIR   header, archive and pkg-config file, under /usr/local without PREFIX
 #   make dist                 target/mudasgup-VERSION.tar.gz, which unpacked is such a DIR, with the examples
@@ -22,7 +23,7 @@ target/libmudasgup.a: $(BUILT)
 	cp $(BUILT) $@
 
 $(BUILT): $(SOURCES)
-	rt staticlib firmware
+	@tools/build.sh staticlib firmware 'five to six minutes'
 
 target/machines/%/libmudasgup.a: $(BUILT)
 	tools/targets $*
@@ -46,4 +47,7 @@ dist: $(LIBRARY)
 	install -m 644 $(BARE) $(DIST)/examples/bare
 	tar -C target -czf $(DIST).tar.gz $(notdir $(DIST))
 
-.PHONY: all check install dist
+help:
+	@sed -n 's/^# *//p;/^$$/q' Makefile
+
+.PHONY: all check install dist help

@@ -15,6 +15,7 @@ import time
 import unittest
 
 from helpers import TESTS, refusals
+from repository import parser
 
 # These take longest, so that they begin first.
 LONGEST = ["test_random", "test_firmware", "test_plain", "test_journals"]
@@ -60,4 +61,10 @@ def main(asked):
 
 
 if __name__ == "__main__":
-    sys.exit(main(sys.argv[1:]))
+    words = parser(__doc__)
+    words.add_argument("names", metavar="NAME", nargs="*", help="a file of tests/cases without its ending")
+    asked = words.parse_args().names
+    unknown = [name for name in asked if name not in names()]
+    if unknown:
+        words.error(f"tests/cases has no {unknown[0]}.py")
+    sys.exit(main(asked))

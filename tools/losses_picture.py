@@ -1,13 +1,15 @@
 #!/usr/bin/env python3
 """How many halts lose an order, for every step count up to rest: prints kept, lost and none of each table, and draws them.
 
-    tools/losses_picture.py PICTURE.svg NAME=TABLE...     TABLE is a file with a table, without `after=`
-    tools/losses_picture.py PICTURE.svg                   a chain, a bush and a fastest tree of 8 columns
+    tools/losses_picture.py docs/losses.svg                a chain, a bush and a fastest tree of 8 columns
+    tools/losses_picture.py mine.svg NAME=TABLE...         TABLE is a file with a table, without `after=`
 
-Needs a build: ./losses and ./lockers."""
+It asks ./losses and ./lockers, which build themselves where they must."""
+import argparse
 import html
 import sys
 
+from repository import parser
 from tree_losses import TREES, counts, table, to_rest
 
 WIDTH, HEIGHT, LEFT, TOP, GAP = 720, 190, 64, 54, 74
@@ -77,16 +79,28 @@ def picture(panels):
             f'<rect width="{WIDTH}" height="{height}" fill="#ffffff"/>\n{body}\n</svg>\n')
 
 
+def named_table(word):
+    """The name and the table of a word NAME=TABLE."""
+    name, sign, path = word.partition("=")
+    if not sign:
+        raise argparse.ArgumentTypeError(f"{word} is not NAME=TABLE")
+    try:
+        with open(path, encoding="ascii") as file:
+            return name, file.read()
+    except (OSError, UnicodeDecodeError) as error:
+        raise argparse.ArgumentTypeError(f"cannot read {path}: {error}") from None
+
+
 def main():
-    if len(sys.argv) < 2:
-        sys.exit(__doc__)
-    tables = [(name, table(up)) for name, up in TREES]
-    if len(sys.argv) > 2:
-        tables = [(name, open(path, encoding="ascii").read()) for name, _, path in (word.partition("=") for word in sys.argv[2:])]
+    words = parser(__doc__)
+    words.add_argument("picture", metavar="PICTURE", help="the SVG file to write")
+    words.add_argument("tables", metavar="NAME=TABLE", nargs="*", type=named_table, help="a table with the name that its part of the picture has")
+    asked = words.parse_args()
+    tables = asked.tables or [(name, table(up)) for name, up in TREES]
     panels = [(name, rows(given)) for name, given in tables]
     for name, found in panels:
         printed(name, found)
-    with open(sys.argv[1], "w", encoding="utf8") as file:
+    with open(asked.picture, "w", encoding="utf8") as file:
         file.write(picture(panels))
 
 

@@ -1,12 +1,13 @@
 #!/usr/bin/env python3
 """What has to be believed, claim by claim: the definitions that public contracts and statements rest on, by file and lines, as rows of a table.
-What names what is read from the `use` lines: a name stands for the declaration that is imported under it, or for the file's own."""
+What names what is read from the `use` lines: a name means the declaration that is imported under it, or for the file's own."""
 import glob
 import itertools
 import os
 import re
 
-ROOT = os.path.dirname(os.path.dirname(os.path.abspath(__file__)))
+from repository import ROOT, parser, read
+
 FOLDERS = ("inner", "laws", "examples")
 WORD = re.compile(r"\[\]|[^\s(){}\[\];,.⌜⌝λ\"]+")
 CITED = re.compile(r"Rattle·(\w+)(?:·\w+)?\.specs\.(?!declared)(\S+?)(?:\.\{([^}]*)\})?(?: as (\S+))?$")
@@ -29,11 +30,6 @@ OTHERS = {
     "bank/Rest": ["*"], "bank/Apart": ["*"], "figure/Comparison": ["*"], "column/Trees": ["IsTree"], "column/Packets": ["occupied"],
     "column/Frames": ["joined"], "firmware/Blocks": ["treeBytes"],
 }
-
-
-def read(*parts):
-    with open(os.path.join(ROOT, *parts), encoding="utf8") as file:
-        return file.read()
 
 
 def words(lines):
@@ -209,4 +205,5 @@ def table(specs):
 
 
 if __name__ == "__main__":
+    parser(__doc__).parse_args()
     print(f"{table(Specifications())}\n{totals(Specifications())}")

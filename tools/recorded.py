@@ -26,11 +26,13 @@ class Flight:
 
 
 class Moment:
-    """A step: its text, the program's answer, marks at columns, and after it which columns run, what number each holds, and whether the bank rests."""
+    """A step: its text, the program's answer, what it does in words and the column that acts, marks at columns, and after it which columns run, what number each holds, and
+    whether the bank rests."""
 
     def __init__(self, text, dispatched):
         self.text, self.dispatched = text, dispatched
         self.answer, self.marks = "", []
+        self.does, self.actor = "", None
         self.running, self.numbers, self.rests = [], [], False
 
     def close(self, bank):
@@ -56,6 +58,10 @@ class Bank(model.Bank):
 
     def mark(self, column, kind, words=""):
         self.moments[-1].marks.append((column, kind, words))
+        self.tell_does(column, words)
+
+    def tell_does(self, column, words):
+        self.moments[-1].actor, self.moments[-1].does = column, words
 
     def flight(self, packet):
         return next(flight for flight in self.flights if flight.packet is packet)
@@ -65,11 +71,15 @@ class Bank(model.Bank):
         super().put(packet)
         flight = Flight(packet, self.now())
         self.flights.append(flight)
+        if not self.moments[-1].does:
+            self.tell_does(flight.sender, f"{flight.kind} to {flight.to}")
         if len(self.network) == under_way:
             flight.stop("not put", self.now())
 
     def take(self, place):
         packet = self.network[place] if place < len(self.network) else None
+        if packet:
+            self.tell_does(packet[2], f"{packet[1]} to {packet[2]}: {packet[0]} {packet[3]}")
         super().take(place)
         flight = self.flight(packet)
         if any(kept is packet for kept in self.network):

@@ -1,5 +1,8 @@
-"""Where the repository stands, what its files hold, and its built programs; for tools, the benchmark and tests."""
+"""Where the repository is, what its files hold, its built programs, and how its tools are called; for tools, the benchmark and tests."""
+import argparse
 import os
+import re
+import sys
 
 ROOT = os.path.dirname(os.path.dirname(os.path.abspath(__file__)))
 
@@ -13,3 +16,15 @@ def read(*parts):
 def built(name):
     """The path of a crate's program."""
     return os.path.join(ROOT, "target", "bin", name)
+
+
+def version():
+    """That of the library and of all commands and tools."""
+    return re.search(r"^Version: (.*)$", read("mudasgup.pc"), re.M)[1]
+
+
+def parser(description):
+    """What reads the words of a tool: it answers -h and --version, and ends a wrong call with a usage line and status 2."""
+    made = argparse.ArgumentParser(prog=os.path.relpath(os.path.abspath(sys.argv[0]), ROOT), description=description, formatter_class=argparse.RawDescriptionHelpFormatter)
+    made.add_argument("--version", action="version", version=f"%(prog)s {version()}")
+    return made

@@ -1,12 +1,14 @@
 #!/usr/bin/env python3
 """The journals that the columns of a bank keep in the run of a script, after Point 11 of document 02, written beside the steps of the model:
 
-    tools/script_journals.py SCRIPT FOLDER      # the journal of each column I goes to FOLDER/I
-"""
+    tools/script_journals.py examples/strip-halted.script target/pulled
+
+The journal of each column I goes to FOLDER/I."""
 import os
 import sys
 
 import model
+from repository import parser
 
 KINDS = {"message": 1, "acknowledgement": 2}
 
@@ -51,13 +53,20 @@ def run(script):
 
 
 def main():
-    with open(sys.argv[1], "rb") as file:
-        bank = run(file.read())
+    words = parser(__doc__)
+    words.add_argument("script", metavar="SCRIPT", help="the file of a script whose table is accepted")
+    words.add_argument("folder", metavar="FOLDER", help="the folder of the journals, made where there is none")
+    asked = words.parse_args()
+    try:
+        with open(asked.script, "rb") as file:
+            bank = run(file.read())
+    except OSError as error:
+        sys.exit(f"cannot read {asked.script}: {error.strerror}")
     if bank is None:
         sys.exit("the table is refused: there are no journals")
-    os.makedirs(sys.argv[2], exist_ok=True)
+    os.makedirs(asked.folder, exist_ok=True)
     for i in range(len(bank.columns)):
-        with open(os.path.join(sys.argv[2], str(i)), "wb") as file:
+        with open(os.path.join(asked.folder, str(i)), "wb") as file:
             file.write(bank.journal(i))
 
 

@@ -10,7 +10,7 @@ gives a `Type` and whose own text has such a sign. So statements, which are such
 import re
 import unittest
 
-from reading_paths import FOLDERS, Specifications, believed, contracts, declarations, read, table, totals
+from reading_paths import FOLDERS, Specifications, believed, contracts, declarations, table, totals
 from repository import read
 
 SIGN = re.compile(r"(?<!\S)(≡|≤|<|↔|⊎|⊥)(?!\S)")

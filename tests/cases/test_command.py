@@ -74,8 +74,8 @@ class LossesRuns(Runs, Losses):
     def test_an_input_of_any_length_is_answered(self):
         self.assert_too_long((self.text.ljust(model.LIMIT, "\n"), self.text.ljust(model.LIMIT + 1, "\n"), self.text * 10_000), "refused=13\n")
 
-    def test_what_readme_shows_of_losses(self):
-        command, printed, _ = BLOCK.findall(section(read("README.md"), "How many halts lose the order"))
+    def test_what_the_document_shows_of_losses(self):
+        command, printed, _ = BLOCK.findall(section(read("docs", "COMMANDS.md"), "How many halts lose the order"))
         self.assert_answered(self.run_in_shell(command), printed)
 
 
@@ -102,8 +102,8 @@ class Journals(Command):
 
     def test_another_count_of_files_is_refused(self):
         self.build()
-        for words in ((), (self.file,), (self.file, self.other, self.other), ("--help", self.file, self.other)):
-            self.assert_failed(self.run_command(*words), "two journals are asked for")
+        for words in ((), (self.file,), (self.file, self.other, self.other)):
+            self.assert_misused(self.run_command(*words), "two journals are asked for")
 
     def test_a_file_that_cannot_be_read_is_told_before_a_build(self):
         self.stand_in()
@@ -134,25 +134,25 @@ class Journals(Command):
     def test_help_names_the_lines_and_where_to_read_more(self):
         self.helped("column=1", "sent=1,2,7", "got=2,2,7", "19 for", "20 where", "21 where")
 
-    def test_what_readme_shows_of_journals(self):
+    def test_what_the_document_shows_of_journals(self):
         self.build()
         os.makedirs(self.path("examples"))
         shutil.copytree(os.path.join(ROOT, "tools", "model"), self.path("tools", "model"))
-        for path in ("tools/script_journals.py", "examples/strip-halted.script"):
+        for path in ("tools/script_journals.py", "tools/repository.py", "mudasgup.pc", "examples/strip-halted.script"):
             shutil.copy(os.path.join(ROOT, path), self.path(path))
-        command, printed = BLOCK.findall(section(read("README.md"), "The journals of two columns"))
+        command, printed = BLOCK.findall(section(read("docs", "COMMANDS.md"), "The journals of two columns"))
         self.assert_answered(self.run_in_shell(command), printed)
 
 
 class Together(Command):
     """Both commands; the request's table goes from the one to the other."""
-    def test_what_readme_shows_of_the_fastest_tree(self):
+    def test_what_the_document_shows_of_the_fastest_tree(self):
         self.build()
         for path in ("fastest", "target/bin/fastest_main"):
             shutil.copy(os.path.join(ROOT, path), self.path(path))
         os.makedirs(self.path("crates", "fastest_main"))
         self.age(self.path("crates", "fastest_main"), 1000)
-        shown = BLOCK.findall(section(read("README.md"), "The fastest tree"))
+        shown = BLOCK.findall(section(read("docs", "COMMANDS.md"), "The fastest tree"))
         self.assertEqual(len(shown), 4)
         for command, printed in zip(shown[::2], shown[1::2]):
             self.assert_answered(self.run_in_shell(command), printed)

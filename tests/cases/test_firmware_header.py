@@ -16,7 +16,7 @@ WIDTH = 100
 # Calls to which a maker lends no block of another size or layout.
 UNBLOCKED = ("tree_read", "packet_read", "packet_message", "packet_acknowledgement", "packet_convert")
 RENAMED = {"message": "packet_message", "acknowledgement": "packet_acknowledgement"}
-# What a maker reads first: in the header before anything is declared, in README.md before anything is shown.
+# What a maker reads first: in the header before anything is declared, in docs/FIRMWARE.md before anything is shown.
 OWED = ("every packet once and whole, in any order", "only when it has stopped and will not go on", "whatever memory survived",
         "at rest; the root never", "one caller at a time", "not kept over a loss of power")
 BLOCKS = """#include <mudasgup.h>
@@ -99,13 +99,13 @@ class Header(unittest.TestCase):
     def test_what_is_owed_is_said_first(self):
         first = self.header.split("#ifndef")[0]
         self.assertLess(first.count("\n", 0, first.index("WHAT YOU OWE IT")), 4)
-        section = re.search(r"^## In a maker's firmware\n(.*?)^```", read("README.md"), re.M | re.S).group(1)
+        section = re.search(r"^## What the maker owes\n(.*?)^```", read("docs", "FIRMWARE.md"), re.M | re.S).group(1)
         for words in OWED:
             for text in (joined(first), joined(section)):
                 self.assertIn(words.replace(";", ""), text.replace(";", ""))
 
     def test_nothing_invites_to_keep_a_block(self):
-        for path in (("include", "mudasgup.h"), ("README.md",), ("docs", "DECISIONS.md"), ("docs", "PROOFS.md"), ("docs", "SPECIFICATION.md")):
+        for path in (("include", "mudasgup.h"), ("README.md",), ("docs", "FIRMWARE.md"), ("docs", "DECISIONS.md"), ("docs", "PROOFS.md"), ("docs", "SPECIFICATION.md")):
             self.assertNotIn("battery", read(*path), path)
 
     def test_its_lines_and_its_version(self):
@@ -144,10 +144,10 @@ class Packages(unittest.TestCase):
         self.assertEqual(done.returncode, 0, done.stdout + done.stderr)
 
     def orders(self, folder, prefix):
-        """The examples, built in a folder outside of the tree against a prefix, print what README.md shows."""
+        """The examples, built in a folder outside of the tree against a prefix, print what docs/FIRMWARE.md shows."""
         self.make("-C", folder, f"PREFIX={prefix}", "CFLAGS=-O2 -Wall -Wextra -Werror")
         printed = subprocess.run([os.path.join(folder, "order")], capture_output=True, text=True, check=True).stdout
-        self.assertIn(f"```\n{printed}```\n", read("README.md"))
+        self.assertIn(f"```\n{printed}```\n", read("docs", "FIRMWARE.md"))
         done = subprocess.run([os.path.join(folder, "bank"), "1", "2"], capture_output=True, text=True)
         self.assertEqual((done.returncode, done.stdout.count(" agree\n")), (0, 2), done.stdout)
 

@@ -68,18 +68,18 @@ class Uses(unittest.TestCase):
             self.assertTrue(self.compiles(right), name)
             self.assertFalse(self.compiles(wrong), name)
 
-    def test_the_readme_has_the_examples_and_what_they_print(self):
-        readme = read("README.md")
+    def test_the_document_has_the_examples_and_what_they_print(self):
+        document = read("docs", "FIRMWARE.md")
         source, loop = (read("examples", "firmware", name) for name in ("order.c", "column_loop.c"))
-        self.assertTrue(f"```c\n{source}```\n" in readme, "another example")
+        self.assertTrue(f"```c\n{source}```\n" in document, "another example")
         self.assertLessEqual(source.count("\n"), 25)
         self.assertLessEqual(loop.count("\n"), 60)
         heart = loop[loop.index("  while (board_wait())"):loop.rindex("}\n")]
-        self.assertTrue(f"```c\n{heart}```\n" in readme, "another loop")
+        self.assertTrue(f"```c\n{heart}```\n" in document, "another loop")
         for compiler in (("gcc", "-std=c99", "-pedantic"), ("g++", "-std=c++11", "-xc++")):
             program = firmware.compiled(self.folder.name, "order", "order.c", compiler=compiler)
             printed = subprocess.run([program], capture_output=True, text=True, check=True).stdout
-            self.assertTrue(f"```\n{printed}```\n" in readme, printed)
+            self.assertTrue(f"```\n{printed}```\n" in document, printed)
 
     def test_banks_of_real_processes_agree_and_their_columns_come_back(self):
         program = firmware.compiled(self.folder.name, "bank", *BANK)

@@ -119,7 +119,7 @@ class Repository(unittest.TestCase):
     def test_every_mutant_is_in_the_table_and_counted(self):
         table = read(os.path.join(ROOT, "tests", "mutants", "README.md")).split("\n## ")[0]
         self.assertEqual({edit.split("/")[1] for edit in mutants()} - set(re.findall(r"`(\w+)`", table)), set())
-        told = re.search(r"\| (\d+) refused, each for a fact", read(os.path.join(ROOT, "README.md")))
+        told = re.search(r"\| (\d+) refused, each for a fact", read(os.path.join(ROOT, "docs", "TESTS.md")))
         self.assertEqual(int(told.group(1)), len(mutants()))
 
     def test_every_mutant_fits_its_file_once(self):

@@ -11,13 +11,29 @@ import unittest
 from helpers.programs import failing
 from repository import ROOT, read
 
-TOOLS = ("bash", "cat", "cp", "date", "dirname", "find", "head", "mkdir", "mktemp", "python3", "readlink", "rm", "sed", "sleep", "tee", "touch")
+TOOLS = ("awk", "bash", "cat", "cp", "date", "dirname", "find", "grep", "head", "mkdir", "mktemp", "python3", "readlink", "rm", "sed", "sleep", "tee", "touch", "wc")
+
+
+def below(crate):
+    """The crates of the repository that a crate rests on, lowest first."""
+    names = re.search(rf"^{crate}:(.*)$", read("crates.txt"), re.M)[1].split()
+    return [name for name in reversed(names) if os.path.isdir(os.path.join(ROOT, "crates", name))]
+
+
+def said_of(program, lines):
+    """What a build says: before it begins what is at work, and after each line of a crate what is at work then."""
+    left, said = [*below(program), program], []
+    for crate, line in [(None, f"build: {program} is proved and built first, which may take MINUTES; later runs answer at once"), *lines]:
+        left = [one for one in left if one != crate]
+        ready = [one for one in left if not set(below(one)) & set(left)]
+        later = " ".join(one for one in left if one not in ready)
+        said += [line, *([f"build: at work: {' '.join(ready)}{'; then: ' if later else ''}{later}"] if left else [])]
+    return "".join(f"{line}\n" for line in said)
 
 
 def crates_of(program):
     """The crates of the repository that a program rests on, and its own, the last."""
-    below = re.search(rf"^{program}:(.*)$", read("crates.txt"), re.M)[1].split()
-    return [crate for crate in reversed(below) if os.path.isdir(os.path.join(ROOT, "crates", crate))] + [program]
+    return [*below(program), program]
 
 
 class Command(unittest.TestCase):
@@ -33,8 +49,11 @@ class Command(unittest.TestCase):
         self.crates = crates_of(f"{self.name}_main")
         self.program = self.path("target", "bin", self.crates[-1])
         self.sources = ["crates.txt"] + [f"crates/{crate}/src/main.rt" for crate in self.crates]
-        self.progress = "".join(f"rt: {crate} proved (9 s)\n" for crate in self.crates)
-        self.said = f"fn column::order: proved\n{self.progress}rt: {self.crates[-1]} ran, and wrote what its file 'stdout' has (0 s)\nrt: ok, 5 crates proved\n"
+        proved = [(crate, f"rt: {crate} proved (9 s)") for crate in self.crates]
+        self.minutes = re.search(r"^takes='(.*)'$", read(self.name), re.M)[1]
+        self.progress = said_of(self.crates[-1], proved).replace("MINUTES", self.minutes)
+        printed = "".join(f"{line}\n" for _, line in proved)
+        self.said = f"fn column::order: proved\n{printed}rt: {self.crates[-1]} ran, and wrote what its file 'stdout' has (0 s)\nrt: ok, 5 crates proved\n"
         self.builds = f'cp "$here/built" "$here/target/bin/{self.crates[-1]}"'
         for folder in ["tools", "target/bin"] + [os.path.dirname(source) for source in self.sources]:
             os.makedirs(self.path(folder), exist_ok=True)
@@ -43,8 +62,8 @@ class Command(unittest.TestCase):
         for source in self.sources:
             self.write(source, "")
         self.file = self.write("given", self.text)
-        for part in (self.name, "command.sh", "crates.txt"):
-            shutil.copy(os.path.join(ROOT, part), self.folder)
+        for part in (self.name, "command.sh", "explain.awk", "crates.txt", "tools/build.sh"):
+            shutil.copy(os.path.join(ROOT, part), self.path(part))
         shutil.copy(os.path.join(ROOT, "target", "bin", self.crates[-1]), self.path("built"))
 
     def path(self, *parts):
@@ -91,7 +110,8 @@ class Command(unittest.TestCase):
         """The help of the command, which has the words and names where to read more."""
         done = self.run_command("--help")
         self.assertEqual((done.stderr, done.returncode), ("", 0))
-        for word in (*words, "README.md", "x86-64 Linux"):
+        self.assertEqual(self.run_command("-h").stdout, done.stdout)
+        for word in (*words, "docs/COMMANDS.md", "x86-64 Linux", "--explain", "--strict", "--version", self.minutes):
             self.assertIn(word, done.stdout)
         return done.stdout
 
@@ -102,6 +122,11 @@ class Command(unittest.TestCase):
         self.assertEqual(done.stdout or "", answer)
         self.assertRegex(done.stderr, rf"(?:\A|\n){self.name}: [^\n]*{word}[^\n]*\n\Z")
         self.assertNotEqual(done.returncode, 0)
+
+    def assert_misused(self, done, word):
+        self.assert_failed(done, word)
+        self.assertTrue(done.stderr.startswith(f"usage: ./{self.name} "), done.stderr)
+        self.assertEqual(done.returncode, 2)
 
 
 class Runs:
@@ -118,8 +143,7 @@ class Runs:
         self.assert_answered(self.run_command("../given", command=self.path("tools", "linked"), cwd=self.path("target")))
 
     def test_more_than_one_file_is_refused(self):
-        for words in ((self.file, self.file), ("--help", self.file)):
-            self.assert_failed(self.run_command(*words), f"more than one {self.given}")
+        self.assert_misused(self.run_command(self.file, self.file), f"more than one {self.given}")
 
     def test_a_file_that_cannot_be_read_is_told(self):
         os.symlink("nowhere", self.path("dangling"))
@@ -194,7 +218,9 @@ class Builds:
             self.assert_answered(self.run_command(self.file), said=self.progress)
 
     def test_a_build_that_fails_names_its_log_and_runs_nothing(self):
-        refused = "rt: column proved (9 s)\nrt: bank NOT PROVED (exit 1, 3 s)\n"
+        lines = [("column", "rt: column proved (9 s)"), ("bank", "rt: bank NOT PROVED (exit 1, 3 s)")]
+        refused = "".join(f"{line}\n" for _, line in lines)
+        progress = said_of(self.crates[-1], lines).replace("MINUTES", self.minutes)
         for built in (False, True):
             if built:
                 self.build()
@@ -202,7 +228,7 @@ class Builds:
             self.stand_in(does="exit 1", said=f"error: not so\n{refused}rt: FAILED: bank\n")
             done = self.run_command(self.file)
             self.assert_failed(done, "the build failed")
-            self.assertTrue(done.stderr.startswith(refused + f"{self.name}: "), done.stderr)
+            self.assertTrue(done.stderr.startswith(f"{progress}{self.name}: "), done.stderr)
             self.assertIn("error: not so", read(re.search(r"log is (.*)$", done.stderr)[1]))
 
     def test_a_build_that_leaves_no_program_is_told(self):

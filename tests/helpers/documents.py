@@ -1,15 +1,18 @@
 """How the documents are read: their blocks, tables and sections, and the names that they cite with the files that they name for them."""
 import os
 import re
+import unittest
+
+from repository import ROOT, read
 
 SHORT = re.compile(r"^(column|fastest|bank|losses|figure|agreement|text|list|table|script|fastest_text|losses_text|journals|firmware|edges_test|handed_test)/((?:proofs|inner|laws|examples)/(?:[a-z]+/)?)?([A-Za-z_]+)(\.rt)?$")
-WHOLE = re.compile(r"^(crates/.+|tests/.+|tools/.+|docs/.+|examples/.+|include/.+|crates\.txt|README\.md)$")
+WHOLE = re.compile(r"^(crates/.+|tests/.+|tools/.+|docs/.+|examples/.+|include/.+|crates\.txt|README\.md|CONTRIBUTING\.md)$")
 BLOCK = re.compile(r"```c?\n(.*?)```", re.S)
 QUOTED = re.compile(r'"(?:[^"]|"(?:send|await|exactly)")*"')
 
 
 def spans(text):
-    """What stands between single backquotes."""
+    """What is between single backquotes."""
     return re.findall(r"`([^`]+)`", BLOCK.sub("", text))
 
 
@@ -61,3 +64,12 @@ def section(document, heading):
 def blocks(text):
     """The lines of the text's blocks of code, without what is said beside them."""
     return [line.split("#")[0].strip() for block in BLOCK.findall(text) for line in block.splitlines()]
+
+
+class Citations(unittest.TestCase):
+    """What holds of a name that a document cites."""
+
+    def stands(self, document, name, path):
+        self.assertTrue(os.path.exists(os.path.join(ROOT, path)), f"{document}: {path}")
+        if name:
+            self.assertRegex(read(path), r"(?<![\w\-·])" + re.escape(name) + r"(?![\w\-])", f"{document}: {name} in {path}")

@@ -1,8 +1,10 @@
 """What the runners of this folder share: a copy of the repository to spoil, and the reading of what the prover says of it."""
-import os, re, shutil, subprocess, tempfile
+import os, re, shutil, subprocess, sys, tempfile
 
 HERE = os.path.dirname(os.path.abspath(__file__))
-ROOT = os.path.dirname(os.path.dirname(HERE))
+sys.path.append(os.path.join(os.path.dirname(os.path.dirname(HERE)), "tools"))
+from repository import ROOT, parser
+
 # An edit that only makes the proof file unfit for the code shows nothing.
 UNFIT = re.compile(r"has no `Need-|no field `|was not admitted|not in scope|expected type `tie\.")
 # A change of an edit: the lines that stand in its file, and those in their place.

@@ -1,11 +1,10 @@
 #!/usr/bin/env python3
 """Random bytes as scripts: the built program must answer each, whatever it is.
 
-    python3 tests/outside_the_gate/bad_bytes.py [--count INPUTS] [--seed SEED] [--valgrind INPUTS]
+    python3 tests/outside_the_gate/bad_bytes.py --valgrind 100
 
 Each input is random bytes, or a script with bytes changed. The program must end with status 0 and print only lines that the papers name. With
 --valgrind a sample of them runs under valgrind, which must see no read or write outside and no value that was never set."""
-import argparse
 import os
 import random
 import re
@@ -15,7 +14,7 @@ import sys
 sys.path.insert(0, os.path.dirname(os.path.dirname(os.path.abspath(__file__))))
 from helpers import refusals
 from generators import script_makers, script_texts
-from repository import built
+from repository import built, parser
 
 NUMBERS = "|".join(map(str, sorted(refusals.ASKED["lockers_main"])))
 LINE = re.compile((rf"(?:table=ok|step=ok|steps=\d{{1,4}}|refused=(?:{NUMBERS})|column=\d{{1,2}}|number=\d{{1,10}}|occupied=\d{{1,2}}|doors=[\d,]*"
@@ -45,11 +44,11 @@ def answered(data, before=()):
 
 
 def main():
-    parser = argparse.ArgumentParser(description=__doc__, formatter_class=argparse.RawDescriptionHelpFormatter)
-    parser.add_argument("--count", type=int, default=100_000)
-    parser.add_argument("--seed", type=int, default=1)
-    parser.add_argument("--valgrind", type=int, default=200, help="how many of them run under valgrind too")
-    given = parser.parse_args()
+    words = parser(__doc__)
+    words.add_argument("--count", type=int, default=100_000, help="how many inputs, 100,000 without it")
+    words.add_argument("--seed", type=int, default=1, help="what the inputs are made from, 1 without it")
+    words.add_argument("--valgrind", type=int, default=200, help="how many of them run under valgrind too")
+    given = words.parse_args()
     every = max(1, given.count // max(1, given.valgrind))
     sampled = 0
     for k, data in enumerate(inputs(random.Random(given.seed), given.count)):

@@ -10,10 +10,13 @@ import unittest
 sys.path.insert(0, os.path.dirname(os.path.dirname(os.path.abspath(__file__))))
 import helpers
 from cases import test_firmware
+from repository import parser
 
 
 def main():
-    test_firmware.CALLS = int(sys.argv[1])
+    words = parser(__doc__)
+    words.add_argument("calls", metavar="CALLS", type=int, help="how many calls")
+    test_firmware.CALLS = words.parse_args().calls
     test = test_firmware.Calls("test_random_calls_answer_and_leave_what_the_model_does_and_every_refusal_is_met")
     passed = unittest.TextTestRunner().run(unittest.TestSuite([test])).wasSuccessful()
     print(f"{test_firmware.CALLS} calls, {len(test.told)} counters, the least {min(test.told.values())}, {len(test_firmware.firmware_mutants.WRONG)} wrong models")

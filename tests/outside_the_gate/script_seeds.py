@@ -7,13 +7,15 @@ import os
 import sys
 
 sys.path.insert(0, os.path.dirname(os.path.dirname(os.path.abspath(__file__))))
-import helpers
+from helpers.counting import seeds_of
 from generators import random_scripts
+from repository import parser
 
 
 def main():
-    first, _, last = sys.argv[1].partition("-")
-    return random_scripts.seeds_part(range(int(first), int(last or first) + 1))
+    words = parser(__doc__)
+    words.add_argument("seeds", metavar="SEEDS", type=seeds_of, help="a seed, or the first and the last as 1-20")
+    return random_scripts.seeds_part(words.parse_args().seeds)
 
 
 if __name__ == "__main__":

@@ -14,6 +14,8 @@ sys.path.insert(0, os.path.dirname(os.path.dirname(os.path.abspath(__file__))))
 from helpers import refusals
 from cases import test_fastest, test_firmware, test_frames, test_journals, test_losses, test_pages
 from generators import counters, random_scripts
+from helpers.counting import seeds_of
+from repository import parser
 
 TESTS = [
     test_fastest.Fastest("test_random_requests_are_answered_as_the_model_answers_them"),
@@ -39,8 +41,9 @@ def points(seed):
 
 
 def main():
-    first, _, last = sys.argv[1].partition("-")
-    seeds = range(int(first), int(last or first) + 1)
+    words = parser(__doc__)
+    words.add_argument("seeds", metavar="SEEDS", type=seeds_of, help="a seed, or the first and the last as 1-20")
+    seeds = words.parse_args().seeds
     met, numbers, faults = [], [], 0
     counters.LEAST //= 2
     for seed in seeds:
