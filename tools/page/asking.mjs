@@ -7,7 +7,7 @@ import { encode, lineFrames, LIMIT } from "./script.mjs";
 const changes = frame => !frame.refused && frame.event.step !== "list";
 
 // The lines of a script that leads to a frame, after the table: all of them, or those alone that change the bank.
-export function linesUpTo(run, at, all) {
+function linesUpTo(run, at, all) {
   const lines = [];
   for (const frame of run.frames.slice(1, at + 1)) {
     if (frame.line >= 0 && !frame.unended && !frame.dispatched && (all || changes(frame))) lines.push(frame.text);

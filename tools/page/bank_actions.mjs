@@ -5,7 +5,7 @@ import { draw, go, pause, play, show, view } from "./bank_view.mjs";
 import { doorsOf, NO_DOORS, occupiedDoors } from "./columns.mjs";
 import { characters, encode, runScript } from "./script.mjs";
 import { writeSteps } from "./step_list.mjs";
-import { byId } from "./svg.mjs";
+import { byId } from "./markup.mjs";
 
 const script = { bytes: new Uint8Array(), undone: [], doors: NO_DOORS };
 

@@ -1,6 +1,6 @@
 // The picture of a bank at a frame: the tree, what each column holds, and the packets that are under way, waiting at their receivers.
 import { members } from "./columns.mjs";
-import { element, recordClass, words } from "./svg.mjs";
+import { element, recordClass, words } from "./markup.mjs";
 import { kindOf, packetNamed, ranges } from "./telling.mjs";
 import { treeLayout } from "./tree_layout.mjs";
 
@@ -70,13 +70,13 @@ function setsWritten(column, x, top, size) {
   const sets = [["→", column.send], ["?", column.awaited], ["!", column.owed], ["×", column.noted]];
   if (size.box >= ROOMY) {
     const line = sets.filter(([, set]) => set).map(([sign, set]) => sign + ranges(members(set))).join(" ");
-    const short = sets.filter(([, set]) => set).map(([sign, set]) => sign + counted(members(set))).join(" ");
+    const short = sets.filter(([, set]) => set).map(([sign, set]) => sign + memberOrCount(members(set))).join(" ");
     return words(x, top + 50, line.length * LETTER <= size.box - 8 ? line : short, "sets");
   }
-  return sets.map(([sign, set], k) => set ? words(x + (k % 2 ? 1 : -1) * size.box / 4, top + 50 + (k > 1 ? 15 : 0), sign + counted(members(set)), "sets small") : "").join("");
+  return sets.map(([sign, set], k) => set ? words(x + (k % 2 ? 1 : -1) * size.box / 4, top + 50 + (k > 1 ? 15 : 0), sign + memberOrCount(members(set)), "sets small") : "").join("");
 }
 
-const counted = list => list.length === 1 ? list[0] : `(${list.length})`;
+const memberOrCount = list => list.length === 1 ? list[0] : `(${list.length})`;
 
 function columnTold(bank, i) {
   const column = bank.columns[i], set = list => list ? members(list).join(", ") : "nobody";

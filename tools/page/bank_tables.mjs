@@ -1,6 +1,6 @@
 // The columns of a bank and the packets under way as tables, and the doors as a wall of lockers.
 import { has, members, occupiedDoors } from "./columns.mjs";
-import { element, escaped, recordClass } from "./svg.mjs";
+import { element, escaped, recordClass } from "./markup.mjs";
 import { kindOf, ranges } from "./telling.mjs";
 
 const cells = (kind, list) => list.map(text => element(kind, {}, text)).join("");

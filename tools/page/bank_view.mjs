@@ -6,7 +6,7 @@ import { doorsOf } from "./columns.mjs";
 import { atRest } from "./dispatcher.mjs";
 import { lineFrames, numbers } from "./script.mjs";
 import { showRow, writeSteps } from "./step_list.mjs";
-import { byId, element, escaped } from "./svg.mjs";
+import { byId, element, escaped } from "./markup.mjs";
 import { capital, columnsNamed, counted, lineNamed, sentence } from "./telling.mjs";
 
 export const view = { program: null, run: null, at: 0, selected: new Set([0]), packet: null, timer: null };

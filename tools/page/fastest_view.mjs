@@ -2,7 +2,7 @@
 import { withChildren } from "./columns.mjs";
 import { fastestTree } from "./fastest_tree.mjs";
 import { encode, numbers } from "./script.mjs";
-import { byId, element, escaped, words } from "./svg.mjs";
+import { byId, element, escaped, words } from "./markup.mjs";
 import { treeLayout } from "./tree_layout.mjs";
 
 const BOX = { width: 62, height: 40 }, LEVEL = 92, MARGIN = 14;

@@ -2,7 +2,7 @@
 import { view } from "./bank_view.mjs";
 import { journalOf } from "./journal.mjs";
 import { characters, encode } from "./script.mjs";
-import { byId, element, escaped } from "./svg.mjs";
+import { byId, element, escaped } from "./markup.mjs";
 
 const MEANINGS = { 19: "a line has another form, a journal has more than 32,768 bytes, or both are of one column", 20: "a line stands twice in a journal", 21: "one got what the other did not send: they are of two banks or of two moments, or a column came back", 11: "what is missing does not fit" };
 
@@ -27,7 +27,7 @@ function drawJournals(missing) {
 }
 
 // Asks the program what is missing.
-export function compareJournals() {
+function compareJournals() {
   const printed = state.program(new Uint8Array(), ...state.journals), refused = /^refused=([0-9]+)\n$/.exec(printed), missing = refused ? [] : printed.split("\n").filter(Boolean);
   byId("journals-missing").textContent = printed;
   byId("journals-told").className = refused ? "refused" : "";

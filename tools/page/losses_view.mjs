@@ -2,7 +2,7 @@
 import { fastestTree } from "./fastest_tree.mjs";
 import { treePicture } from "./fastest_view.mjs";
 import { encode, readTable } from "./script.mjs";
-import { byId, element, escaped, words } from "./svg.mjs";
+import { byId, element, escaped, words } from "./markup.mjs";
 
 const CHART = { width: 560, height: 200, left: 34, bottom: 34 }, COLUMNS = 8, LEVEL = 62;
 const MEANINGS = { 1: "the table has another form", 2: "a bank has 1 to 16 columns", 3: "the parents, the root or the sequence make no tree", 13: "after= is a count of 0 to 999", 23: "losses are counted for up to 8 columns, and where the root is watched" };
@@ -14,7 +14,7 @@ const tableText = up => `columns=${up.length}\nroot=0\nup=${up.join(",")}\n`;
 const numberAfter = (text, key) => Number((new RegExp(`^${key}=([0-9]+)$`, "m").exec(text) || [])[1]);
 
 // What the program counts after a number of steps, or its refusal.
-function counted(table, steps) {
+function countsAfter(table, steps) {
   const printed = state.programs.losses(encode(`${table}after=${steps}\n`));
   return { refused: numberAfter(printed, "refused"), kept: numberAfter(printed, "kept"), lost: numberAfter(printed, "lost"), none: numberAfter(printed, "none") };
 }
@@ -70,7 +70,7 @@ function drawSide(side, k) {
 // Counts for one step count after the other, so that clicks are answered meanwhile; a newer table ends it.
 function countOn(side, k, began) {
   const until = performance.now() + 40;
-  while (side.rows.length <= side.rest && performance.now() < until) side.rows.push(counted(side.table, side.rows.length));
+  while (side.rows.length <= side.rest && performance.now() < until) side.rows.push(countsAfter(side.table, side.rows.length));
   drawSide(side, k);
   if (side.began === began && side.rows.length <= side.rest) setTimeout(() => { if (side.began === began) countOn(side, k, began); }, 0);
 }
@@ -78,7 +78,7 @@ function countOn(side, k, began) {
 function startSide(k, table) {
   const side = state.sides[k] = { table, rows: [], rest: 0, refused: 0, began: Symbol("count") };
   byId(`losses-table-${k}`).value = table;
-  side.refused = counted(table, 0).refused;
+  side.refused = countsAfter(table, 0).refused;
   side.rest = side.refused ? 0 : stepsToRest(table);
   const most = Math.max(...state.sides.map(other => other ? other.rest : 0));
   byId("losses-after").max = most;

@@ -5,7 +5,7 @@ import { connectFastest, makeFastest } from "./fastest_view.mjs";
 import { connectJournals } from "./journals_view.mjs";
 import { connectLosses, startLosses } from "./losses_view.mjs";
 import { bytesOfBase64, programOf } from "./programs.mjs";
-import { byId, element, escaped } from "./svg.mjs";
+import { byId, element, escaped } from "./markup.mjs";
 import { lineNamed, sentence } from "./telling.mjs";
 
 const PARTS = { bank: draw, fastest: makeFastest, losses: startLosses, journals: () => {}, about: () => {} };

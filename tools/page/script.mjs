@@ -67,7 +67,7 @@ export function readTable(text) {
 // ---- lines
 
 // A line's name and what it is given, or nothing where it has none of the forms.
-export function readLine(text) {
+function readLine(text) {
   const [name] = text.split("="), found = Object.hasOwn(FORMS, name) && FORMS[name].exec(text.slice(name.length + 1));
   if (!found || text[name.length] !== "=") return null;
   return { name, given: name === "order" ? [found[1]] : numbers(found[1]) };

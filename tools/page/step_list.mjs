@@ -1,5 +1,5 @@
 // The steps of a run as a list of which only the part in sight is written, so that ten thousand of them scroll as ten do.
-import { element, escaped } from "./svg.mjs";
+import { element, escaped } from "./markup.mjs";
 
 const ROW = 22, BEYOND = 8;
 

@@ -32,7 +32,7 @@ export function allRefused(bank, i) {
   return column.awaited ? refusal(6, `column ${i} still awaits an acknowledgement`) : null;
 }
 
-export function noteRefused(bank, i, j) {
+function noteRefused(bank, i, j) {
   if (i === j) return refusal(6, `column ${i} cannot note itself`);
   if (bank.columns[j].running) return refusal(6, `column ${j} runs`);
   return has(bank.columns[i].noted, j) ? refusal(6, `column ${i} has noted column ${j} already`) : null;

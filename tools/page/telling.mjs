@@ -3,7 +3,7 @@ import { members, occupiedDoors } from "./columns.mjs";
 import { atRest } from "./dispatcher.mjs";
 
 // "1", "1 and 2", "1, 2 and 3"
-export function enumerated(list) {
+function enumerated(list) {
   return list.length < 2 ? list.join("") : `${list.slice(0, -1).join(", ")} and ${list[list.length - 1]}`;
 }
 
@@ -22,7 +22,7 @@ export const columnsNamed = list => `column${list.length === 1 ? "" : "s"} ${enu
 export const capital = words => words[0].toUpperCase() + words.slice(1);
 export const counted = (count, word) => `${count} ${word}${count === 1 ? "" : "s"}`;
 
-export function doorsNamed(doors) {
+function doorsNamed(doors) {
   const occupied = occupiedDoors(doors);
   if (!occupied.length) return "no door is occupied";
   return occupied.length === 64 ? "all 64 doors are occupied" : `door${occupied.length === 1 ? "" : "s"} ${enumerated(occupied)} ${occupied.length === 1 ? "is" : "are"} occupied`;
