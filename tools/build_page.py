@@ -1,9 +1,6 @@
 #!/usr/bin/env python3
 """Builds docs/bank.html, the page that runs the proved programs in a browser, from the sources of tools/page, the scripts of examples/ and the four
-programs as WebAssembly:
-
-    tools/build_page.py                          makes the programs by tools/targets and writes docs/bank.html with them
-    tools/build_page.py --programs-of PAGE OUT   writes OUT with the programs that a built page has
+programs as WebAssembly, which tools/targets makes.
 """
 import base64
 import glob
@@ -11,10 +8,9 @@ import json
 import os
 import re
 import subprocess
-import sys
 import tempfile
 
-from repository import ROOT, read
+from repository import ROOT, parser, read
 
 PAGE = os.path.join(ROOT, "docs", "bank.html")
 SOURCES = os.path.join(ROOT, "tools", "page")
@@ -86,13 +82,11 @@ def programs_made():
     return found
 
 
-def main(words):
-    if words in (["-h"], ["--help"]):
-        print(__doc__.strip())
-        return
-    if words and (len(words) != 3 or words[0] != "--programs-of"):
-        sys.exit(__doc__)
-    programs, out = (programs_of(os.path.abspath(words[1])), words[2]) if words else (programs_made(), PAGE)
+def main():
+    words = parser(__doc__)
+    words.add_argument("--programs-of", nargs=2, metavar=("PAGE", "OUT"), help="write OUT with the programs that a built page has")
+    asked = words.parse_args().programs_of
+    programs, out = (programs_of(os.path.abspath(asked[0])), asked[1]) if asked else (programs_made(), PAGE)
     text = page(programs)
     with open(out, "w", encoding="utf8") as file:
         file.write(text)
@@ -100,4 +94,4 @@ def main(words):
 
 
 if __name__ == "__main__":
-    main(sys.argv[1:])
+    main()

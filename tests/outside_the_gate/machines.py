@@ -5,7 +5,6 @@ is Linux, the programs of tests/uses and banks of processes. The last line says 
 
 status: 0 all that was asked for ran and is as on x86-64; 1 something differs; 2 a wrong call; 3 a machine was not run
 """
-import argparse
 import os
 import subprocess
 import sys
@@ -18,6 +17,7 @@ sys.path.remove(os.path.dirname(os.path.abspath(__file__)))
 from machines import emulated, kit
 from machines.table import WASM
 from replay import libraries, recording, trials
+from repository import parser
 
 CALLS, BANKS = 60000, 50
 
@@ -69,13 +69,13 @@ def run(asked, folder):
 
 
 def main():
-    parser = argparse.ArgumentParser(prog="tests/outside_the_gate/machines.py", description=__doc__, formatter_class=argparse.RawDescriptionHelpFormatter)
-    parser.add_argument("--calls", type=int, default=CALLS, help=f"how many random calls, {CALLS} without it")
-    parser.add_argument("--banks", type=int, default=BANKS, help=f"how many banks of processes, {BANKS} without it")
-    parser.add_argument("machines", metavar="MACHINE", nargs="*", help=f"of {', '.join(emulated.EMULATED)}; all without it")
-    asked = parser.parse_args()
+    words = parser(__doc__)
+    words.add_argument("--calls", type=int, default=CALLS, help=f"how many random calls, {CALLS} without it")
+    words.add_argument("--banks", type=int, default=BANKS, help=f"how many banks of processes, {BANKS} without it")
+    words.add_argument("machines", metavar="MACHINE", nargs="*", help=f"of {', '.join(emulated.EMULATED)}; all without it")
+    asked = words.parse_args()
     if set(asked.machines) - set(emulated.EMULATED):
-        parser.error(f"no such machine: {', '.join(sorted(set(asked.machines) - set(emulated.EMULATED)))}")
+        words.error(f"no such machine: {', '.join(sorted(set(asked.machines) - set(emulated.EMULATED)))}")
     with tempfile.TemporaryDirectory() as folder:
         try:
             ran, differ, not_run = run(asked, folder)

@@ -7,7 +7,6 @@ answers alike, and times measured.
 Needs Debian's chromium (or another of its kind) and the built programs of target/bin; where the browser is missing, that is told and the status is 1. With
 --pictures what is seen is kept, for a person to look at: wide, a phone's width, dark, on paper, 16 columns with 200 steps. It does not run other browsers
 than that one, no screen reader, and no finger on glass."""
-import argparse
 import glob
 import os
 import subprocess
@@ -19,7 +18,7 @@ sys.path.insert(0, os.path.dirname(os.path.dirname(os.path.abspath(__file__))))
 from helpers import browser
 import build_page
 from cases.test_page import swapped
-from repository import ROOT, built, read
+from repository import ROOT, built, parser, read
 
 ADDRESS = "file://" + os.path.join(ROOT, "docs", "bank.html")
 PARTS = ("bank", "fastest", "losses", "journals", "about")
@@ -197,9 +196,9 @@ def take_pictures(page, folder):
 
 
 def main():
-    parser = argparse.ArgumentParser(description=__doc__, formatter_class=argparse.RawDescriptionHelpFormatter)
-    parser.add_argument("--pictures", metavar="FOLDER")
-    asked = parser.parse_args()
+    words = parser(__doc__)
+    words.add_argument("--pictures", metavar="FOLDER")
+    asked = words.parse_args()
     if not browser.path():
         sys.exit(f"no browser is found ({', '.join(browser.NAMES)}): nothing was run")
     sys.stdout.reconfigure(line_buffering=True)
