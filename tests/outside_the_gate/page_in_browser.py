@@ -17,6 +17,7 @@ import time
 sys.path.insert(0, os.path.dirname(os.path.dirname(os.path.abspath(__file__))))
 from helpers import browser
 import build_page
+import script_journals
 from cases.test_page import swapped
 from repository import ROOT, built, parser, read
 
@@ -145,6 +146,22 @@ def tell_a_refusal(page):
     print("refusals: told with their number, their meaning and their line")
 
 
+def drop_and_open(page):
+    """Two journals are dropped together, and a script is opened as a file."""
+    bank = script_journals.run(read("examples", "strip-halted.script").encode())
+    page.open(f"{ADDRESS}#journals")
+    files = ", ".join(f"new File([{quoted(bank.journal(i).decode())}], '{i}')" for i in (1, 3))
+    page.value(f"""(() => {{ const given = new DataTransfer(); for (const file of [{files}]) given.items.add(file);
+        document.getElementById('journal-side-0').dispatchEvent(new DragEvent('drop', {{ dataTransfer: given, bubbles: true, cancelable: true }})); }})()""")
+    page.until("document.getElementById('journals-missing').textContent === 'sent=1,3,1\\n'")
+    check("Column 1 sent column 3 message 1, which column 3 never got." in text(page, "#journals-told"), text(page, "#journals-told"))
+    page.open(ADDRESS)
+    box = page.call("Runtime.evaluate", expression="document.getElementById('file')")["result"]["objectId"]
+    page.call("DOM.setFileInputFiles", files=[os.path.join(ROOT, "examples", "two-orders.script")], objectId=box)
+    page.until(f"document.getElementById('printed').textContent === {quoted(read('examples', 'two-orders.out'))}")
+    print("files: two journals dropped, a script opened")
+
+
 def tell_a_difference(page):
     """A page whose dispatcher has two kinds swapped tells it, and draws no picture there."""
     with tempfile.TemporaryDirectory() as folder:
@@ -205,7 +222,7 @@ def main():
     page = browser.Page(ADDRESS)
     page.size(1400, 900)
     try:
-        for part in (play_examples, press_everything, click_a_script, use_keys, tell_a_refusal, tell_a_difference, measure):
+        for part in (play_examples, press_everything, click_a_script, use_keys, drop_and_open, tell_a_refusal, tell_a_difference, measure):
             part(page)
         check(not page.told, page.told)
         check(all(address.startswith(("file://", "about:", "blob:", "data:")) for address in page.asked), page.asked)

@@ -38,8 +38,8 @@ function bar(side, row, steps, width) {
   return element("g", { "data-after": steps }, element("title", {}, `after ${steps} steps: kept ${row.kept}, lost ${row.lost}, none ${row.none}`), element("rect", { x, y: 0, width, height, fill: "transparent" }), ...parts);
 }
 
-function chart(side) {
-  const { width, height, left, bottom } = CHART, step = (width - left - 4) / (side.rest + 1), whole = side.rows.length ? side.rows[0].kept + side.rows[0].lost + side.rows[0].none : 0;
+function chart(side, room) {
+  const { height, left, bottom } = CHART, width = Math.min(CHART.width, room), step = (width - left - 4) / (side.rest + 1), whole = side.rows.length ? side.rows[0].kept + side.rows[0].lost + side.rows[0].none : 0;
   const bars = side.rows.map((row, steps) => bar(side, row, steps, step));
   const axis = [0, 0.5, 1].map(share => words(left - 4, height * (1 - share) + (share === 1 ? 10 : 4), String(whole * share), "axis", { "text-anchor": "end" }));
   return element("svg", { xmlns: "http://www.w3.org/2000/svg", viewBox: `0 0 ${width} ${height + bottom}`, width: "100%", role: "img", "aria-label": "Sets that keep and lose the order, by the steps before the halt" },
@@ -63,7 +63,7 @@ function told(side) {
 function drawSide(side, k) {
   const part = byId(`losses-answer-${k}`), read = readTable(side.table);
   part.innerHTML = `<p class="${side.refused ? "refused" : ""}" aria-live="polite">${escaped(told(side))}</p>` + (side.refused ? "" :
-    chart(side) + '<p class="legend"><span><i class="square kept"></i> kept</span><span><i class="square lost"></i> lost</span><span><i class="square none"></i> none</span></p>'
+    chart(side, part.clientWidth) + '<p class="legend"><span><i class="square kept"></i> kept</span><span><i class="square lost"></i> lost</span><span><i class="square none"></i> none</span></p>'
     + treePicture(read.table, part.clientWidth, i => i === read.table.root ? "" : `under ${read.table.up[i]}`, () => "", LEVEL) + rowsTable(side));
 }
 
