@@ -2,11 +2,11 @@
 import glob
 import os
 import re
-import subprocess
 
+from machines.module import controls
+from machines.table import LIBRARY
 from repository import ROOT, read
 
-ARCHIVE = os.path.join(ROOT, "target", "staticlib", "libfirmware.a")
 INCLUDE = os.path.join(ROOT, "include")
 PREFIX = "mudasgup_raw_"
 TYPES = {"usize": "uint64_t", "u8": "uint8_t", "u32": "uint32_t"}
@@ -14,11 +14,7 @@ TYPES = {"usize": "uint64_t", "u8": "uint8_t", "u32": "uint32_t"}
 
 def archive():
     """The archive, built where a source is newer than it."""
-    below = re.search(r"^firmware:(.*)$", read("crates.txt"), re.M).group(1).split()
-    sources = [path for crate in ("firmware", *below) for path in glob.glob(os.path.join(ROOT, "crates", crate, "src", "*.rt"))]
-    if not os.path.exists(ARCHIVE) or os.path.getmtime(ARCHIVE) < max(map(os.path.getmtime, sources)):
-        subprocess.run(["rt", "staticlib", "firmware"], cwd=ROOT, check=True, capture_output=True)
-    return ARCHIVE
+    return controls(LIBRARY)
 
 
 def sources():

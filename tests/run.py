@@ -18,7 +18,7 @@ from helpers import TESTS, refusals
 from repository import parser
 
 # These take longest, so that they begin first.
-LONGEST = ["test_random", "test_firmware", "test_plain", "test_journals"]
+LONGEST = ["test_targets", "test_random", "test_firmware", "test_plain", "test_journals"]
 
 
 def names():

@@ -1,5 +1,7 @@
 """Where the repository is, what its files hold, its built programs, and how its tools are called; for tools, the benchmark and tests."""
 import argparse
+import contextlib
+import fcntl
 import os
 import re
 import sys
@@ -16,6 +18,15 @@ def read(*parts):
 def built(name):
     """The path of a crate's program."""
     return os.path.join(ROOT, "target", "bin", name)
+
+
+@contextlib.contextmanager
+def alone():
+    """While this lasts, no other process is between the same two lines: two builds of one file would write it at once."""
+    os.makedirs(os.path.join(ROOT, "target"), exist_ok=True)
+    with open(os.path.join(ROOT, "target", "building"), "w", encoding="ascii") as file:
+        fcntl.flock(file, fcntl.LOCK_EX)
+        yield
 
 
 def version():

@@ -7,7 +7,7 @@ import tempfile
 
 from machines import kit
 from machines.table import CONTROL, LIBRARY
-from repository import ROOT, read
+from repository import ROOT, alone, read
 
 # A module's text without the words that name x86-64, and the words that the kit's clang was called with.
 Module = collections.namedtuple("Module", "crate text words")
@@ -30,11 +30,12 @@ def controls(crate):
     """The file that `rt` makes of the crate for x86-64, proved and made where a source is newer."""
     name = os.path.join("staticlib", f"lib{crate}.a") if is_library(crate) else os.path.join("obj", f"{crate}.o")
     path = os.path.join(ROOT, "target", name)
-    if not os.path.exists(path) or os.path.getmtime(path) < max(map(os.path.getmtime, kit.sources(crate))):
-        done = subprocess.run(["rt", "staticlib" if is_library(crate) else "check", crate], cwd=ROOT, capture_output=True, text=True)
-        if done.returncode:
-            raise kit.Failed(f"{crate} is not proved: {done.stdout[-500:]}{done.stderr[-500:]}")
-        os.utime(path)
+    with alone():
+        if not os.path.exists(path) or os.path.getmtime(path) < max(map(os.path.getmtime, kit.sources(crate))):
+            done = subprocess.run(["rt", "staticlib" if is_library(crate) else "check", crate], cwd=ROOT, capture_output=True, text=True)
+            if done.returncode:
+                raise kit.Failed(f"{crate} is not proved: {done.stdout[-500:]}{done.stderr[-500:]}")
+            os.utime(path)
     return path
 
 
@@ -83,8 +84,9 @@ def neutral(text):
 
 def module(crate):
     """The module of a crate."""
-    if not is_kept(crate):
-        keep(crate)
+    with alone():
+        if not is_kept(crate):
+            keep(crate)
     text = kit.run("clang", f"--target={CONTROL.triple}", "-Xclang", "-disable-llvm-passes", "-S", "-emit-llvm", "-x", "ir",
                    os.path.join(KEPT, crate, "module.bc"), "-o", "-").decode()
     return Module(crate, neutral(text), read(KEPT, crate, "words").splitlines())
