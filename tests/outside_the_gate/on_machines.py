@@ -1,6 +1,6 @@
 #!/usr/bin/env python3
 """The C library on every machine of tools/targets, under qemu and node: the calls of its tests, recorded on x86-64 beside the model and replayed between guards,
-every function and every refusal among them; the same with one instruction of the module changed, which must be seen; the example of README.md; and where there
+every function and every refusal among them; the same with one instruction of the module changed, which must be seen; the example order.c; and where there
 is Linux, the programs of tests/uses and banks of processes. The last line says how many machines ran.
 
 status: 0 all that was asked for ran and is as on x86-64; 1 something differs; 2 a wrong call; 3 a machine was not run
@@ -12,8 +12,6 @@ import tempfile
 
 sys.path.insert(0, os.path.dirname(os.path.dirname(os.path.abspath(__file__))))
 import helpers
-# The package of tools, and not this file, which has its name.
-sys.path.remove(os.path.dirname(os.path.abspath(__file__)))
 from machines import emulated, kit
 from machines.table import WASM
 from replay import libraries, recording, trials
