@@ -42,6 +42,12 @@ def left_out(command):
     return True
 
 
+def declared(constant, source):
+    """The value of a constant of a source, which may be a sum of others of it."""
+    terms = re.search(rf"const {constant}: \w+ = ([\w +]+);", source)[1].split(" + ")
+    return sum(int(term, 0) if term[0].isdigit() else declared(term, source) for term in terms)
+
+
 class Header(unittest.TestCase):
     header = read("include", "mudasgup.h")
     public, raw = header.split("/* ---- What follows is not to be called")
@@ -79,17 +85,15 @@ class Header(unittest.TestCase):
 
     def test_its_numbers_are_those_of_the_sources(self):
         boundary = "".join(sources())
-        journal, listing, frame, page = (read("crates", crate, "src", name + ".rt")
-                                         for crate, name in (("firmware", "journal"), ("list", "list"), ("column", "frame"), ("column", "page")))
+        journal, listing, page = (read("crates", crate, "src", name + ".rt") for crate, name in (("firmware", "journal"), ("list", "list"), ("column", "page")))
+        packet = read("crates", "column", "src", "packet.rt") + read("crates", "column", "src", "codec.rt")
         for macro, constant, source in (
-                ("TREE_SIZE", "TREE_SIZE", boundary), ("COLUMN_SIZE", "COLUMN_SIZE", boundary), ("PACKET_SIZE", "PACKET_SIZE", boundary),
+                ("TREE_SIZE", "TREE_SIZE", boundary), ("COLUMN_SIZE", "COLUMN_SIZE", boundary), ("PACKET_SIZE", "MESSAGE_SIZE", packet),
                 ("DOORS_SIZE", "DOORS_SIZE", boundary), ("LAYOUT_TREE", "TREE_LAYOUT", boundary), ("LAYOUT_COLUMN", "COLUMN_LAYOUT", boundary),
                 ("WATCH_SENDER", "WATCH", boundary), ("RAW_LEFT", "LEFT", boundary), ("RAW_REFUSED", "REFUSED", boundary), ("JOURNAL_SIZE", "LONGEST", journal),
-                ("LIST_SIZE", "LONGEST", listing), ("FRAME_PACKETS", "FRAME_PACKETS", frame), ("PAGE_MASK", "MASK_OFFSET", page), ("PAGE_CLEAR", "CLEAR_OFFSET", page)):
+                ("LIST_SIZE", "LONGEST", listing), ("FRAME_PACKETS", "CAPACITY", packet), ("PAGE_MASK", "MASK_OFFSET", page), ("PAGE_CLEAR", "CLEAR_OFFSET", page)):
             told = re.search(rf"\bMUDASGUP_{macro} (?:= )?(0x\w+|\d+)", self.header).group(1)
-            found = re.search(rf"const {constant}: \w+ = (\w+);", source)
-            self.assertIsNotNone(found, constant)
-            self.assertEqual(int(found.group(1), 0), int(told, 0), macro)
+            self.assertEqual(declared(constant, source), int(told, 0), macro)
         fields = {name: int(place) for name, place in re.findall(r"^(?:pub )?const (\w+): usize = (\d+);", read("crates", "firmware", "src", "block.rt"), re.M)}
         for block, names in (("TREE", ("COLUMNS", "ROOT", "UP", "FIRST")), ("COLUMN", ("OWN", "DOORS", "NUMBER", "SEND", "AWAITED", "OWED", "NOTED", "STATUS", "MASK", "PENDING"))):
             for name in names:
