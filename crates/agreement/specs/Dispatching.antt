@@ -16,11 +16,11 @@ use Rattle.agreement.specs.History.{World, columnsOf, told, run, dispatc
 use Rattle.agreement.specs.Agreement.{AfterEveryList}
 
 abbrev pub stepsWithin : ℕ → ℕ
-stepsWithin n = 9 * (n * n) - 5 * n
+stepsWithin columns = 9 * (columns * columns) - 5 * columns
 
 -- a lower limit: 9 times N times (N−1)
 abbrev pub stepBound : ℕ → ℕ
-stepBound n = 9 * (n * (n - 1))
+stepBound columns = 9 * (columns * (columns - 1))
 
 -- a step that is neither an order nor a halt nor a return nor a write
 abbrev pub isSettling : Step → Bool

@@ -138,4 +138,4 @@ follow w (l ∷ ls) = follow (run w (stepsOf w l)) ls
 -- none under number 0
 unfoldable pub given : List ℕ → ℕ → ℕ
 given [] k = 0
-given (d ∷ ds) k = cond (eqb k (suc (length ds))) d (given ds k)
+given (doors ∷ orders) k = cond (eqb k (suc (length orders))) doors (given orders k)
