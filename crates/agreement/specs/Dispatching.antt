@@ -52,8 +52,8 @@ pub record Settles (w : World) : Type 0 where
   -- they are a list of accepted steps, to which demand 3 applies
   pub steps-accepted : (limit : ℕ) → allAccepted w (dispatched limit (w .state)) ≡ true
   pub steps-lead : (limit : ℕ) → run w (dispatched limit (w .state)) .state ≡ dispatch limit (w .state)
-  -- a line of a list that dispatches leads where the dispatch does
-  pub line-leads : (limit : ℕ) → follow w (dispatching limit ∷ []) .state ≡ dispatch limit (w .state)
+  -- a command that dispatches leads where the dispatch does
+  pub command-leads : (limit : ℕ) → follow w (dispatching limit ∷ []) .state ≡ dispatch limit (w .state)
 
 abbrev pub Rests : Type 0
 Rests = AfterEveryList Settles
