@@ -20,7 +20,7 @@ use Rattle.bank.specs.laws.RestLaws.{halted-rests}
 use Rattle.bank.specs.laws.Places.{tree-kept}
 use Rattle.bank.specs.declared.bank.Step.{Step}
 use Rattle.bank.specs.declared.bank.Step.the-variants.{Order}
-use Rattle.agreement.specs.History.{World, rootOf, told, run, Line, stepsOf, follow}
+use Rattle.agreement.specs.History.{World, rootOf, told, run, Command, stepsOf, follow}
 use Rattle.agreement.specs.Agreement.{begin}
 use Rattle.agreement.specs.Companions.{Passes, Ordered, OrdersCount, HaltedRests, KeepsTree}
 use Rattle.agreement.proofs.relation.Model.{Runs}
@@ -93,10 +93,10 @@ unfolding run told
 run-tree w [] = refl
 run-tree w (x ∷ xs) = run-tree (told w x (perform (w .state) x)) xs ∙ told-tree w x
 
-follow-tree : (w : World) (lines : List Line) → follow w lines .state .bank .tree ≡ w .state .bank .tree
+follow-tree : (w : World) (commands : List Command) → follow w commands .state .bank .tree ≡ w .state .bank .tree
 unfolding follow
 follow-tree w [] = refl
-follow-tree w (l ∷ lines) = follow-tree (run w (stepsOf w l)) lines ∙ run-tree w (stepsOf w l)
+follow-tree w (x ∷ commands) = follow-tree (run w (stepsOf w x)) commands ∙ run-tree w (stepsOf w x)
 
 pub keeps-tree : KeepsTree
-keeps-tree t ok heads doors h d lines = follow-tree (begin t heads doors) lines
+keeps-tree t ok heads doors h d commands = follow-tree (begin t heads doors) commands

@@ -237,7 +237,7 @@ module _ (w : World) (r : Reached w) where
     until = until;
     steps-accepted = λ limit. accepted-dispatched limit w;
     steps-lead = λ limit. lead limit w;
-    line-leads = λ limit. lead limit w;
+    command-leads = λ limit. lead limit w;
   }
 
 pub rests : Rests

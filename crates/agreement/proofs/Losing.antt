@@ -1,4 +1,4 @@
--- Document 02, Point 13: the theorem. An order, a dispatch, the halt of a set and a dispatch are a list of lines from fresh, to which demand 3
+-- Document 02, Point 13: the theorem. An order, a dispatch, the halt of a set and a dispatch are a list of commands from fresh, to which demand 3
 -- and Point 2's bound apply. Assumes nothing.
 use Prim.Native.Nat.{ℕ, zero, suc, _+_, _*_, _^_, _≤_, _<_}
 use native.Mathlib.Nat.{mul-le-mul}

@@ -10,7 +10,7 @@ use Rattle.column.specs.declared.tree.Tree.{Tree}
 use Rattle.bank.specs.Banks.{State, state, columnAt, freshBank, capacity}
 use Rattle.bank.specs.Steps.{refused, send}
 use Rattle.bank.specs.Rest.{Running, AtRest}
-use Rattle.agreement.specs.History.{given, World, rootOf, Line, follow}
+use Rattle.agreement.specs.History.{given, World, rootOf, Command, follow}
 
 -- a fresh bank, whatever the words in the free places of its network
 abbrev pub begin : Tree → List ℕ → List ℕ → World
@@ -47,7 +47,7 @@ pub record Agreement (w : World) : Type 0 where
 abbrev pub AfterEveryList : (World → Type 0) → Type 0
 AfterEveryList P = (t : Tree) → treeRefusal t ≡ 0
     → (heads doors : List ℕ) → length heads ≡ capacity → length doors ≡ capacity
-    → (lines : List Line) → P (follow (begin t heads doors) lines)
+    → (commands : List Command) → P (follow (begin t heads doors) commands)
 
 abbrev pub Agrees : Type 0
 Agrees = AfterEveryList Agreement

@@ -10,7 +10,7 @@ use Rattle.bank.specs.Steps.{accepted}
 use Rattle.bank.specs.Performs.{perform}
 use Rattle.bank.specs.Rest.{Running, AtRest}
 use Rattle.bank.specs.declared.bank.Step.the-variants.{Order}
-use Rattle.agreement.specs.History.{World, rootOf, Line, follow}
+use Rattle.agreement.specs.History.{World, rootOf, Command, follow}
 use Rattle.agreement.specs.Agreement.{begin, AfterEveryList}
 
 -- a bank passes rows 2, 3 and 4, its halted columns and the count of its packets included: a step is refused with 4 only for its own
@@ -30,7 +30,7 @@ OrdersCount = AfterEveryList Ordered
 abbrev pub HaltedRests : Type 0
 HaltedRests = AfterEveryList (λ w. ((i : ℕ) → Running (w .state) i → ⊥) → AtRest (w .state))
 
--- the tree of the bank is the one that it was made from, so that N is the count of its table: no list of lines changes it
+-- the tree of the bank is the one that it was made from, so that N is the count of its table: no list of commands changes it
 abbrev pub KeepsTree : Type 0
-KeepsTree = (t : Tree) → treeRefusal t ≡ 0 → (heads doors : List ℕ) → length heads ≡ capacity → length doors ≡ capacity → (lines : List Line)
-    → follow (begin t heads doors) lines .state .bank .tree ≡ t
+KeepsTree = (t : Tree) → treeRefusal t ≡ 0 → (heads doors : List ℕ) → length heads ≡ capacity → length doors ≡ capacity → (commands : List Command)
+    → follow (begin t heads doors) commands .state .bank .tree ≡ t

@@ -16,11 +16,11 @@ use Rattle.agreement.specs.History.{World, columnsOf, told, run, dispatc
 use Rattle.agreement.specs.Agreement.{AfterEveryList}
 
 abbrev pub stepsWithin : ℕ → ℕ
-stepsWithin n = 9 * (n * n) - 5 * n
+stepsWithin columns = 9 * (columns * columns) - 5 * columns
 
 -- a lower limit: 9 times N times (N−1)
 abbrev pub stepBound : ℕ → ℕ
-stepBound n = 9 * (n * (n - 1))
+stepBound columns = 9 * (columns * (columns - 1))
 
 -- a step that is neither an order nor a halt nor a return nor a write
 abbrev pub isSettling : Step → Bool
@@ -52,8 +52,8 @@ pub record Settles (w : World) : Type 0 where
   -- they are a list of accepted steps, to which demand 3 applies
   pub steps-accepted : (limit : ℕ) → allAccepted w (dispatched limit (w .state)) ≡ true
   pub steps-lead : (limit : ℕ) → run w (dispatched limit (w .state)) .state ≡ dispatch limit (w .state)
-  -- a line of a list that dispatches leads where the dispatch does
-  pub line-leads : (limit : ℕ) → follow w (dispatching limit ∷ []) .state ≡ dispatch limit (w .state)
+  -- a command that dispatches leads where the dispatch does
+  pub command-leads : (limit : ℕ) → follow w (dispatching limit ∷ []) .state ≡ dispatch limit (w .state)
 
 abbrev pub Rests : Type 0
 Rests = AfterEveryList Settles

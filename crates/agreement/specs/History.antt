@@ -119,23 +119,23 @@ unfoldable pub run : World → List Step → World
 run w [] = w
 run w (x ∷ xs) = run (told w x (perform (w .state) x)) xs
 
--- ---- a list of lines: "a step that a change adds joins the list". A dispatch stands for the steps that it takes.
+-- ---- a list of commands: "a step that a change adds joins the list". A dispatch stands for the steps that it takes.
 
-pub data Line : Type 0 where
-  step : Step → Line
-  dispatching : ℕ → Line
+pub data Command : Type 0 where
+  step : Step → Command
+  dispatching : ℕ → Command
 
--- the steps of a line, in the bank as the last line left it
-abbrev pub stepsOf : World → Line → List Step
+-- the steps of a command, in the bank as the last command left it
+abbrev pub stepsOf : World → Command → List Step
 stepsOf w (step x) = x ∷ []
 stepsOf w (dispatching limit) = dispatched limit (w .state)
 
-unfoldable pub follow : World → List Line → World
+unfoldable pub follow : World → List Command → World
 follow w [] = w
-follow w (l ∷ ls) = follow (run w (stepsOf w l)) ls
+follow w (x ∷ xs) = follow (run w (stepsOf w x)) xs
 
 -- "From fresh, the n-th accepted order gives number n and its doors": the doors under a number, where the list has the newest first;
 -- none under number 0
 unfoldable pub given : List ℕ → ℕ → ℕ
 given [] k = 0
-given (d ∷ ds) k = cond (eqb k (suc (length ds))) d (given ds k)
+given (doors ∷ orders) k = cond (eqb k (suc (length orders))) doors (given orders k)

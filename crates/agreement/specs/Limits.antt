@@ -11,7 +11,7 @@ use Rattle.agreement.specs.Agreement.{AfterEveryList}
 
 -- "2 times N times (N−1) packets under way"
 abbrev pub packetLimit : ℕ → ℕ
-packetLimit n = 2 * (n * (n - 1))
+packetLimit columns = 2 * (columns * (columns - 1))
 
 -- "no bank of N columns, however stepped from fresh, has more": every packet of the network counts, whether its sender runs or has halted,
 -- and as often as it is there. N is the count of the bank's table, by `KeepsTree` of Companions.
@@ -24,7 +24,7 @@ At480 = AfterEveryList (λ w. w .state .bank .count ≤ 480)
 
 -- a lower limit, and nearly met: 434 of the 435 for 16 have been under way (`crowded` of `tests/generators/script_makers.py`)
 abbrev pub packetBound : ℕ → ℕ
-packetBound n = (n - 1) * (2 * n - 3)
+packetBound columns = (columns - 1) * (2 * columns - 3)
 
 abbrev pub WithinPacketBound : Type 0
 WithinPacketBound = AfterEveryList (λ w. w .state .bank .count ≤ packetBound (columnsOf w))

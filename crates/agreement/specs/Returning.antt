@@ -1,4 +1,4 @@
--- Document 02, Point 7: what a return leaves, in any bank and after every list of lines from fresh.
+-- Document 02, Point 7: what a return leaves, in any bank and after every list of commands from fresh.
 use Prim.Native.Nat.{ℕ, _<_}
 use mathlib.Core.Path.{_≡_}
 use mathlib.Core.Bool.{true}

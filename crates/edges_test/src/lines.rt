@@ -9,7 +9,7 @@ use bank::step::perform;
 use column::packet::CAPACITY;
 use column::tree::ASCENDING;
 use column::tree::Tree;
-use script::line::Line;
+use script::line::Parsed;
 use script::line::parse;
 
 const TREE: Tree = Tree {
@@ -33,10 +33,10 @@ fn line(text: &[u8]) {
     print(text);
     print(b": ");
     match parse(text) {
-        Line::Perform(x) => print_answer(performed(x)),
-        Line::List(_) => print(b"a list"),
-        Line::Dispatch(limit) => print_number(b"a run of at most ", limit as u64),
-        Line::Unread => print_answer(Answer::Refused(13)),
+        Parsed::Perform(x) => print_answer(performed(x)),
+        Parsed::List(_) => print(b"a list"),
+        Parsed::Dispatch(limit) => print_number(b"a run of at most ", limit as u64),
+        Parsed::Unread => print_answer(Answer::Refused(13)),
     }
     print(b"\n");
 }

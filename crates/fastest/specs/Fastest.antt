@@ -8,9 +8,9 @@ use Rattle.fastest.specs.Schedules.{count, arrival, Keeps, CompleteBy, F
 use Rattle.fastest.specs.Strategy.{fastestTree, fastestSent}
 use Rattle.fastest.specs.Formula.{sum, Formula}
 
--- when column c of the strategy's tree has the message
+-- when column j of the strategy's tree has the message
 abbrev pub fastestArrival : ℕ → ℕ → ℕ → ℕ → ℕ
-fastestArrival columns delay gap c = arrival delay (fastestTree columns delay gap) (fastestSent delay gap) c
+fastestArrival columns delay gap j = arrival delay (fastestTree columns delay gap) (fastestSent delay gap) j
 
 -- "complete at time 4": when the last column has it
 abbrev pub completion : ℕ → ℕ → ℕ → ℕ
@@ -18,7 +18,7 @@ completion columns delay gap = fastestArrival columns delay gap (columns - 1)
 
 -- "the number of columns arriving at each time"
 abbrev pub arrivedAt : (ℕ → ℕ) → ℕ → ℕ → ℕ
-arrivedAt arrival n time = count (λ c. eqb (arrival c) time) n
+arrivedAt arrival columns time = count (λ j. eqb (arrival j) time) columns
 
 abbrev pub arrivals : ℕ → ℕ → ℕ → ℕ → ℕ
 arrivals columns delay gap time = arrivedAt (fastestArrival columns delay gap) columns time
@@ -41,8 +41,8 @@ pub record Scheduled (columns delay gap : ℕ) : Type 0 where
   pub completes : CompleteBy delay (fastestTree columns delay gap) (fastestSent delay gap) (completion columns delay gap)
   pub follows : Follows delay gap (fastestTree columns delay gap) (fastestSent delay gap)
   -- a column sends to its children in ascending numbers, as it does by a table that names no sequence
-  pub ascends : (b c : ℕ) → 0 < b → b < c → c < columns → parent (fastestTree columns delay gap) b ≡ parent (fastestTree columns delay gap) c
-      → fastestSent delay gap b + gap ≤ fastestSent delay gap c
+  pub ascends : (i j : ℕ) → 0 < i → i < j → j < columns → parent (fastestTree columns delay gap) i ≡ parent (fastestTree columns delay gap) j
+      → fastestSent delay gap i + gap ≤ fastestSent delay gap j
 
 abbrev pub IsScheduled : Type 0
 IsScheduled = ForEvery Scheduled
@@ -50,7 +50,7 @@ IsScheduled = ForEvery Scheduled
 -- nothing else is as the words say
 abbrev pub IsOnly : Type 0
 IsOnly = ForEvery (λ columns delay gap. (t : Tree) (sent : ℕ → ℕ) → IsTree t → t .columns ≡ columns → Follows delay gap t sent
-    → (c : ℕ) → 0 < c → c < columns → (parent t c ≡ parent (fastestTree columns delay gap) c) × (sent c ≡ fastestSent delay gap c))
+    → (j : ℕ) → 0 < j → j < columns → (parent t j ≡ parent (fastestTree columns delay gap) j) × (sent j ≡ fastestSent delay gap j))
 
 -- "No tree and schedule that keep to D and E complete earlier."
 abbrev pub NoneEarlier : Type 0

@@ -4,10 +4,10 @@ use mathlib.Core.Path.{_≡_}
 use mathlib.Core.Bool.{cond}
 use lib.Dec.{eqb, leb}
 
--- f 0 + .. , n terms
+-- f 0 + .. , k terms
 unfoldable pub sum : (ℕ → ℕ) → ℕ → ℕ
 sum f zero = 0
-sum f (suc n) = sum f n + f n
+sum f (suc k) = sum f k + f k
 
 -- R(time - back); "0 if t < 0"
 unfoldable pub ago : (ℕ → ℕ) → ℕ → ℕ → ℕ

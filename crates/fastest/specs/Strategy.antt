@@ -12,36 +12,36 @@ use Rattle.fastest.specs.declared.strategy.Plan.{Plan}
 
 -- ---- which column sends next, and when
 
--- of the first n columns the one that sends next; of several the lowest
+-- of the first k columns the one that sends next; of several the lowest
 unfoldable pub soonest : List ℕ → ℕ → ℕ
 soonest next zero = 0
-soonest next (suc n) = cond (ltb (getD next n 0) (getD next (soonest next n) 0)) n (soonest next n)
+soonest next (suc k) = cond (ltb (getD next k 0) (getD next (soonest next k) 0)) k (soonest next k)
 
 abbrev pub turn : List ℕ → ℕ → ℕ
-turn next n = getD next (soonest next n) 0
+turn next columns = getD next (soonest next columns) 0
 
 -- ---- a tree that grows: each column's parent, and when it sends next
 
 abbrev pub growth : List ℕ → List ℕ → Growth
 growth up next = record { up = up; next = next }
 
--- column c is sent to at a time: "A column relays when it has the message and every E units after, and arrival is D units later"
+-- column j is sent to at a time: "A column relays when it has the message and every E units after, and arrival is D units later"
 abbrev pub sentTo : ℕ → ℕ → ℕ → ℕ → ℕ → Growth → Growth
-sentTo delay gap c sender time g =
-    growth (set (g .up) c sender) (set (set (g .next) sender (time + gap)) c (time + delay))
+sentTo delay gap j sender time g =
+    growth (set (g .up) j sender) (set (set (g .next) sender (time + gap)) j (time + delay))
 
--- "Columns are numbered by arrival, ties by the sender's number": column c is the one that is sent to next
+-- "Columns are numbered by arrival, ties by the sender's number": column j is the one that is sent to next
 unfoldable pub withColumn : ℕ → ℕ → ℕ → Growth → Growth
-withColumn delay gap c g = sentTo delay gap c (soonest (g .next) c) (turn (g .next) c) g
+withColumn delay gap j g = sentTo delay gap j (soonest (g .next) j) (turn (g .next) j) g
 
 -- the root alone: it has the message, and sends, at 0
 abbrev pub rootAlone : Growth
 rootAlone = growth (replicate 16 0) (replicate 16 0)
 
--- the root and n more
+-- the root and k more
 unfoldable pub grown : ℕ → ℕ → ℕ → Growth
 grown delay gap zero = rootAlone
-grown delay gap (suc n) = withColumn delay gap (suc n) (grown delay gap n)
+grown delay gap (suc k) = withColumn delay gap (suc k) (grown delay gap k)
 
 -- ---- the tree and its schedule
 
@@ -52,7 +52,7 @@ fastestTree columns delay gap = treeOf columns 0 (grown delay gap (columns - 1) 
 -- when each column other than the root is sent the message, however many follow it
 unfoldable pub fastestSent : ℕ → ℕ → ℕ → ℕ
 fastestSent delay gap zero = 0
-fastestSent delay gap (suc n) = turn (grown delay gap n .next) (suc n)
+fastestSent delay gap (suc k) = turn (grown delay gap k .next) (suc k)
 
 -- ---- refusals: "17 for D or E not 1 to 255, tested after 2"
 

@@ -75,7 +75,7 @@ takeAgain (refused n c) again = record { column = c; put = []; through = false }
 
 unfoldable pub repeatTake : ℕ → Tree → ℕ → Column → Packet → Repeated
 repeatTake zero t i c p = record { column = c; put = []; through = false }
-repeatTake (suc n) t i c p = takeAgain (steps.take t i c p) (λ d. repeatTake n t i d p)
+repeatTake (suc most) t i c p = takeAgain (steps.take t i c p) (λ next. repeatTake most t i next p)
 
 -- an ack is repeated until nobody is owed
 abbrev pub ackAgain : Result → (Column → Repeated) → Repeated
@@ -84,10 +84,10 @@ ackAgain (refused n c) again = record { column = c; put = []; through = false }
 
 unfoldable pub repeatAck : ℕ → Tree → ℕ → Column → Repeated
 repeatAck zero t i c = record { column = c; put = []; through = eqb (c .owed) 0 }
-repeatAck (suc n) t i c =
+repeatAck (suc most) t i c =
     cond (eqb (c .owed) 0)
     (record { column = c; put = []; through = true })
-    (ackAgain (steps.ack t i c) (λ d. repeatAck n t i d))
+    (ackAgain (steps.ack t i c) (λ next. repeatAck most t i next))
 
 -- a repeated step that is through and makes what a command makes, with the same packets in the order of service
 pub record RepeatMakes (t : Tree) (i : ℕ) (noted : ℕ) (repeated : Repeated) (made : Made) : Type 0 where

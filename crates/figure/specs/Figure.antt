@@ -48,10 +48,10 @@ less a b = bitXor (join a b) b
 abbrev pub SUCC : Tree → ℕ → ℕ
 SUCC t s = selected (λ q. has s (parent t q) && not (eqb q (t .root))) (t .columns)
 
--- the members below n, lowest first: the order of service
+-- the members below k, lowest first: the order of service
 unfoldable pub membersBelow : ℕ → ℕ → List ℕ
 membersBelow s zero = []
-membersBelow s (suc n) = membersBelow s n ++ cond (has s n) (n ∷ []) []
+membersBelow s (suc k) = membersBelow s k ++ cond (has s k) (k ∷ []) []
 
 -- ---- messages
 

@@ -45,7 +45,7 @@ abbrev pub leftInPlace : ℕ
 leftInPlace = 100
 
 abbrev pub answerOf : Given ℕ → ℕ
-answerOf (given n) = n
+answerOf (given answer) = answer
 answerOf (refused n) = refusedBy + n
 
 -- what is answered where blocks are what they must be
@@ -95,7 +95,7 @@ abbrev pub packetSize : ℕ
 packetSize = messageSize wide
 
 abbrev pub sizeLeft : Given ℕ → List ℕ → List ℕ → Filled
-sizeLeft (given n) bytes old = filledMeant n bytes
+sizeLeft (given size) bytes old = filledMeant size bytes
 sizeLeft (refused n) bytes old = unfilled n old
 
 abbrev pub packetLeft : Wrote → List ℕ → Filled

@@ -54,10 +54,10 @@ lineJudged owner way unread other number = refused 19
 -- "kind, other column and number (one to ten digits, no leading zero ..), divided by commas"
 unfoldable pub linePieces : ℕ → Way → List (List ℕ) → Given Line
 linePieces owner way [] = refused 19
-linePieces owner way (a ∷ []) = refused 19
-linePieces owner way (a ∷ b ∷ []) = refused 19
-linePieces owner way (a ∷ b ∷ c ∷ []) = lineJudged owner way (numeral 1 a) (numeral 2 b) (numeral 10 c)
-linePieces owner way (a ∷ b ∷ c ∷ d ∷ l) = refused 19
+linePieces owner way (kind ∷ []) = refused 19
+linePieces owner way (kind ∷ other ∷ []) = refused 19
+linePieces owner way (kind ∷ other ∷ number ∷ []) = lineJudged owner way (numeral 1 kind) (numeral 2 other) (numeral 10 number)
+linePieces owner way (kind ∷ other ∷ number ∷ more ∷ l) = refused 19
 
 unfoldable pub lineIn : ℕ → Way → Reading (List ℕ) → Given Line
 lineIn owner way (read l) = linePieces owner way (pieces l)
@@ -207,7 +207,7 @@ journalText owner l = columnKey ++ (decimal owner ++ (newline ∷ linesText l))
 
 -- what the call answers, and the whole buffer after it
 abbrev pub comparedMeant : Compared → List ℕ → Listed
-comparedMeant (compared-is.Length n) out = record { answer = given n; buffer = out }
+comparedMeant (compared-is.Length size) out = record { answer = given size; buffer = out }
 comparedMeant (compared-is.Refused n) out = record { answer = refused n; buffer = out }
 
 -- no line twice

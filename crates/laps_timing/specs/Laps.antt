@@ -27,9 +27,9 @@ heapWith columns r = record { columns = columns; root = r; up = parentsWith r; f
 abbrev range : ℕ
 range = 16777216
 
--- the sum after a lap that left n
+-- the sum after a lap that left a value
 abbrev pub folded : ℕ → ℕ → ℕ
-folded sum n = (sum % range * 31 + n % range) % range
+folded sum value = (sum % range * 31 + value % range) % range
 
 -- ---- the number
 

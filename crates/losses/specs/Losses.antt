@@ -62,19 +62,19 @@ abbrev pub oneIf : Bool → ℕ
 oneIf true = 1
 oneIf false = 0
 
--- how many sets of the first n pass a test; set m has column i where bit i of m is 1, and 0 is the empty set
+-- how many sets of the first k pass a test; set m has column i where bit i of m is 1, and 0 is the empty set
 unfoldable pub counted : (ℕ → Bool) → ℕ → ℕ
 counted f zero = 0
-counted f (suc n) = counted f n + oneIf (f n)
+counted f (suc k) = counted f k + oneIf (f k)
 
 abbrev pub losses : ℕ → ℕ → ℕ → ℕ → Losses
 losses refusal kept lost none = record { refusal = refusal; kept = kept; lost = lost; none = none }
 
--- "how many sets end with record 1, how many with record 0, and how many with no column running", of the first n
+-- "how many sets end with record 1, how many with record 0, and how many with no column running", of the first sets
 abbrev pub countedTo : State → ℕ → Losses
-countedTo s n =
-    losses 0 (counted (λ m. endsWith 1 (ended s m .bank)) n) (counted (λ m. endsWith 0 (ended s m .bank)) n)
-    (counted (λ m. nobodyRuns (ended s m .bank)) n)
+countedTo s sets =
+    losses 0 (counted (λ m. endsWith 1 (ended s m .bank)) sets) (counted (λ m. endsWith 0 (ended s m .bank)) sets)
+    (counted (λ m. nobodyRuns (ended s m .bank)) sets)
 
 -- "for every set of columns"
 abbrev pub countedOf : State → Losses

@@ -10,8 +10,8 @@ use Rattle.text.specs.Text.{orderKey, sendKey, takeKey, ackKey, allKey, noteKey
 use Rattle.text.specs.Pieces.{pieces, numerals, keyed}
 use Rattle.bank.specs.declared.bank.Step.{Step}
 use Rattle.bank.specs.declared.bank.Step.the-variants.{Order, Send, Take, Ack, All, Note, Halt, Back}
-use Rattle.script.specs.declared.line.Line as line
-use Rattle.script.specs.declared.line.Line.the-variants as line-is
+use Rattle.script.specs.declared.line.Parsed as parsed
+use Rattle.script.specs.declared.line.Parsed.the-variants as parsed-is
 
 -- what a line asks for
 pub data Command : Type 0 where
@@ -19,12 +19,12 @@ pub data Command : Type 0 where
   list : ℕ → Command
   dispatch : ℕ → Command
 
--- the values of each case of `Line`
-abbrev pub lineMeant : line.Line → Reading Command
-lineMeant (line-is.Perform x) = read (perform x)
-lineMeant (line-is.List i) = read (list i)
-lineMeant (line-is.Dispatch limit) = read (dispatch limit)
-lineMeant line-is.Unread = unread
+-- the values of each case of `Parsed`
+abbrev pub parsedMeant : parsed.Parsed → Reading Command
+parsedMeant (parsed-is.Perform x) = read (perform x)
+parsedMeant (parsed-is.List i) = read (list i)
+parsedMeant (parsed-is.Dispatch limit) = read (dispatch limit)
+parsedMeant parsed-is.Unread = unread
 
 -- ---- "`order=` with 16 lowercase hexadecimal digits (byte 0 first)"
 

@@ -12,13 +12,14 @@ ghost use mathlib.Core.Path.{_≡_};
 ghost use Rattle.column.specs.Sets.{insert};
 ghost use Rattle.text.specs.Text.{read, orderKey, noteKey, haltKey, afterKey};
 ghost use Rattle.text.specs.Pieces.{pieces, numerals, keyed};
-ghost use Rattle.script.specs.Lines.{lineMeant, asking, doorsIn, noteIn, memberOf, haltAfter, haltIn, commandOf};
+ghost use Rattle.script.specs.Lines.{parsedMeant, asking, doorsIn, noteIn, memberOf, haltAfter, haltIn, commandOf};
 ghost use Rattle.script.specs.inner.ScriptLines.{asked};
 
 // The set of column 16, which no bank has.
 const SIXTEEN: u32 = 65536;
 
-pub enum Line {
+// What a line asks for.
+pub enum Parsed {
     Perform(Step),
     List(usize),
     Dispatch(usize),
@@ -36,59 +37,59 @@ enum Asked {
     Run,
 }
 
-fn command(kind: Asked, n: usize) -> Line
-    ensures { λ r. ⌜ lineMeant r ≡ read (asked kind n) ⌝ }
+fn command(kind: Asked, n: usize) -> Parsed
+    ensures { λ r. ⌜ parsedMeant r ≡ read (asked kind n) ⌝ }
 {
     match kind {
-        Asked::Send => Line::Perform(Step::Send(n)),
-        Asked::Take => Line::Perform(Step::Take(n)),
-        Asked::Ack => Line::Perform(Step::Ack(n)),
-        Asked::All => Line::Perform(Step::All(n)),
-        Asked::Back => Line::Perform(Step::Back(n)),
-        Asked::List => Line::List(n),
-        Asked::Run => Line::Dispatch(n),
+        Asked::Send => Parsed::Perform(Step::Send(n)),
+        Asked::Take => Parsed::Perform(Step::Take(n)),
+        Asked::Ack => Parsed::Perform(Step::Ack(n)),
+        Asked::All => Parsed::Perform(Step::All(n)),
+        Asked::Back => Parsed::Perform(Step::Back(n)),
+        Asked::List => Parsed::List(n),
+        Asked::Run => Parsed::Dispatch(n),
     }
 }
 
-fn numbered(line: &[u8], key: &[u8], width: usize, kind: Asked) -> Line
+fn numbered(line: &[u8], key: &[u8], width: usize, kind: Asked) -> Parsed
     requires { ⌜ width ≤ 4 ⌝ }
-    ensures { λ r. ⌜ lineMeant r ≡ asking (asked kind) (keyed (now (key .entry)) width (now (line .entry))) ⌝ }
+    ensures { λ r. ⌜ parsedMeant r ≡ asking (asked kind) (keyed (now (key .entry)) width (now (line .entry))) ⌝ }
 {
     match read_keyed(line, key, width) {
         Number::Is(n) => command(kind, n),
-        Number::Unread => Line::Unread,
+        Number::Unread => Parsed::Unread,
     }
 }
 
-fn order(line: &[u8]) -> Line
-    ensures { λ r. ⌜ lineMeant r ≡ doorsIn (afterKey orderKey (now (line .entry))) ⌝ }
+fn order(line: &[u8]) -> Parsed
+    ensures { λ r. ⌜ parsedMeant r ≡ doorsIn (afterKey orderKey (now (line .entry))) ⌝ }
 {
     if !starts_with(line, b"order=") {
-        return Line::Unread;
+        return Parsed::Unread;
     }
     match read_doors(&line[6..]) {
-        Doors::Are(doors) => Line::Perform(Step::Order(doors)),
-        Doors::Unread => Line::Unread,
+        Doors::Are(doors) => Parsed::Perform(Step::Order(doors)),
+        Doors::Unread => Parsed::Unread,
     }
 }
 
 // A second comma is no digit, so that what stands after the first is read only where there is no other.
-fn note(line: &[u8]) -> Line
-    ensures { λ r. ⌜ lineMeant r ≡ noteIn (afterKey noteKey (now (line .entry))) ⌝ }
+fn note(line: &[u8]) -> Parsed
+    ensures { λ r. ⌜ parsedMeant r ≡ noteIn (afterKey noteKey (now (line .entry))) ⌝ }
 {
     if !starts_with(line, b"note=") {
-        return Line::Unread;
+        return Parsed::Unread;
     }
     let end = line.len();
     let comma = find(line, 5, end, b',');
     if comma == end {
-        return Line::Unread;
+        return Parsed::Unread;
     }
     match read_numeral(&line[5..comma], 2) {
-        Number::Unread => Line::Unread,
+        Number::Unread => Parsed::Unread,
         Number::Is(i) => match read_numeral(&line[comma + 1..], 2) {
-            Number::Unread => Line::Unread,
-            Number::Is(j) => Line::Perform(Step::Note(i, j)),
+            Number::Unread => Parsed::Unread,
+            Number::Is(j) => Parsed::Perform(Step::Note(i, j)),
         },
     }
 }
@@ -104,8 +105,8 @@ fn with_member(m: u32, n: usize) -> u32
 }
 
 // The numerals of a text divided by commas, as a set.
-fn members_in(text: &[u8]) -> Line
-    ensures { λ r. ⌜ lineMeant r ≡ haltAfter 0 (numerals (pieces (now (text .entry)))) ⌝ }
+fn members_in(text: &[u8]) -> Parsed
+    ensures { λ r. ⌜ parsedMeant r ≡ haltAfter 0 (numerals (pieces (now (text .entry)))) ⌝ }
 {
     let mut set: u32 = 0;
     let mut from: usize = 0;
@@ -113,28 +114,28 @@ fn members_in(text: &[u8]) -> Line
         let to = find(text, from, text.len(), b',');
         match read_numeral(&text[from..to], 2) {
             Number::Is(n) => set = with_member(set, n),
-            Number::Unread => return Line::Unread,
+            Number::Unread => return Parsed::Unread,
         }
         from = to + 1;
     }
-    Line::Perform(Step::Halt(set))
+    Parsed::Perform(Step::Halt(set))
 }
 
-fn halt(line: &[u8]) -> Line
-    ensures { λ r. ⌜ lineMeant r ≡ haltIn (afterKey haltKey (now (line .entry))) ⌝ }
+fn halt(line: &[u8]) -> Parsed
+    ensures { λ r. ⌜ parsedMeant r ≡ haltIn (afterKey haltKey (now (line .entry))) ⌝ }
 {
     if !starts_with(line, b"halt=") {
-        return Line::Unread;
+        return Parsed::Unread;
     }
     members_in(&line[5..])
 }
 
 // What a line asks for, its byte 10 left out; `Unread` where it is of no form. No two keys but `ack=` and `all=` begin with the same byte.
-pub fn parse(line: &[u8]) -> Line
-    ensures { λ r. ⌜ lineMeant r ≡ commandOf (now (line .entry)) ⌝ }
+pub fn parse(line: &[u8]) -> Parsed
+    ensures { λ r. ⌜ parsedMeant r ≡ commandOf (now (line .entry)) ⌝ }
 {
     if line.len() < 2 {
-        return Line::Unread;
+        return Parsed::Unread;
     }
     match line[0] {
         b'o' => order(line),
@@ -149,6 +150,6 @@ pub fn parse(line: &[u8]) -> Line
         b'b' => numbered(line, b"back=", 2, Asked::Back),
         b'l' => numbered(line, b"list=", 2, Asked::List),
         b'r' => numbered(line, b"run=", 4, Asked::Run),
-        _ => Line::Unread,
+        _ => Parsed::Unread,
     }
 }

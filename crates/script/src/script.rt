@@ -3,7 +3,7 @@
 use crate::answer::put_column;
 use crate::answer::put_refused;
 use crate::answer::put_step;
-use crate::line::Line;
+use crate::line::Parsed;
 use crate::line::parse;
 use crate::whole_line::by_place;
 use crate::whole_line::whole_line;
@@ -52,7 +52,7 @@ pub struct Run {
 }
 
 struct NextLine {
-    line: Line,
+    parsed: Parsed,
     // Where the line after it begins.
     next: usize,
 }
@@ -88,13 +88,13 @@ fn next_line(input: &[u8], start: usize) -> NextLine
     let end = find(input, start, input.len(), b'\n');
     if end == input.len() {
         return NextLine {
-            line: Line::Unread,
+            parsed: Parsed::Unread,
             next: end,
         };
     }
-    let line = parse(&input[start..end]);
+    let parsed = parse(&input[start..end]);
     let next = end + 1;
-    NextLine { line, next }
+    NextLine { parsed, next }
 }
 
 // The next lines, until all are read or the buffer is full. The bank is a local all through them. It is tested where a line that goes by place follows one that
@@ -110,9 +110,9 @@ fn lines(r: Run, input: &[u8], heads: &mut Words, doors: &mut Words, out: &mut [
     while (at <= ROOM) & (position < input.len()) {
         let read = next_line(input, position);
         position = read.next;
-        let line = read.line;
-        if !by_place(line) {
-            let done = whole_line(bank, line, heads, doors, out, at);
+        let parsed = read.parsed;
+        if !by_place(parsed) {
+            let done = whole_line(bank, parsed, heads, doors, out, at);
             bank = done.bank;
             at = done.end;
             v = untested();
@@ -121,8 +121,8 @@ fn lines(r: Run, input: &[u8], heads: &mut Words, doors: &mut Words, out: &mut [
                 v = test_bank(bank, heads);
             }
             let t = bank.tree;
-            match line {
-                Line::Perform(x) => {
+            match parsed {
+                Parsed::Perform(x) => {
                     let i = acting(t, x, heads);
                     let done = step_on(v, t, x, i, bank.columns[i % 16], bank.count, heads, doors);
                     let c = done.column;
@@ -132,8 +132,8 @@ fn lines(r: Run, input: &[u8], heads: &mut Words, doors: &mut Words, out: &mut [
                     let answer = done.answer;
                     at = put_step(answer, out, at);
                 }
-                Line::List(i) => at = put_column(v, t.columns, i, bank.columns[i % 16], out, at),
-                Line::Dispatch(_) | Line::Unread => at = put_refused(out, at, 13),
+                Parsed::List(i) => at = put_column(v, t.columns, i, bank.columns[i % 16], out, at),
+                Parsed::Dispatch(_) | Parsed::Unread => at = put_refused(out, at, 13),
             }
         }
     }

@@ -1,7 +1,7 @@
 // The lines of a script that may change more of a bank than one place and the newest packet: a halt, a return, a dispatch. They take the whole bank.
 use crate::answer::put_dispatched;
 use crate::answer::put_step;
-use crate::line::Line;
+use crate::line::Parsed;
 use bank::bank::Answer;
 use bank::bank::Bank;
 use bank::bank::Outcome;
@@ -21,7 +21,7 @@ ghost use Rattle.bank.specs.StepKinds.{isMove};
 ghost use Rattle.bank.specs.Performs.{perform};
 ghost use Rattle.bank.specs.Steps.{outcomeMeant};
 ghost use Rattle.list.specs.Closing.{longestList};
-ghost use Rattle.script.specs.Lines.{lineMeant};
+ghost use Rattle.script.specs.Lines.{parsedMeant};
 ghost use Rattle.script.specs.Scripts.{answered};
 ghost use Rattle.script.specs.inner.ScriptLines.{Answers, byPlace};
 
@@ -32,14 +32,14 @@ pub(crate) struct LineDone {
 }
 
 // Whether the line rewrites the place of one column at most.
-pub(crate) fn by_place(line: Line) -> bool
-    ensures { λ r. ⌜ r ≡ byPlace line ⌝ }
+pub(crate) fn by_place(parsed: Parsed) -> bool
+    ensures { λ r. ⌜ r ≡ byPlace parsed ⌝ }
 {
-    match line {
-        Line::Perform(x) => is_move(x),
-        Line::List(_) => true,
-        Line::Dispatch(_) => false,
-        Line::Unread => true,
+    match parsed {
+        Parsed::Perform(x) => is_move(x),
+        Parsed::List(_) => true,
+        Parsed::Dispatch(_) => false,
+        Parsed::Unread => true,
     }
 }
 
@@ -73,31 +73,31 @@ fn whole_step(b: Bank, x: Step, heads: &mut Words, doors: &mut Words) -> Outcome
 // The line, which does not go by place.
 pub(crate) fn whole_line(
     b: Bank,
-    line: Line,
+    parsed: Parsed,
     heads: &mut Words,
     doors: &mut Words,
     out: &mut [u8],
     at: usize,
 ) -> LineDone
-    requires { ⌜ (byPlace line ≡ false) × (at + longestList ≤ length (now out)) ⌝ }
-    ensures { λ r. ⌜ Answers (answered (state b (now (heads .entry)) (now (doors .entry))) (lineMeant line)) (r .bank) (now (heads .exit)) (now (doors .exit)) (r .end) (now (out .exit)) (now (out .entry)) at ⌝ }
+    requires { ⌜ (byPlace parsed ≡ false) × (at + longestList ≤ length (now out)) ⌝ }
+    ensures { λ r. ⌜ Answers (answered (state b (now (heads .entry)) (now (doors .entry))) (parsedMeant parsed)) (r .bank) (now (heads .exit)) (now (doors .exit)) (r .end) (now (out .exit)) (now (out .entry)) at ⌝ }
 {
-    match line {
-        Line::Perform(x) => {
+    match parsed {
+        Parsed::Perform(x) => {
             let done = whole_step(b, x, heads, doors);
             let answer = done.answer;
             let bank = done.bank;
             let end = put_step(answer, out, at);
             LineDone { bank, end }
         }
-        Line::Dispatch(limit) => {
+        Parsed::Dispatch(limit) => {
             let done = dispatch(b, limit, heads, doors);
             let answer = done.answer;
             let bank = done.bank;
             let end = put_dispatched(answer, done.steps, out, at);
             LineDone { bank, end }
         }
-        Line::List(_) => LineDone { bank: b, end: at },
-        Line::Unread => LineDone { bank: b, end: at },
+        Parsed::List(_) => LineDone { bank: b, end: at },
+        Parsed::Unread => LineDone { bank: b, end: at },
     }
 }

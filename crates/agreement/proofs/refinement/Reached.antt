@@ -29,7 +29,7 @@ use Rattle.bank.specs.laws.strips.StripLaws.{singly, listed, distinct-listed, m
 use Rattle.bank.specs.laws.RestSteps.{unchanged}
 use Rattle.bank.specs.declared.bank.Step.{Step}
 use Rattle.bank.specs.declared.bank.Step.the-variants.{Order, Send, Take, Ack, All, Note, Halt, Back, Write}
-use Rattle.agreement.specs.History.{World, rootOf, receivedAfter, awaitsAfter, told, run, Line, stepsOf, follow}
+use Rattle.agreement.specs.History.{World, rootOf, receivedAfter, awaitsAfter, told, run, Command, stepsOf, follow}
 use Rattle.agreement.specs.Agreement.{begin, AfterEveryList}
 use Rattle.agreement.specs.Returning.{Formed}
 use Rattle.agreement.proofs.relation.Model as model
@@ -214,16 +214,16 @@ unfolding run
 reached w [] r = r
 reached w (x ∷ xs) r = reached (told w x (perform (w .state) x)) xs (next w x r)
 
-pub reached-lines : (w : World) (lines : List Line) → Reached w → Reached (follow w lines)
+pub reached-commands : (w : World) (commands : List Command) → Reached w → Reached (follow w commands)
 unfolding follow
-reached-lines w [] r = r
-reached-lines w (l ∷ lines) r = reached-lines (run w (stepsOf w l)) lines (reached w (stepsOf w l) r)
+reached-commands w [] r = r
+reached-commands w (x ∷ commands) r = reached-commands (run w (stepsOf w x)) commands (reached w (stepsOf w x) r)
 
--- after every list of lines from a fresh bank
+-- after every list of commands from a fresh bank
 pub after-every : (P : World → Type 0) → ((w : World) → Reached w → P w) → AfterEveryList P
-after-every P f t ok heads doors h d lines =
+after-every P f t ok heads doors h d commands =
     let w = begin t heads doors in
-    f (follow w lines) (reached-lines w lines (start t ok heads doors h d))
+    f (follow w commands) (reached-commands w commands (start t ok heads doors h d))
 
 -- ---- it passes rows 2, 3 and 4
 

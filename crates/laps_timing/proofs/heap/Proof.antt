@@ -2,14 +2,8 @@ use borrow.Author.Needs.{needs}
 use Rattle.laps_timing.proofs.heap.Statement.{statement}
 use Rattle.laps_timing.proofs.heap.Tie as tie
 
-parents-requires : tie.Need-parents-requires
-parents-requires c κs = search needs
-
-sequence-requires : tie.Need-sequence-requires
-sequence-requires c κs = search needs
-
 returns : tie.Need-returns
 returns c = rw (c .before .parents .ensures, c .sequence .ensures)
 
 pub heap-spec : {M : Type 1} → statement M
-heap-spec = tie.close (tie.spec parents-requires sequence-requires returns)
+heap-spec = tie.close (tie.spec (search needs) (search needs) returns)

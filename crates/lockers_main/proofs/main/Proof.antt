@@ -19,30 +19,9 @@ Inv-loop input n heads₀ doors₀ texts₀ run₀ k₀ heads doors texts run k 
 abbrev μ-loop : tie.MeasureT-loop
 μ-loop input n heads₀ doors₀ texts₀ run₀ k₀ heads doors texts run k = n + 2 - k
 
-slice-aggregate-read-full : tie.Need-slice-aggregate-read-full Inv-loop μ-loop
-slice-aggregate-read-full c = search needs
-
-read-full-requires : tie.Need-read-full-requires Inv-loop μ-loop
-read-full-requires c κs = search needs
-
-start-requires : tie.Need-start-requires Inv-loop μ-loop
-start-requires c κs = search needs
-
 loop-holds : tie.Need-loop-holds Inv-loop μ-loop
 unfolding filledBy
 loop-holds c = (search needs, search needs, ap (λ (r : Run). progressOf r (replicate capacity 0) (replicate capacity 0) (replicate bufferSize 0)) (c .start .ensures))
-
-add-loop : tie.Need-add-loop Inv-loop μ-loop
-add-loop c = search needs
-
-array-share-prefix-input : tie.Need-array-share-prefix-input Inv-loop μ-loop
-array-share-prefix-input c = search needs
-
-slice-aggregate-fill : tie.Need-slice-aggregate-fill Inv-loop μ-loop
-slice-aggregate-fill c = search needs
-
-fill-requires : tie.Need-fill-requires Inv-loop μ-loop
-fill-requires c κs = search needs
 
 array-share-prefix-texts : tie.Need-array-share-prefix-texts Inv-loop μ-loop
 array-share-prefix-texts c = text-within (c .fill .ensures)
@@ -50,17 +29,11 @@ array-share-prefix-texts c = text-within (c .fill .ensures)
 slice-aggregate-write-all : tie.Need-slice-aggregate-write-all Inv-loop μ-loop
 slice-aggregate-write-all c = sym (length-take-le _ _ (array-share-prefix-texts (c .before)))
 
-write-all-requires : tie.Need-write-all-requires Inv-loop μ-loop
-write-all-requires c κs = search needs
-
 returns : tie.Need-returns Inv-loop μ-loop
 returns c = search needs
 
 returns-2 : tie.Need-returns-2 Inv-loop μ-loop
 returns-2 c = search needs
-
-add-k : tie.Need-add-k Inv-loop μ-loop
-add-k c = search needs
 
 loop-less : tie.Need-loop-less Inv-loop μ-loop
 loop-less c = search needs
@@ -88,20 +61,20 @@ main-spec =
     (tie.spec
     Inv-loop
     μ-loop
-    slice-aggregate-read-full
-    read-full-requires
-    start-requires
+    (search needs)
+    (search needs)
+    (search needs)
     loop-holds
-    add-loop
-    array-share-prefix-input
-    slice-aggregate-fill
-    fill-requires
+    (search needs)
+    (search needs)
+    (search needs)
+    (search needs)
     array-share-prefix-texts
     slice-aggregate-write-all
-    write-all-requires
+    (search needs)
     returns
     returns-2
-    add-k
+    (search needs)
     loop-less
     loop-again
     returns-3)

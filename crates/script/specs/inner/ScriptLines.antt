@@ -16,13 +16,13 @@ use Rattle.bank.specs.declared.bank.Step.the-variants.{Send, Take, Ack, All, Ba
 use Rattle.bank.specs.declared.unchecked_for_script.Tested.{Tested}
 use Rattle.bank.specs.declared.bank.Answer.{Answer}
 use Rattle.script.specs.Advances.{Progress, progress, filled, mostTexts, room, Advanced, lineAdvance, progressOf, firstAdvance}
-use Rattle.script.specs.Lines.{Command, perform, list, dispatch, lineMeant}
+use Rattle.script.specs.Lines.{Command, perform, list, dispatch, parsedMeant}
 use Rattle.script.specs.Scripts.{listedText, Printed, answered, stepText, dispatchText}
 use Rattle.script.specs.declared.script.Run.{Run}
 use Rattle.script.specs.declared.line.Asked.{Asked}
 use Rattle.script.specs.declared.line.Asked.the-variants as asked-is
-use Rattle.script.specs.declared.line.Line.{Line}
-use Rattle.script.specs.declared.line.Line.the-variants as line-is
+use Rattle.script.specs.declared.line.Parsed.{Parsed}
+use Rattle.script.specs.declared.line.Parsed.the-variants as parsed-is
 use Rattle.script.specs.declared.script.NextLine.{NextLine}
 
 -- the texts so far are written over `old`, and from here the run is filled as from p
@@ -63,11 +63,11 @@ asked asked-is.Back n = perform (Back n)
 asked asked-is.List n = list n
 asked asked-is.Run n = dispatch n
 
-abbrev pub byPlace : Line → Bool
-byPlace (line-is.Perform x) = isMove x
-byPlace (line-is.List i) = true
-byPlace (line-is.Dispatch limit) = false
-byPlace line-is.Unread = true
+abbrev pub byPlace : Parsed → Bool
+byPlace (parsed-is.Perform x) = isMove x
+byPlace (parsed-is.List i) = true
+byPlace (parsed-is.Dispatch limit) = false
+byPlace parsed-is.Unread = true
 
 -- the text of a list, of every bank of which v tells and whose place is c
 abbrev pub WritesColumn : ℕ → List ℕ → List ℕ → ℕ → Tested → ℕ → ℕ → Column → Type 0
@@ -93,7 +93,7 @@ nextLine input p = lineAdvance input p (cut (drop (p .position) input))
 -- the line that begins at `start`, and where the one after it begins, whatever the bank
 abbrev pub ReadsLine : NextLine → List ℕ → ℕ → Type 0
 ReadsLine r input start =
-    (p : Progress) → p .position ≡ start → nextLine input p ≡ replied (r .next) (answered (p .state) (lineMeant (r .line)))
+    (p : Progress) → p .position ≡ start → nextLine input p ≡ replied (r .next) (answered (p .state) (parsedMeant (r .parsed)))
 
 -- the table's advance, whatever the network's words, which it leaves
 abbrev pub AdvancedFirst : Run → List ℕ → List ℕ → List ℕ → Run → Type 0

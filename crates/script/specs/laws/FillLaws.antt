@@ -18,12 +18,12 @@ use Rattle.bank.specs.Steps.{Result, accepted, refused}
 use Rattle.bank.specs.declared.bank.Bank.{Bank}
 use Rattle.table.specs.Tables.{Placed, readTable, limit}
 use Rattle.script.specs.Scripts.{restText, answered}
-use Rattle.script.specs.Lines.{lineMeant}
+use Rattle.script.specs.Lines.{parsedMeant}
 use Rattle.script.specs.Advances.{Progress, progress, Advanced, tableAdvance, firstAdvance, lineAdvance, advance, room, saying, onward, filled, mostTexts, fill}
 use Rattle.script.specs.laws.AdvanceLaws.{advance-rest, advance-line, advance-first}
 use Rattle.script.specs.inner.ScriptLines.{Answers, ReadsLine, runTo, replied, Carried, Reaches, Fills}
 use Rattle.script.specs.laws.ScriptLaws.{text-advanced}
-use Rattle.script.specs.declared.line.Line.{Line}
+use Rattle.script.specs.declared.line.Parsed.{Parsed}
 use Rattle.script.specs.declared.script.Run.{Run}
 use Rattle.script.specs.declared.script.NextLine.{NextLine}
 
@@ -136,15 +136,15 @@ module _ {input : List ℕ} {p : Progress} {s : State} {position at : ℕ} {out 
   size = omega (arith, c .left .place)
 
   -- a line more
-  pub carried-line : {b : Bank} {heads doors new : List ℕ} {r : ℕ} (l : NextLine) (line : Line) → l .line ≡ line → position < length input
+  pub carried-line : {b : Bank} {heads doors new : List ℕ} {r : ℕ} (l : NextLine) (parsed : Parsed) → l .parsed ≡ parsed → position < length input
       → at ≤ room → ReadsLine l input position → length new ≡ length old → at ≤ length out
-      → Answers (answered s (lineMeant line)) b heads doors r new out at → Carried input p (state b heads doors) (l .next) r new old
-  carried-line {b} {heads} {doors} {new} {r} l line e h fits reads kept within a =
-      let w = answered s (lineMeant line) .text in
+      → Answers (answered s (parsedMeant parsed)) b heads doors r new out at → Carried input p (state b heads doors) (l .next) r new old
+  carried-line {b} {heads} {doors} {new} {r} l parsed e h fits reads kept within a =
+      let w = answered s (parsedMeant parsed) .text in
       let is : advance input here ≡ progress (state b heads doors) (l .next) true false w =
       advance-line input here refl refl h
       ∙ reads here refl
-      ∙ ap (λ (x : Line). replied (l .next) (answered s (lineMeant x))) e
+      ∙ ap (λ (x : Parsed). replied (l .next) (answered s (parsedMeant x))) e
       ∙ ap (λ (m : State). progress m (l .next) true false w) (a .state-is) in
       let long : 0 + length (c .text ++ w) ≤ length old =
       omega (arith, length-append (c .text) w, size, a .text-is .place, writes-within within (a .text-is), kept) in

@@ -12,36 +12,6 @@ abbrev μ-loop : tie.MeasureT-loop
 loop-holds : tie.Need-loop-holds Inv-loop μ-loop
 loop-holds c = search needs
 
-mul-awaiting : tie.Need-mul-awaiting Inv-loop μ-loop
-mul-awaiting c = search needs
-
-element-copy-out-awaiting : tie.Need-element-copy-out-awaiting Inv-loop μ-loop
-element-copy-out-awaiting c = search needs
-
-awaiting-requires : tie.Need-awaiting-requires Inv-loop μ-loop
-awaiting-requires c κs = search needs
-
-mul-t16 : tie.Need-mul-t16 Inv-loop μ-loop
-mul-t16 c = search needs
-
-element-set-from-d : tie.Need-element-set-from-d Inv-loop μ-loop
-element-set-from-d c = search needs
-
-add-note : tie.Need-add-note Inv-loop μ-loop
-add-note c = search needs
-
-note-requires : tie.Need-note-requires Inv-loop μ-loop
-note-requires c κs = search needs
-
-element-copy-out-folded : tie.Need-element-copy-out-folded Inv-loop μ-loop
-element-copy-out-folded c = search needs
-
-folded-requires : tie.Need-folded-requires Inv-loop μ-loop
-folded-requires c κs = search needs
-
-add-lap : tie.Need-add-lap Inv-loop μ-loop
-add-lap c = search needs
-
 loop-less : tie.Need-loop-less Inv-loop μ-loop
 loop-less c = search needs
 
@@ -58,16 +28,16 @@ notes-spec =
     Inv-loop
     μ-loop
     loop-holds
-    mul-awaiting
-    element-copy-out-awaiting
-    awaiting-requires
-    mul-t16
-    element-set-from-d
-    add-note
-    note-requires
-    element-copy-out-folded
-    folded-requires
-    add-lap
+    (search needs)
+    (search needs)
+    (search needs)
+    (search needs)
+    (search needs)
+    (search needs)
+    (search needs)
+    (search needs)
+    (search needs)
+    (search needs)
     loop-less
     loop-again
     returns)

@@ -12,18 +12,6 @@ abbrev μ-loop : tie.MeasureT-loop
 loop-holds : tie.Need-loop-holds Inv-loop μ-loop
 loop-holds c = search needs
 
-turned-requires : tie.Need-turned-requires Inv-loop μ-loop
-turned-requires c κs = search needs
-
-element-copy-out-folded : tie.Need-element-copy-out-folded Inv-loop μ-loop
-element-copy-out-folded c = search needs
-
-folded-requires : tie.Need-folded-requires Inv-loop μ-loop
-folded-requires c κs = search needs
-
-add-lap : tie.Need-add-lap Inv-loop μ-loop
-add-lap c = search needs
-
 loop-less : tie.Need-loop-less Inv-loop μ-loop
 loop-less c = search needs
 
@@ -34,16 +22,4 @@ returns : tie.Need-returns Inv-loop μ-loop
 returns c = search needs
 
 pub turns-spec : {M : Type 1} → statement M
-turns-spec =
-    tie.close
-    (tie.spec
-    Inv-loop
-    μ-loop
-    loop-holds
-    turned-requires
-    element-copy-out-folded
-    folded-requires
-    add-lap
-    loop-less
-    loop-again
-    returns)
+turns-spec = tie.close (tie.spec Inv-loop μ-loop loop-holds (search needs) (search needs) (search needs) (search needs) loop-less loop-again returns)

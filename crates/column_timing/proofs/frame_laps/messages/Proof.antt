@@ -12,15 +12,6 @@ abbrev μ-loop : tie.MeasureT-loop
 loop-holds : tie.Need-loop-holds Inv-loop μ-loop
 loop-holds c = search needs
 
-array-read-frame : tie.Need-array-read-frame Inv-loop μ-loop
-array-read-frame c = search needs
-
-array-write-frame : tie.Need-array-write-frame Inv-loop μ-loop
-array-write-frame c = search needs
-
-add-i : tie.Need-add-i Inv-loop μ-loop
-add-i c = search needs
-
 loop-less : tie.Need-loop-less Inv-loop μ-loop
 loop-less c = search needs
 
@@ -31,15 +22,4 @@ returns : tie.Need-returns Inv-loop μ-loop
 returns c = search needs
 
 pub messages-spec : {M : Type 1} → statement M
-messages-spec =
-    tie.close
-    (tie.spec
-    Inv-loop
-    μ-loop
-    loop-holds
-    array-read-frame
-    array-write-frame
-    add-i
-    loop-less
-    loop-again
-    returns)
+messages-spec = tie.close (tie.spec Inv-loop μ-loop loop-holds (search needs) (search needs) (search needs) loop-less loop-again returns)

@@ -12,15 +12,6 @@ abbrev μ-loop : tie.MeasureT-loop
 loop-holds : tie.Need-loop-holds Inv-loop μ-loop
 loop-holds c = search needs
 
-lap-of-requires : tie.Need-lap-of-requires Inv-loop μ-loop
-lap-of-requires c κs = search needs
-
-fold-requires : tie.Need-fold-requires Inv-loop μ-loop
-fold-requires c κs = search needs
-
-add-lap : tie.Need-add-lap Inv-loop μ-loop
-add-lap c = search needs
-
 loop-less : tie.Need-loop-less Inv-loop μ-loop
 loop-less c = search needs
 
@@ -31,15 +22,4 @@ returns : tie.Need-returns Inv-loop μ-loop
 returns c = search needs
 
 pub laps-of-spec : {M : Type 1} → statement M
-laps-of-spec =
-    tie.close
-    (tie.spec
-    Inv-loop
-    μ-loop
-    loop-holds
-    lap-of-requires
-    fold-requires
-    add-lap
-    loop-less
-    loop-again
-    returns)
+laps-of-spec = tie.close (tie.spec Inv-loop μ-loop loop-holds (search needs) (search needs) (search needs) loop-less loop-again returns)

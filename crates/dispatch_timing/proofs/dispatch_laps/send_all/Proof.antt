@@ -12,12 +12,6 @@ abbrev μ-loop : tie.MeasureT-loop
 loop-holds : tie.Need-loop-holds Inv-loop μ-loop
 loop-holds c = search needs
 
-send-requires : tie.Need-send-requires Inv-loop μ-loop
-send-requires c κs = search needs
-
-add-k : tie.Need-add-k Inv-loop μ-loop
-add-k c = search needs
-
 loop-less : tie.Need-loop-less Inv-loop μ-loop
 loop-less c = search needs
 
@@ -28,6 +22,4 @@ returns : tie.Need-returns Inv-loop μ-loop
 returns c = search needs
 
 pub send-all-spec : {M : Type 1} → statement M
-send-all-spec =
-    tie.close
-    (tie.spec Inv-loop μ-loop loop-holds send-requires add-k loop-less loop-again returns)
+send-all-spec = tie.close (tie.spec Inv-loop μ-loop loop-holds (search needs) (search needs) loop-less loop-again returns)

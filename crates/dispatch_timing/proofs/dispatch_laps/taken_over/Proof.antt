@@ -12,18 +12,6 @@ abbrev μ-loop : tie.MeasureT-loop
 loop-holds : tie.Need-loop-holds Inv-loop μ-loop
 loop-holds c = search needs
 
-prepared-requires : tie.Need-prepared-requires Inv-loop μ-loop
-prepared-requires c κs = search needs
-
-all-requires : tie.Need-all-requires Inv-loop μ-loop
-all-requires c κs = search needs
-
-send-all-requires : tie.Need-send-all-requires Inv-loop μ-loop
-send-all-requires c κs = search needs
-
-add-i : tie.Need-add-i Inv-loop μ-loop
-add-i c = search needs
-
 loop-less : tie.Need-loop-less Inv-loop μ-loop
 loop-less c = search needs
 
@@ -34,16 +22,4 @@ returns : tie.Need-returns Inv-loop μ-loop
 returns c = search needs
 
 pub taken-over-spec : {M : Type 1} → statement M
-taken-over-spec =
-    tie.close
-    (tie.spec
-    Inv-loop
-    μ-loop
-    loop-holds
-    prepared-requires
-    all-requires
-    send-all-requires
-    add-i
-    loop-less
-    loop-again
-    returns)
+taken-over-spec = tie.close (tie.spec Inv-loop μ-loop loop-holds (search needs) (search needs) (search needs) (search needs) loop-less loop-again returns)

@@ -13,33 +13,6 @@ abbrev μ-loop : tie.MeasureT-loop
 loop-holds : tie.Need-loop-holds Inv-loop μ-loop
 loop-holds c = search needs
 
-shared-slice-read-if1 : tie.Need-shared-slice-read-if1 Inv-loop μ-loop
-shared-slice-read-if1 c = search needs
-
-slice-aggregate-print : tie.Need-slice-aggregate-print Inv-loop μ-loop
-slice-aggregate-print c = search needs
-
-print-requires : tie.Need-print-requires Inv-loop μ-loop
-print-requires c κs = search needs
-
-add-print : tie.Need-add-print Inv-loop μ-loop
-add-print c = search needs
-
-sub-print : tie.Need-sub-print Inv-loop μ-loop
-sub-print c = search needs
-
-part-print-start : tie.Need-part-print-start Inv-loop μ-loop
-part-print-start c = search needs
-
-part-print-end : tie.Need-part-print-end Inv-loop μ-loop
-part-print-end c = search needs
-
-print-requires-2 : tie.Need-print-requires-2 Inv-loop μ-loop
-print-requires-2 c κs = search needs
-
-add-i : tie.Need-add-i Inv-loop μ-loop
-add-i c = search needs
-
 loop-less : tie.Need-loop-less Inv-loop μ-loop
 loop-less c = search needs
 
@@ -56,15 +29,15 @@ print-text-spec =
     Inv-loop
     μ-loop
     loop-holds
-    shared-slice-read-if1
-    slice-aggregate-print
-    print-requires
-    add-print
-    sub-print
-    part-print-start
-    part-print-end
-    print-requires-2
-    add-i
+    (search needs)
+    (search needs)
+    (search needs)
+    (search needs)
+    (search needs)
+    (search needs)
+    (search needs)
+    (search needs)
+    (search needs)
     loop-less
     loop-again
     returns)

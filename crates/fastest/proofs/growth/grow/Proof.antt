@@ -19,9 +19,6 @@ loop-holds : tie.Need-loop-holds Inv-loop μ-loop
 unfolding grown
 loop-holds c = (omega arith, refl)
 
-add-c : tie.Need-add-c Inv-loop μ-loop
-add-c c = search needs
-
 with-column-requires : tie.Need-with-column-requires Inv-loop μ-loop
 with-column-requires c κs =
     let a = c .before .before .args in
@@ -45,6 +42,4 @@ returns c =
     c .before .loop .inv .1 ∙ ap (grown (a .delay) (a .gap)) (omega arith)
 
 pub grow-spec : {M : Type 1} → statement M
-grow-spec =
-    tie.close
-    (tie.spec Inv-loop μ-loop loop-holds add-c with-column-requires loop-less loop-again returns)
+grow-spec = tie.close (tie.spec Inv-loop μ-loop loop-holds (search needs) with-column-requires loop-less loop-again returns)

@@ -12,9 +12,6 @@ within c =
     let a = c .before .before .args in
     allowed (a .columns) (a .delay) (a .gap) (sym (c .before .fastest-refusal .ensures) ∙ c .if1 .left)
 
-fastest-refusal-requires : tie.Need-fastest-refusal-requires
-fastest-refusal-requires c κs = search needs
-
 returns : tie.Need-returns
 unfolding fastestPlan
 returns c =
@@ -36,5 +33,4 @@ returns-2 c =
     rw (sym (e .ensures), eq-eqb (e .result) 0 (c .before .before .if1 .left), c .before .grow .ensures)
 
 pub fastest-spec : {M : Type 1} → statement M
-fastest-spec =
-    tie.close (tie.spec fastest-refusal-requires returns sub-grow grow-requires returns-2)
+fastest-spec = tie.close (tie.spec (search needs) returns sub-grow grow-requires returns-2)

@@ -4,24 +4,6 @@ use Rattle.fastest.specs.Strategy.{fastestConditions, fastestRefusal}
 use Rattle.fastest.proofs.strategy.fastest_refusal.Statement.{statement}
 use Rattle.fastest.proofs.strategy.fastest_refusal.Tie as tie
 
-refuse-if-requires : tie.Need-refuse-if-requires
-refuse-if-requires c κs = search needs
-
-refuse-if-requires-2 : tie.Need-refuse-if-requires-2
-refuse-if-requires-2 c κs = search needs
-
-refuse-if-requires-3 : tie.Need-refuse-if-requires-3
-refuse-if-requires-3 c κs = search needs
-
-refuse-if-requires-4 : tie.Need-refuse-if-requires-4
-refuse-if-requires-4 c κs = search needs
-
-refuse-if-requires-5 : tie.Need-refuse-if-requires-5
-refuse-if-requires-5 c κs = search needs
-
-refuse-if-requires-6 : tie.Need-refuse-if-requires-6
-refuse-if-requires-6 c κs = search needs
-
 returns : tie.Need-returns
 unfolding fastestRefusal
 returns c =
@@ -42,13 +24,4 @@ returns c =
     (in-turn 0 (fastestConditions (a .columns) (a .delay) (a .gap)) tt)
 
 pub fastest-refusal-spec : {M : Type 1} → statement M
-fastest-refusal-spec =
-    tie.close
-    (tie.spec
-    refuse-if-requires
-    refuse-if-requires-2
-    refuse-if-requires-3
-    refuse-if-requires-4
-    refuse-if-requires-5
-    refuse-if-requires-6
-    returns)
+fastest-refusal-spec = tie.close (tie.spec (search needs) (search needs) (search needs) (search needs) (search needs) (search needs) returns)

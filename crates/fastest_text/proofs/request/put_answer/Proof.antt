@@ -49,18 +49,6 @@ fits c =
     let r = request (f .before .before .before) in
     rw (tree-is f (c .if2 .left)) (table-fits (r .columns) (r .delay) (r .gap) (sym (refusal-is f) ∙ c .if2 .left))
 
-read-request-requires : tie.Need-read-request-requires
-read-request-requires c κs = search needs
-
-slice-aggregate-put-field : tie.Need-slice-aggregate-put-field
-slice-aggregate-put-field c = search needs
-
-put-field-requires : tie.Need-put-field-requires
-put-field-requires c κs = search needs
-
-same-length : tie.Need-same-length
-same-length c = search needs
-
 returns : tie.Need-returns
 returns c =
     let k = c .before .before in
@@ -68,21 +56,6 @@ returns c =
     let few = refused-length 1 (omega arith) in
     let w = puts-all (refusedText 1) (omega (arith, few, t .before .before .before .before .before .pre)) (k .put-field .ensures) in
     (rw (answer-unread _ (unread-is t)) w, omega (arith, w .place, few))
-
-fastest-requires : tie.Need-fastest-requires
-fastest-requires c κs = search needs
-
-slice-aggregate-put-field-2 : tie.Need-slice-aggregate-put-field-2
-slice-aggregate-put-field-2 c = search needs
-
-cast-put-field : tie.Need-cast-put-field
-cast-put-field c = search needs
-
-put-field-requires-2 : tie.Need-put-field-requires-2
-put-field-requires-2 c κs = search needs
-
-same-length-2 : tie.Need-same-length-2
-same-length-2 c = search needs
 
 returns-2 : tie.Need-returns-2
 returns-2 c =
@@ -99,9 +72,6 @@ returns-2 c =
 put-table-requires : tie.Need-put-table-requires
 put-table-requires c κs = fits (c .before) .0
 
-same-length-3 : tie.Need-same-length-3
-same-length-3 c = search needs
-
 returns-3 : tie.Need-returns-3
 returns-3 c =
     let k = c .before .before in
@@ -116,17 +86,17 @@ pub put-answer-spec : {M : Type 1} → statement M
 put-answer-spec =
     tie.close
     (tie.spec
-    read-request-requires
-    slice-aggregate-put-field
-    put-field-requires
-    same-length
+    (search needs)
+    (search needs)
+    (search needs)
+    (search needs)
     returns
-    fastest-requires
-    slice-aggregate-put-field-2
-    cast-put-field
-    put-field-requires-2
-    same-length-2
+    (search needs)
+    (search needs)
+    (search needs)
+    (search needs)
+    (search needs)
     returns-2
     put-table-requires
-    same-length-3
+    (search needs)
     returns-3)

@@ -24,17 +24,8 @@ loop-holds c =
     let a = c .before .before .args in
     (omega arith, refl, puts-none (a .out .now) (a .at))
 
-shared-slice-read-put-next : tie.Need-shared-slice-read-put-next Inv-loop μ-loop
-shared-slice-read-put-next c = search needs
-
 cast-put-next : tie.Need-cast-put-next Inv-loop μ-loop
 cast-put-next c = omega (arith, c .shared-slice-known2 .given (c .before .before .before .loop .j))
-
-put-next-requires : tie.Need-put-next-requires Inv-loop μ-loop
-put-next-requires c κs = search needs
-
-add-j : tie.Need-add-j Inv-loop μ-loop
-add-j c = search needs
 
 loop-less : tie.Need-loop-less Inv-loop μ-loop
 loop-less c = search needs
@@ -69,10 +60,10 @@ put-parents-spec =
     Inv-loop
     μ-loop
     loop-holds
-    shared-slice-read-put-next
+    (search needs)
     cast-put-next
-    put-next-requires
-    add-j
+    (search needs)
+    (search needs)
     loop-less
     loop-again
     same-length

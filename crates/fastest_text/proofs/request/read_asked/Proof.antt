@@ -5,42 +5,6 @@ use Rattle.fastest_text.specs.Requests.{asked}
 use Rattle.fastest_text.proofs.request.read_asked.Statement.{statement}
 use Rattle.fastest_text.proofs.request.read_asked.Tie as tie
 
-slice-aggregate-read-keyed : tie.Need-slice-aggregate-read-keyed
-slice-aggregate-read-keyed c = search needs
-
-read-keyed-requires : tie.Need-read-keyed-requires
-read-keyed-requires c κs = search needs
-
-enum-told : tie.Need-enum-told
-enum-told c = search needs
-
-enum-known-columns : tie.Need-enum-known-columns
-enum-known-columns c = search needs
-
-slice-aggregate-read-keyed-2 : tie.Need-slice-aggregate-read-keyed-2
-slice-aggregate-read-keyed-2 c = search needs
-
-read-keyed-requires-2 : tie.Need-read-keyed-requires-2
-read-keyed-requires-2 c κs = search needs
-
-enum-told-2 : tie.Need-enum-told-2
-enum-told-2 c = search needs
-
-enum-known-delay : tie.Need-enum-known-delay
-enum-known-delay c = search needs
-
-slice-aggregate-read-keyed-3 : tie.Need-slice-aggregate-read-keyed-3
-slice-aggregate-read-keyed-3 c = search needs
-
-read-keyed-requires-3 : tie.Need-read-keyed-requires-3
-read-keyed-requires-3 c κs = search needs
-
-enum-told-3 : tie.Need-enum-told-3
-enum-told-3 c = search needs
-
-enum-known-gap : tie.Need-enum-known-gap
-enum-known-gap c = search needs
-
 returns : tie.Need-returns
 unfolding asked
 returns c =
@@ -88,18 +52,18 @@ pub read-asked-spec : {M : Type 1} → statement M
 read-asked-spec =
     tie.close
     (tie.spec
-    slice-aggregate-read-keyed
-    read-keyed-requires
-    enum-told
-    enum-known-columns
-    slice-aggregate-read-keyed-2
-    read-keyed-requires-2
-    enum-told-2
-    enum-known-delay
-    slice-aggregate-read-keyed-3
-    read-keyed-requires-3
-    enum-told-3
-    enum-known-gap
+    (search needs)
+    (search needs)
+    (search needs)
+    (search needs)
+    (search needs)
+    (search needs)
+    (search needs)
+    (search needs)
+    (search needs)
+    (search needs)
+    (search needs)
+    (search needs)
     returns
     returns-2
     returns-3

@@ -14,15 +14,6 @@ module _ (c : tie.After-one) where
   abbrev input : List ℕ
   input = found .before .before .args .input .now
 
-find-three-lines-requires : tie.Need-find-three-lines-requires
-find-three-lines-requires c κs = search needs
-
-enum-told : tie.Need-enum-told
-enum-told c = search needs
-
-enum-known-one : tie.Need-enum-known-one
-enum-known-one c = search needs
-
 add-if1 : tie.Need-add-if1
 add-if1 c =
     let o = c .before in
@@ -34,12 +25,6 @@ returns c =
     let o = c .before .before in
     let k = found o .find-three-lines .ensures in
     sym (request-longer (input o) (k .0) (o .one .given .1) (k .1) (c .if1 .taken))
-
-sub-read-asked : tie.Need-sub-read-asked
-sub-read-asked c = search needs
-
-part-read-asked-start : tie.Need-part-read-asked-start
-part-read-asked-start c = search needs
 
 part-read-asked-end : tie.Need-part-read-asked-end
 part-read-asked-end c =
@@ -89,12 +74,6 @@ part-read-asked-start-3 c =
     let up = as-rising (input o) (o .one .given .1) (found o .find-three-lines .ensures .1) in
     search (needs, up .0, up .1, up .2)
 
-part-read-asked-end-3 : tie.Need-part-read-asked-end-3
-part-read-asked-end-3 c = search needs
-
-read-asked-requires : tie.Need-read-asked-requires
-read-asked-requires c κs = search needs
-
 returns-2 : tie.Need-returns-2
 returns-2 c = sym (request-fewer _ (c .before .before .find-three-lines .ensures .0) (c .enum-told .given .1))
 
@@ -109,13 +88,13 @@ pub read-request-spec : {M : Type 1} → statement M
 read-request-spec =
     tie.close
     (tie.spec
-    find-three-lines-requires
-    enum-told
-    enum-known-one
+    (search needs)
+    (search needs)
+    (search needs)
     add-if1
     returns
-    sub-read-asked
-    part-read-asked-start
+    (search needs)
+    (search needs)
     part-read-asked-end
     add-read-asked
     sub-read-asked-2
@@ -124,7 +103,7 @@ read-request-spec =
     add-read-asked-2
     sub-read-asked-3
     part-read-asked-start-3
-    part-read-asked-end-3
-    read-asked-requires
+    (search needs)
+    (search needs)
     returns-2
     returns-3)

@@ -8,23 +8,11 @@ use borrow.Author.Needs.{needs}
 use Rattle.firmware.proofs.block.put_bytes.Statement.{statement}
 use Rattle.firmware.proofs.block.put_bytes.Tie as tie
 
-add-end : tie.Need-add-end
-add-end c = search needs
-
-sub-fill : tie.Need-sub-fill
-sub-fill c = search needs
-
-part-fill-start : tie.Need-part-fill-start
-part-fill-start c = search needs
-
 part-fill-end : tie.Need-part-fill-end
 part-fill-end c = omega (arith, c .before .before .pre)
 
 fill-requires : tie.Need-fill-requires
 fill-requires c κs = search (needs, c .before .before .before .pre)
-
-same-length : tie.Need-same-length
-same-length c = search needs
 
 returns : tie.Need-returns
 returns c =
@@ -38,13 +26,4 @@ returns c =
     ∙ part-written old w (a .at) (a .at + length w) n
 
 pub put-bytes-spec : {M : Type 1} → statement M
-put-bytes-spec =
-    tie.close
-    (tie.spec
-    add-end
-    sub-fill
-    part-fill-start
-    part-fill-end
-    fill-requires
-    same-length
-    returns)
+put-bytes-spec = tie.close (tie.spec (search needs) (search needs) (search needs) part-fill-end fill-requires (search needs) returns)

@@ -11,21 +11,6 @@ use borrow.Author.Needs.{needs}
 use Rattle.firmware.proofs.block.put_doors.Statement.{statement}
 use Rattle.firmware.proofs.block.put_doors.Tie as tie
 
-sub-put-low-first : tie.Need-sub-put-low-first
-sub-put-low-first c = search needs
-
-part-put-low-first-start : tie.Need-part-put-low-first-start
-part-put-low-first-start c = search needs
-
-part-put-low-first-end : tie.Need-part-put-low-first-end
-part-put-low-first-end c = search needs
-
-put-low-first-requires : tie.Need-put-low-first-requires
-put-low-first-requires c κs = search needs
-
-same-length : tie.Need-same-length
-same-length c = search needs
-
 returns : tie.Need-returns
 returns c =
     let k = c .before .before in
@@ -38,12 +23,4 @@ returns c =
     ∙ part-written old (lowFirst n (a .doors)) (a .at) (a .end) (length-low n (a .doors))
 
 pub put-doors-spec : {M : Type 1} → statement M
-put-doors-spec =
-    tie.close
-    (tie.spec
-    sub-put-low-first
-    part-put-low-first-start
-    part-put-low-first-end
-    put-low-first-requires
-    same-length
-    returns)
+put-doors-spec = tie.close (tie.spec (search needs) (search needs) (search needs) (search needs) (search needs) returns)

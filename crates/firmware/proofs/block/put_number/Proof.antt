@@ -11,21 +11,6 @@ use borrow.Author.Needs.{needs}
 use Rattle.firmware.proofs.block.put_number.Statement.{statement}
 use Rattle.firmware.proofs.block.put_number.Tie as tie
 
-sub-put-high-first : tie.Need-sub-put-high-first
-sub-put-high-first c = search needs
-
-part-put-high-first-start : tie.Need-part-put-high-first-start
-part-put-high-first-start c = search needs
-
-part-put-high-first-end : tie.Need-part-put-high-first-end
-part-put-high-first-end c = search needs
-
-put-high-first-requires : tie.Need-put-high-first-requires
-put-high-first-requires c κs = search needs
-
-same-length : tie.Need-same-length
-same-length c = search needs
-
 returns : tie.Need-returns
 returns c =
     let k = c .before .before in
@@ -38,12 +23,4 @@ returns c =
     ∙ part-written old (highFirst n (a .number)) (a .at) (a .end) (length-high n (a .number))
 
 pub put-number-spec : {M : Type 1} → statement M
-put-number-spec =
-    tie.close
-    (tie.spec
-    sub-put-high-first
-    part-put-high-first-start
-    part-put-high-first-end
-    put-high-first-requires
-    same-length
-    returns)
+put-number-spec = tie.close (tie.spec (search needs) (search needs) (search needs) (search needs) (search needs) returns)

@@ -6,9 +6,6 @@ use borrow.Author.Needs.{needs}
 use Rattle.firmware.proofs.block.set_in.Statement.{statement}
 use Rattle.firmware.proofs.block.set_in.Tie as tie
 
-high-value-requires : tie.Need-high-value-requires
-high-value-requires c κs = search needs
-
 value : (c : tie.After-high-value) → c .high-value .result ≡ highValue (c .before .before .args .s .now)
 value c = c .high-value .ensures ∙ word-is highValue (c .before .before .args .s .now) (omega arith)
 
@@ -21,4 +18,4 @@ returns : tie.Need-returns
 returns c = value c
 
 pub set-in-spec : {M : Type 1} → statement M
-set-in-spec = tie.close (tie.spec high-value-requires cast-set returns)
+set-in-spec = tie.close (tie.spec (search needs) cast-set returns)

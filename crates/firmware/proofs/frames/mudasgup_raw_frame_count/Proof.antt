@@ -5,18 +5,6 @@ use borrow.Author.Needs.{needs}
 use Rattle.firmware.proofs.frames.mudasgup_raw_frame_count.Statement.{statement}
 use Rattle.firmware.proofs.frames.mudasgup_raw_frame_count.Tie as tie
 
-packet-count-requires : tie.Need-packet-count-requires
-packet-count-requires c κs = search needs
-
-enum-known-n : tie.Need-enum-known-n
-enum-known-n c = search needs
-
-refusal-requires : tie.Need-refusal-requires
-refusal-requires c κs = search needs
-
-enum-known-n-2 : tie.Need-enum-known-n-2
-enum-known-n-2 c = search needs
-
 returns : tie.Need-returns
 returns c =
     let m = c .before .before in
@@ -32,4 +20,4 @@ returns-2 c =
     rw (← is)
 
 pub mudasgup-raw-frame-count-spec : {M : Type 1} → statement M
-mudasgup-raw-frame-count-spec = tie.close (tie.spec packet-count-requires enum-known-n refusal-requires enum-known-n-2 returns returns-2)
+mudasgup-raw-frame-count-spec = tie.close (tie.spec (search needs) (search needs) (search needs) (search needs) returns returns-2)

@@ -58,39 +58,6 @@ module _ (e : tie.Else1) where
   room : at + used (taken before) ≤ length old
   room = leb-true (at + used (taken before)) (length old) has-room
 
-read-requires : tie.Need-read-requires
-read-requires c κs = search needs
-
-enum-known-n : tie.Need-enum-known-n
-enum-known-n c = search needs
-
-refusal-requires : tie.Need-refusal-requires
-refusal-requires c κs = search needs
-
-enum-known-used : tie.Need-enum-known-used
-enum-known-used c = search needs
-
-count-before-requires : tie.Need-count-before-requires
-count-before-requires c κs = search needs
-
-enum-known-n-2 : tie.Need-enum-known-n-2
-enum-known-n-2 c = search needs
-
-refusal-requires-2 : tie.Need-refusal-requires-2
-refusal-requires-2 c κs = search needs
-
-enum-known-count : tie.Need-enum-known-count
-enum-known-count c = search needs
-
-has-room-requires : tie.Need-has-room-requires
-has-room-requires c κs = search needs
-
-refusal-requires-3 : tie.Need-refusal-requires-3
-refusal-requires-3 c κs = search needs
-
-same-length : tie.Need-same-length
-same-length c = search needs
-
 returns : tie.Need-returns
 unfolding joinedAt
 returns c =
@@ -101,24 +68,12 @@ returns c =
     let none : leb (a .at + used m) (length (a .frame .now)) ≡ false = sym (h .has-room .ensures) ∙ not-true _ (c .before .if1 .taken) in
     rw (← is m, ← counted k, none) (ap (λ (r : ℕ). filledMeant r (a .frame .now)) (c .refusal3 .ensures))
 
-refusal-requires-4 : tie.Need-refusal-requires-4
-refusal-requires-4 c κs = search needs
-
-same-length-2 : tie.Need-same-length-2
-same-length-2 c = search needs
-
 returns-2 : tie.Need-returns-2
 unfolding joinedAt
 returns-2 c =
     let e = c .before .before in
     let k = before e in
     rw (← is (taken k), ← counted k, has-room e, le-ltb (k .count .given .0 .0) 512 (c .before .if2 .taken)) (ap (λ (r : ℕ). filledMeant r (old e)) (c .refusal4 .ensures))
-
-sub-put-bytes : tie.Need-sub-put-bytes
-sub-put-bytes c = search needs
-
-part-put-bytes-start : tie.Need-part-put-bytes-start
-part-put-bytes-start c = search needs
 
 part-put-bytes-end : tie.Need-part-put-bytes-end
 part-put-bytes-end c = omega (arith, fits (taken (before (c .before .before))))
@@ -138,9 +93,6 @@ returns-3 c =
     let none : refused (m .n .given .0 .0) ≡ read (a .bytes .now) = rw (m .n .given .1) at (r .read .ensures) in
     rw (← none) (ap (λ (k : ℕ). filledMeant k (a .frame .now)) (c .refusal .ensures))
 
-same-length-3 : tie.Need-same-length-3
-same-length-3 c = search needs
-
 returns-4 : tie.Need-returns-4
 returns-4 c =
     let q = c .before .before in
@@ -149,9 +101,6 @@ returns-4 c =
     let a = start m .args in
     let none : refused (q .n2 .given .0 .0) ≡ packetCount (take (a .at) (a .frame .now)) = rw (q .n2 .given .1) at (b .count-before .ensures) in
     rw (← is m, ← none) (ap (λ (k : ℕ). filledMeant k (a .frame .now)) (c .refusal2 .ensures))
-
-same-length-4 : tie.Need-same-length-4
-same-length-4 c = search needs
 
 returns-5 : tie.Need-returns-5
 unfolding joinedAt
@@ -170,27 +119,27 @@ pub mudasgup-raw-frame-join-spec : {M : Type 1} → statement M
 mudasgup-raw-frame-join-spec =
     tie.close
     (tie.spec
-    read-requires
-    enum-known-n
-    refusal-requires
-    enum-known-used
-    count-before-requires
-    enum-known-n-2
-    refusal-requires-2
-    enum-known-count
-    has-room-requires
-    refusal-requires-3
-    same-length
+    (search needs)
+    (search needs)
+    (search needs)
+    (search needs)
+    (search needs)
+    (search needs)
+    (search needs)
+    (search needs)
+    (search needs)
+    (search needs)
+    (search needs)
     returns
-    refusal-requires-4
-    same-length-2
+    (search needs)
+    (search needs)
     returns-2
-    sub-put-bytes
-    part-put-bytes-start
+    (search needs)
+    (search needs)
     part-put-bytes-end
     put-bytes-requires
     returns-3
-    same-length-3
+    (search needs)
     returns-4
-    same-length-4
+    (search needs)
     returns-5)

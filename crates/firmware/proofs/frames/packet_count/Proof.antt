@@ -60,29 +60,11 @@ returns c =
     let s = l .before .before .args .s .now in
     sym (l .loop .inv .1 .1 ∙ count-full s (l .loop .count) (l .loop .at) (c .before .loop-test .taken) (c .if1 .taken))
 
-sub-read : tie.Need-sub-read Inv-loop μ-loop
-sub-read c = search needs
-
-part-read-start : tie.Need-part-read-start Inv-loop μ-loop
-part-read-start c = search needs
-
-part-read-end : tie.Need-part-read-end Inv-loop μ-loop
-part-read-end c = search needs
-
-read-requires : tie.Need-read-requires Inv-loop μ-loop
-read-requires c κs = search needs
-
-enum-told : tie.Need-enum-told Inv-loop μ-loop
-enum-told c = search needs
-
 returns-2 : tie.Need-returns-2 Inv-loop μ-loop
 returns-2 c =
     let r = c .before .before in
     let k : refused (c .enum-told .given .0 .0) ≡ read (drop (l r .loop .at) (s r)) = sym (ap (λ (x : Reading). readMeant x) (c .enum-told .given .1)) ∙ r .read .ensures ∙ ap read (rest r) in
     sym (l r .loop .inv .1 .1 ∙ count-refused (s r) (l r .loop .count) (l r .loop .at) (inside r) (few r) (c .enum-told .given .0 .0) (sym k))
-
-enum-known-used : tie.Need-enum-known-used Inv-loop μ-loop
-enum-known-used c = search needs
 
 add-count : tie.Need-add-count Inv-loop μ-loop
 add-count c = let r = back (c .before) in search (needs, few r)
@@ -121,13 +103,13 @@ packet-count-spec =
     μ-loop
     loop-holds
     returns
-    sub-read
-    part-read-start
-    part-read-end
-    read-requires
-    enum-told
+    (search needs)
+    (search needs)
+    (search needs)
+    (search needs)
+    (search needs)
     returns-2
-    enum-known-used
+    (search needs)
     add-count
     add-at
     loop-less

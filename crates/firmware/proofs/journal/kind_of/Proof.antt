@@ -4,9 +4,6 @@ use borrow.Author.Needs.{needs}
 use Rattle.firmware.proofs.journal.kind_of.Statement.{statement}
 use Rattle.firmware.proofs.journal.kind_of.Tie as tie
 
-is-message-requires : tie.Need-is-message-requires
-is-message-requires c κs = search needs
-
 returns : tie.Need-returns
 returns c =
     let m = c .before in
@@ -18,4 +15,4 @@ returns-2 c =
     sym (kind-acknowledgement (m .before .args .p) (sym (m .is-message .ensures) ∙ c .if1 .left))
 
 pub kind-of-spec : {M : Type 1} → statement M
-kind-of-spec = tie.close (tie.spec is-message-requires returns returns-2)
+kind-of-spec = tie.close (tie.spec (search needs) returns returns-2)

@@ -34,12 +34,6 @@ module _ (l : tie.After-put-line) where
   begins : take (l .put-line .result) (l .put-line .last .0) ≡ text
   begins = line-begins text room (l .put-line .ensures)
 
-slice-aggregate-put-line : tie.Need-slice-aggregate-put-line
-slice-aggregate-put-line c = search needs
-
-put-line-requires : tie.Need-put-line-requires
-put-line-requires c κs = search needs
-
 array-share-prefix-line : tie.Need-array-share-prefix-line
 array-share-prefix-line c =
     let l = c .before in
@@ -50,12 +44,6 @@ slice-aggregate-leave-text c =
     let l = c .before .before in
     size l ∙ sym (ap length (begins l))
 
-leave-text-requires : tie.Need-leave-text-requires
-leave-text-requires c κs = search needs
-
-same-length : tie.Need-same-length
-same-length c = search needs
-
 returns : tie.Need-returns
 returns c =
     let t = c .before .before in
@@ -63,13 +51,4 @@ returns c =
     t .leave-text .ensures ∙ ap (λ (w : List ℕ). listLeft (placed (start l .args .buffer .now) 0 w)) (begins l)
 
 pub leave-line-spec : {M : Type 1} → statement M
-leave-line-spec =
-    tie.close
-    (tie.spec
-    slice-aggregate-put-line
-    put-line-requires
-    array-share-prefix-line
-    slice-aggregate-leave-text
-    leave-text-requires
-    same-length
-    returns)
+leave-line-spec = tie.close (tie.spec (search needs) (search needs) array-share-prefix-line slice-aggregate-leave-text (search needs) (search needs) returns)

@@ -10,20 +10,11 @@ use Rattle.firmware.specs.Calls.{filledMeant}
 use Rattle.firmware.proofs.journal.leave_text.Statement.{statement}
 use Rattle.firmware.proofs.journal.leave_text.Tie as tie
 
-refusal-requires : tie.Need-refusal-requires
-refusal-requires c κs = search needs
-
 returns : tie.Need-returns
 unfolding placed
 returns c =
     let a = c .before .before .before .before .args in
     rw (lt-leb (0 + length (a .text .now)) (length (a .buffer .now)) (omega arith)) (ap (λ (r : ℕ). filledMeant r (a .buffer .now)) (c .refusal .ensures))
-
-put-bytes-requires : tie.Need-put-bytes-requires
-put-bytes-requires c κs = search needs
-
-same-length : tie.Need-same-length
-same-length c = search needs
 
 returns-2 : tie.Need-returns-2
 unfolding placed
@@ -33,4 +24,4 @@ returns-2 c =
     rw (le-leb (0 + length (a .text .now)) (length (a .buffer .now)) (omega arith)) (ap (λ (l : List ℕ). filledMeant (length (a .text .now)) l) (p .put-bytes .ensures))
 
 pub leave-text-spec : {M : Type 1} → statement M
-leave-text-spec = tie.close (tie.spec refusal-requires returns put-bytes-requires same-length returns-2)
+leave-text-spec = tie.close (tie.spec (search needs) returns (search needs) (search needs) returns-2)

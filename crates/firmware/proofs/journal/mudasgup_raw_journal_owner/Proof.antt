@@ -43,12 +43,6 @@ module _ (l : tie.After-put-field) where
   same : text ≡ ownerBytes (ownIn (start .args .column .now))
   same = ap (λ (k : ℕ). ownerBytes k) (l .before .own-in .ensures)
 
-is-column-requires : tie.Need-is-column-requires
-is-column-requires c κs = search needs
-
-refusal-requires : tie.Need-refusal-requires
-refusal-requires c κs = search needs
-
 returns : tie.Need-returns
 unfolding ownerCall
 returns c =
@@ -57,20 +51,8 @@ returns c =
     let bad : isColumn (a .column .now) ≡ false = sym (i .is-column .ensures) ∙ not-true _ (c .before .if1 .taken) in
     rw bad (ap (λ (r : ℕ). filledMeant r (a .text .now)) (c .refusal .ensures))
 
-slice-aggregate-put-field : tie.Need-slice-aggregate-put-field
-slice-aggregate-put-field c = search needs
-
-slice-aggregate-put-field-2 : tie.Need-slice-aggregate-put-field-2
-slice-aggregate-put-field-2 c = search needs
-
 own-in-requires : tie.Need-own-in-requires
 own-in-requires c κs = let e = c .before .before in column-size (e .before .before .before .before .args .column .now) (good e)
-
-cast-put-field : tie.Need-cast-put-field
-cast-put-field c = search needs
-
-put-field-requires : tie.Need-put-field-requires
-put-field-requires c κs = search needs
 
 array-share-prefix-line : tie.Need-array-share-prefix-line
 array-share-prefix-line c =
@@ -81,12 +63,6 @@ slice-aggregate-leave-text : tie.Need-slice-aggregate-leave-text
 slice-aggregate-leave-text c =
     let l = c .before .before in
     size l ∙ sym (ap length (begins l))
-
-leave-text-requires : tie.Need-leave-text-requires
-leave-text-requires c κs = search needs
-
-same-length : tie.Need-same-length
-same-length c = search needs
 
 returns-2 : tie.Need-returns-2
 unfolding ownerCall
@@ -101,16 +77,16 @@ pub mudasgup-raw-journal-owner-spec : {M : Type 1} → statement M
 mudasgup-raw-journal-owner-spec =
     tie.close
     (tie.spec
-    is-column-requires
-    refusal-requires
+    (search needs)
+    (search needs)
     returns
-    slice-aggregate-put-field
-    slice-aggregate-put-field-2
+    (search needs)
+    (search needs)
     own-in-requires
-    cast-put-field
-    put-field-requires
+    (search needs)
+    (search needs)
     array-share-prefix-line
     slice-aggregate-leave-text
-    leave-text-requires
-    same-length
+    (search needs)
+    (search needs)
     returns-2)

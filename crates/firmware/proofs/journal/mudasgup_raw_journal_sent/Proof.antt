@@ -55,12 +55,6 @@ module _ (o : tie.After-own-in) where
   mine : o .before .sender .result ≡ sender (p taken)
   mine = o .before .sender .ensures
 
-is-column-requires : tie.Need-is-column-requires
-is-column-requires c κs = search needs
-
-refusal-requires : tie.Need-refusal-requires
-refusal-requires c κs = search needs
-
 returns : tie.Need-returns
 unfolding sentCall
 returns c =
@@ -69,29 +63,8 @@ returns c =
     let bad : isColumn (a .column .now) ≡ false = sym (i .is-column .ensures) ∙ not-true _ (c .before .if1 .taken) in
     rw bad (ap (λ (r : ℕ). filledMeant r (a .text .now)) (c .refusal .ensures))
 
-read-requires : tie.Need-read-requires
-read-requires c κs = search needs
-
-enum-known-n : tie.Need-enum-known-n
-enum-known-n c = search needs
-
-refusal-requires-2 : tie.Need-refusal-requires-2
-refusal-requires-2 c κs = search needs
-
-enum-known-p : tie.Need-enum-known-p
-enum-known-p c = search needs
-
-sender-requires : tie.Need-sender-requires
-sender-requires c κs = search needs
-
 own-in-requires : tie.Need-own-in-requires
 own-in-requires c κs = let e = else (c .before .before) in column-size (e .before .before .before .before .before .args .column .now) (good e)
-
-cast-if2 : tie.Need-cast-if2
-cast-if2 c = search needs
-
-refusal-requires-3 : tie.Need-refusal-requires-3
-refusal-requires-3 c κs = search needs
 
 returns-2 : tie.Need-returns-2
 unfolding sentCall lineLeft
@@ -100,18 +73,6 @@ returns-2 c =
     let m = taken o in
     let a = start m .args in
     rw (good (else m), ← is m, ne-eqb (sender (p m)) (ownIn (a .column .now)) (λ z. c .before .if2 .taken (mine o ∙ z ∙ sym (o .own-in .ensures)))) (ap (λ (r : ℕ). filledMeant r (a .text .now)) (c .refusal3 .ensures))
-
-slice-aggregate-leave-line : tie.Need-slice-aggregate-leave-line
-slice-aggregate-leave-line c = search needs
-
-kind-of-requires : tie.Need-kind-of-requires
-kind-of-requires c κs = search needs
-
-receiver-requires : tie.Need-receiver-requires
-receiver-requires c κs = search needs
-
-number-of-requires : tie.Need-number-of-requires
-number-of-requires c κs = search needs
 
 leave-line-requires : tie.Need-leave-line-requires
 leave-line-requires c κs =
@@ -130,9 +91,6 @@ returns-3 c =
     let a = e .before .before .before .before .before .args in
     let none : refused (m .n .given .0 .0) ≡ read (a .packet .now) = rw (m .n .given .1) at (r .read .ensures) in
     rw (good e, ← none) (ap (λ (k : ℕ). filledMeant k (a .text .now)) (c .refusal2 .ensures))
-
-same-length : tie.Need-same-length
-same-length c = search needs
 
 returns-4 : tie.Need-returns-4
 unfolding sentCall lineLeft
@@ -155,23 +113,23 @@ pub mudasgup-raw-journal-sent-spec : {M : Type 1} → statement M
 mudasgup-raw-journal-sent-spec =
     tie.close
     (tie.spec
-    is-column-requires
-    refusal-requires
+    (search needs)
+    (search needs)
     returns
-    read-requires
-    enum-known-n
-    refusal-requires-2
-    enum-known-p
-    sender-requires
+    (search needs)
+    (search needs)
+    (search needs)
+    (search needs)
+    (search needs)
     own-in-requires
-    cast-if2
-    refusal-requires-3
+    (search needs)
+    (search needs)
     returns-2
-    slice-aggregate-leave-line
-    kind-of-requires
-    receiver-requires
-    number-of-requires
+    (search needs)
+    (search needs)
+    (search needs)
+    (search needs)
     leave-line-requires
     returns-3
-    same-length
+    (search needs)
     returns-4)

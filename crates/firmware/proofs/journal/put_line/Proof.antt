@@ -7,21 +7,6 @@ use Rattle.firmware.specs.inner.JournalTexts.{fromKind, fromOther, fromN
 use Rattle.firmware.proofs.journal.put_line.Statement.{statement}
 use Rattle.firmware.proofs.journal.put_line.Tie as tie
 
-put-all-requires : tie.Need-put-all-requires
-put-all-requires c κs = search needs
-
-put-next-requires : tie.Need-put-next-requires
-put-next-requires c κs = search needs
-
-put-next-requires-2 : tie.Need-put-next-requires-2
-put-next-requires-2 c κs = search needs
-
-slice-aggregate-put-field : tie.Need-slice-aggregate-put-field
-slice-aggregate-put-field c = search needs
-
-put-field-requires : tie.Need-put-field-requires
-put-field-requires c κs = search needs
-
 same-length : tie.Need-same-length
 same-length c =
     let f = c .before .before in
@@ -42,13 +27,4 @@ returns c =
     (puts-more (nextText false (x .other)) (fromNumber (x .number)) (o .put-next2 .ensures) (f .put-field .ensures)))
 
 pub put-line-spec : {M : Type 1} → statement M
-put-line-spec =
-    tie.close
-    (tie.spec
-    put-all-requires
-    put-next-requires
-    put-next-requires-2
-    slice-aggregate-put-field
-    put-field-requires
-    same-length
-    returns)
+put-line-spec = tie.close (tie.spec (search needs) (search needs) (search needs) (search needs) (search needs) same-length returns)

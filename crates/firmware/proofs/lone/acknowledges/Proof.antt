@@ -6,12 +6,9 @@ use borrow.Author.Needs.{needs}
 use Rattle.firmware.proofs.lone.acknowledges.Statement.{statement}
 use Rattle.firmware.proofs.lone.acknowledges.Tie as tie
 
-may-acknowledge-requires : tie.Need-may-acknowledge-requires
-may-acknowledge-requires c κs = search needs
-
 returns : tie.Need-returns
 unfolding acknowledges
 returns c = ap (λ (b : Bool). not (eqb (c .before .before .args .c .owed) 0) && b) (c .may-acknowledge .ensures)
 
 pub acknowledges-spec : {M : Type 1} → statement M
-acknowledges-spec = tie.close (tie.spec may-acknowledge-requires returns)
+acknowledges-spec = tie.close (tie.spec (search needs) returns)

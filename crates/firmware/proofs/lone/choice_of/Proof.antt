@@ -2,21 +2,6 @@ use borrow.Author.Needs.{needs}
 use Rattle.firmware.proofs.lone.choice_of.Statement.{statement}
 use Rattle.firmware.proofs.lone.choice_of.Tie as tie
 
-enum-told : tie.Need-enum-told
-enum-told c = search needs
-
-enum-known-x : tie.Need-enum-known-x
-enum-known-x c = search needs
-
-enum-told-2 : tie.Need-enum-told-2
-enum-told-2 c = search needs
-
-enum-told-3 : tie.Need-enum-told-3
-enum-told-3 c = search needs
-
-next-requires : tie.Need-next-requires
-next-requires c κs = search needs
-
 returns : tie.Need-returns
 returns c = rw (c .enum-told .given .1)
 
@@ -30,15 +15,4 @@ returns-4 : tie.Need-returns-4
 returns-4 c = rw (c .before .enum-told3 .given .1) (c .next .ensures)
 
 pub choice-of-spec : {M : Type 1} → statement M
-choice-of-spec =
-    tie.close
-    (tie.spec
-    enum-told
-    enum-known-x
-    enum-told-2
-    enum-told-3
-    next-requires
-    returns
-    returns-2
-    returns-3
-    returns-4)
+choice-of-spec = tie.close (tie.spec (search needs) (search needs) (search needs) (search needs) (search needs) returns returns-2 returns-3 returns-4)

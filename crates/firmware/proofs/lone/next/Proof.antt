@@ -10,9 +10,6 @@ returns c =
     let a = c .before .before .args in
     next-sends (a .t) (a .i) (a .c) (ne-eqb (a .c .send) 0 (c .if1 .taken))
 
-acknowledges-requires : tie.Need-acknowledges-requires
-acknowledges-requires c κs = search needs
-
 returns-2 : tie.Need-returns-2
 returns-2 c =
     let k = c .before in
@@ -28,4 +25,4 @@ returns-3 c =
     next-takes-over (a .t) (a .i) (a .c) (eq-eqb (a .c .send) 0 (e .if1 .left)) (sym (k .acknowledges .ensures) ∙ c .if2 .left)
 
 pub next-spec : {M : Type 1} → statement M
-next-spec = tie.close (tie.spec returns acknowledges-requires returns-2 returns-3)
+next-spec = tie.close (tie.spec returns (search needs) returns-2 returns-3)

@@ -35,9 +35,6 @@ returns-2 c =
     let a = e .before .before .args in
     sym (rest-sends (a .t) (a .i) (a .c) (not-false (a .c .running) (e .if1 .left)) (ne-eqb (a .c .send) 0 (c .if2 .taken)))
 
-acknowledges-requires : tie.Need-acknowledges-requires
-acknowledges-requires c κs = search needs
-
 returns-3 : tie.Need-returns-3
 returns-3 c =
     let k = c .before in
@@ -51,12 +48,6 @@ returns-4 c =
     let e = c .before .before in
     let a = start e .args in
     sym (rest-root (a .t) (a .i) (a .c) (runs e) (sends-none e) (acknowledges-none e) (eq-eqb (a .i) (a .t .root) (c .if4 .taken)))
-
-watched-requires : tie.Need-watched-requires
-watched-requires c κs = search needs
-
-has-requires : tie.Need-has-requires
-has-requires c κs = search needs
 
 returns-5 : tie.Need-returns-5
 returns-5 c =
@@ -80,15 +71,4 @@ returns-6 c =
     sym (rest-noted (a .t) (a .i) (a .c) (runs e) (sends-none e) (acknowledges-none e) (ne-eqb (a .i) (a .t .root) (r .if4 .left)) noted)
 
 pub own-rests-spec : {M : Type 1} → statement M
-own-rests-spec =
-    tie.close
-    (tie.spec
-    returns
-    returns-2
-    acknowledges-requires
-    returns-3
-    returns-4
-    watched-requires
-    has-requires
-    returns-5
-    returns-6)
+own-rests-spec = tie.close (tie.spec returns returns-2 (search needs) returns-3 returns-4 (search needs) (search needs) returns-5 returns-6)

@@ -5,33 +5,6 @@ use borrow.Author.Needs.{needs}
 use Rattle.firmware.proofs.lone.putting_step.Statement.{statement}
 use Rattle.firmware.proofs.lone.putting_step.Tie as tie
 
-choice-of-requires : tie.Need-choice-of-requires
-choice-of-requires c κs = search needs
-
-enum-told : tie.Need-enum-told
-enum-told c = search needs
-
-send-requires : tie.Need-send-requires
-send-requires c κs = search needs
-
-enum-known-p : tie.Need-enum-known-p
-enum-known-p c = search needs
-
-take-requires : tie.Need-take-requires
-take-requires c κs = search needs
-
-enum-told-2 : tie.Need-enum-told-2
-enum-told-2 c = search needs
-
-ack-requires : tie.Need-ack-requires
-ack-requires c κs = search needs
-
-enum-told-3 : tie.Need-enum-told-3
-enum-told-3 c = search needs
-
-all-requires : tie.Need-all-requires
-all-requires c κs = search needs
-
 returns : tie.Need-returns
 returns c =
     let h = c .before .before .before in
@@ -60,15 +33,15 @@ pub putting-step-spec : {M : Type 1} → statement M
 putting-step-spec =
     tie.close
     (tie.spec
-    choice-of-requires
-    enum-told
-    send-requires
-    enum-known-p
-    take-requires
-    enum-told-2
-    ack-requires
-    enum-told-3
-    all-requires
+    (search needs)
+    (search needs)
+    (search needs)
+    (search needs)
+    (search needs)
+    (search needs)
+    (search needs)
+    (search needs)
+    (search needs)
     returns
     returns-2
     returns-3

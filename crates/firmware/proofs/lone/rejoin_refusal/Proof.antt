@@ -33,9 +33,6 @@ later s =
     ∷ (16, eqb others 0)
     ∷ []
 
-validity-refusal-requires : tie.Need-validity-refusal-requires
-validity-refusal-requires c κs = search needs
-
 returns : tie.Need-returns
 unfolding rejoinRefusal
 returns c =
@@ -70,27 +67,6 @@ running-others-requires c κs =
     let a = e .before .before .args in
     (validity-refusal-sixteen (a .t) (a .i) (a .c) (valid e), validity-refusal-column (a .t) (a .i) (a .c) (valid e))
 
-has-requires : tie.Need-has-requires
-has-requires c κs = search needs
-
-refuse-if-requires : tie.Need-refuse-if-requires
-refuse-if-requires c κs = search needs
-
-lowest-requires : tie.Need-lowest-requires
-lowest-requires c κs = search needs
-
-refuse-if-requires-2 : tie.Need-refuse-if-requires-2
-refuse-if-requires-2 c κs = search needs
-
-refuse-if-requires-3 : tie.Need-refuse-if-requires-3
-refuse-if-requires-3 c κs = search needs
-
-refuse-if-requires-4 : tie.Need-refuse-if-requires-4
-refuse-if-requires-4 c κs = search needs
-
-refuse-if-requires-5 : tie.Need-refuse-if-requires-5
-refuse-if-requires-5 c κs = search needs
-
 returns-3 : tie.Need-returns-3
 unfolding rejoinRefusal
 returns-3 c =
@@ -121,17 +97,17 @@ pub rejoin-refusal-spec : {M : Type 1} → statement M
 rejoin-refusal-spec =
     tie.close
     (tie.spec
-    validity-refusal-requires
+    (search needs)
     returns
     shr-if2
     returns-2
     cast-set
     running-others-requires
-    has-requires
-    refuse-if-requires
-    lowest-requires
-    refuse-if-requires-2
-    refuse-if-requires-3
-    refuse-if-requires-4
-    refuse-if-requires-5
+    (search needs)
+    (search needs)
+    (search needs)
+    (search needs)
+    (search needs)
+    (search needs)
+    (search needs)
     returns-3)

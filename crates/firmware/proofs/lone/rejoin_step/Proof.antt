@@ -13,12 +13,6 @@ use borrow.Author.Needs.{needs}
 use Rattle.firmware.proofs.lone.rejoin_step.Statement.{statement}
 use Rattle.firmware.proofs.lone.rejoin_step.Tie as tie
 
-rejoin-refusal-requires : tie.Need-rejoin-refusal-requires
-rejoin-refusal-requires c κs = search needs
-
-refused-requires : tie.Need-refused-requires
-refused-requires c κs = search needs
-
 returns : tie.Need-returns
 returns c =
     let m = c .before .before in
@@ -31,15 +25,6 @@ cast-set c =
     let m = c .before in
     let a = m .before .args in
     omega (arith, rejoin-halted (a .t) (a .i) (a .c) (a .copied) (a .halted) (sym (m .rejoin-refusal .ensures) ∙ c .if1 .left))
-
-has-requires : tie.Need-has-requires
-has-requires c κs = search needs
-
-rejoin-requires : tie.Need-rejoin-requires
-rejoin-requires c κs = search needs
-
-done-requires : tie.Need-done-requires
-done-requires c κs = search needs
 
 returns-2 : tie.Need-returns-2
 unfolding rejoinEffect
@@ -56,14 +41,4 @@ returns-2 c =
     (j .rejoin .ensures ∙ ap (λ (w : Bool). rejoined (a .c) (withRecord (a .c) (a .number) (a .doors)) (a .halted) w (a .copied)) (h .has .ensures)))
 
 pub rejoin-step-spec : {M : Type 1} → statement M
-rejoin-step-spec =
-    tie.close
-    (tie.spec
-    rejoin-refusal-requires
-    refused-requires
-    returns
-    cast-set
-    has-requires
-    rejoin-requires
-    done-requires
-    returns-2)
+rejoin-step-spec = tie.close (tie.spec (search needs) (search needs) returns cast-set (search needs) (search needs) (search needs) returns-2)

@@ -16,12 +16,6 @@ shifted n k h =
 every : (c : tie.Start) → 1 * 2 ^ c .args .columns % 2 ^ 32 ≡ 2 ^ c .args .columns
 every c = shifted (c .args .columns) 32 (omega (arith, c .pre .0))
 
-cast-all : tie.Need-cast-all
-cast-all c = search needs
-
-shl-all : tie.Need-shl-all
-shl-all c = search needs
-
 sub-all : tie.Need-sub-all
 sub-all c = omega (arith, every c, pow-pos (c .args .columns))
 
@@ -30,23 +24,8 @@ cast-all-2 c =
     let small : 2 ^ c .args .columns ≤ 2 ^ 16 = pow-mono (c .pre .0) in
     omega (arith, every c, pow-pos (c .args .columns))
 
-cast-own : tie.Need-cast-own
-cast-own c = search needs
-
-shl-own : tie.Need-shl-own
-shl-own c = search needs
-
 returns : tie.Need-returns
 returns c = rw (every c, shifted (c .args .i) 16 (c .pre .1))
 
 pub running-others-spec : {M : Type 1} → statement M
-running-others-spec =
-    tie.close
-    (tie.spec
-    cast-all
-    shl-all
-    sub-all
-    cast-all-2
-    cast-own
-    shl-own
-    returns)
+running-others-spec = tie.close (tie.spec (search needs) (search needs) sub-all cast-all-2 (search needs) (search needs) returns)

@@ -27,36 +27,12 @@ asked c =
     (in-turn (validityRefusal (a .t) (a .i) (a .c)) ((4, leb (a .t .columns) (a .back)) ∷ (4, eqb (a .back) (a .i)) ∷ (14, not (ownRests (a .t) (a .i) (a .c))) ∷ []) tt)
     ∙ strike-by (a .t) (a .i) (a .c) (a .back)
 
-validity-refusal-requires : tie.Need-validity-refusal-requires
-validity-refusal-requires c κs = search needs
-
-refuse-if-requires : tie.Need-refuse-if-requires
-refuse-if-requires c κs = search needs
-
-refuse-if-requires-2 : tie.Need-refuse-if-requires-2
-refuse-if-requires-2 c κs = search needs
-
-own-rests-requires : tie.Need-own-rests-requires
-own-rests-requires c κs = search needs
-
-refuse-if-requires-3 : tie.Need-refuse-if-requires-3
-refuse-if-requires-3 c κs = search needs
-
-refused-requires : tie.Need-refused-requires
-refused-requires c κs = search needs
-
 returns : tie.Need-returns
 returns c =
     let m = c .before .before in
     let a = m .before .before .before .before .before .before .args in
     let n = strikeRefusal (a .t) (a .i) (a .c) (a .back) in
     rw (ne-eqb n 0 (λ z. c .before .if1 .taken (asked m ∙ z))) (c .refused .ensures ∙ ap (λ (k : ℕ). core.refused k (a .c)) (asked m))
-
-strike-requires : tie.Need-strike-requires
-strike-requires c κs = search needs
-
-done-requires : tie.Need-done-requires
-done-requires c κs = search needs
 
 returns-2 : tie.Need-returns-2
 returns-2 c =
@@ -70,13 +46,13 @@ pub strike-step-spec : {M : Type 1} → statement M
 strike-step-spec =
     tie.close
     (tie.spec
-    validity-refusal-requires
-    refuse-if-requires
-    refuse-if-requires-2
-    own-rests-requires
-    refuse-if-requires-3
-    refused-requires
+    (search needs)
+    (search needs)
+    (search needs)
+    (search needs)
+    (search needs)
+    (search needs)
     returns
-    strike-requires
-    done-requires
+    (search needs)
+    (search needs)
     returns-2)

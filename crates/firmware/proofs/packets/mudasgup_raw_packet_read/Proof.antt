@@ -43,32 +43,11 @@ module _ (m : tie.After-used) where
 short : (e : tie.Else2) → found (e .before .before) .used ≡ 7
 short e = let m = e .before .before in short-used (s m) (bytes m) (found m) (is m) (start m .args .packet .now) (e .if2 .left)
 
-refusal-requires : tie.Need-refusal-requires
-refusal-requires c κs = search needs
-
 returns : tie.Need-returns
 unfolding packetCall
 returns c =
     let a = c .before .before .before .before .args in
     rw (ne-eqb (length (a .packet .now)) 15 (c .before .if1 .taken)) (ap (λ (r : ℕ). filledMeant r (a .packet .now)) (c .refusal .ensures))
-
-read-requires : tie.Need-read-requires
-read-requires c κs = search needs
-
-enum-known-n : tie.Need-enum-known-n
-enum-known-n c = search needs
-
-refusal-requires-2 : tie.Need-refusal-requires-2
-refusal-requires-2 c κs = search needs
-
-enum-known-used : tie.Need-enum-known-used
-enum-known-used c = search needs
-
-sub-fill : tie.Need-sub-fill
-sub-fill c = search needs
-
-part-fill-start : tie.Need-part-fill-start
-part-fill-start c = search needs
 
 part-fill-end : tie.Need-part-fill-end
 part-fill-end c = let m = c .before .before .before in omega (arith, among m, c .before .if2 .taken)
@@ -77,9 +56,6 @@ fill-requires : tie.Need-fill-requires
 fill-requires c κs =
     let m = c .before .before .before .before in
     length-take-le 15 (s m) (omega (arith, among m, c .before .before .if2 .taken)) ∙ sym (size m)
-
-same-length : tie.Need-same-length
-same-length c = search needs
 
 returns-2 : tie.Need-returns-2
 unfolding packetCall
@@ -90,12 +66,6 @@ returns-2 c =
     rw (eq-eqb (length (start m .args .packet .now)) 15 (size m))
     (ap (λ (l : List ℕ). filledMeant 15 l) (f .fill .ensures) ∙ sym (copied-message (s m) (bytes m) (found m) (is m) (start m .args .packet .now) (t .if2 .taken)))
 
-sub-put-bytes : tie.Need-sub-put-bytes
-sub-put-bytes c = search needs
-
-part-put-bytes-start : tie.Need-part-put-bytes-start
-part-put-bytes-start c = search needs
-
 part-put-bytes-end : tie.Need-part-put-bytes-end
 part-put-bytes-end c = let e = c .before in omega (arith, among (e .before .before), short e)
 
@@ -104,12 +74,6 @@ put-bytes-requires c κs =
     let e = c .before .before in
     let m = e .before .before in
     search (needs, size m, length-take-le 7 (s m) (omega (arith, among m, short e)))
-
-slice-aggregate-put-bytes : tie.Need-slice-aggregate-put-bytes
-slice-aggregate-put-bytes c = search needs
-
-put-bytes-requires-2 : tie.Need-put-bytes-requires-2
-put-bytes-requires-2 c κs = search needs
 
 returns-3 : tie.Need-returns-3
 unfolding packetCall
@@ -120,9 +84,6 @@ returns-3 c =
     let a = e .before .before .before .args in
     let none : refused (m .n .given .0 .0) ≡ read (a .bytes .now) = rw (m .n .given .1) at (r .read .ensures) in
     rw (eq-eqb (length (a .packet .now)) 15 (e .if1 .left), ← none) (ap (λ (r : ℕ). filledMeant r (a .packet .now)) (c .refusal2 .ensures))
-
-same-length-2 : tie.Need-same-length-2
-same-length-2 c = search needs
 
 returns-4 : tie.Need-returns-4
 unfolding packetCall
@@ -141,24 +102,24 @@ pub mudasgup-raw-packet-read-spec : {M : Type 1} → statement M
 mudasgup-raw-packet-read-spec =
     tie.close
     (tie.spec
-    refusal-requires
+    (search needs)
     returns
-    read-requires
-    enum-known-n
-    refusal-requires-2
-    enum-known-used
-    sub-fill
-    part-fill-start
+    (search needs)
+    (search needs)
+    (search needs)
+    (search needs)
+    (search needs)
+    (search needs)
     part-fill-end
     fill-requires
-    same-length
+    (search needs)
     returns-2
-    sub-put-bytes
-    part-put-bytes-start
+    (search needs)
+    (search needs)
     part-put-bytes-end
     put-bytes-requires
-    slice-aggregate-put-bytes
-    put-bytes-requires-2
+    (search needs)
+    (search needs)
     returns-3
-    same-length-2
+    (search needs)
     returns-4)

@@ -50,12 +50,6 @@ resting r =
     let d = s .before in
     r .own-rests .ensures ∙ of-blocks d (λ y k z. ownRests y k z) ∙ sym (rests-by (t d) (i d) (x d) (sym (valid s) ∙ r .before .if2 .left))
 
-are-blocks-requires : tie.Need-are-blocks-requires
-are-blocks-requires c κs = search needs
-
-refusal-requires : tie.Need-refusal-requires
-refusal-requires c κs = search needs
-
 returns : tie.Need-returns
 unfolding idleCall
 returns c =
@@ -70,17 +64,8 @@ tree-in-requires c κs = fit c .tree-size
 own-in-requires : tie.Need-own-in-requires
 own-in-requires c κs = fit (c .before) .column-size
 
-cast-i : tie.Need-cast-i
-cast-i c = search needs
-
 column-in-requires : tie.Need-column-in-requires
 column-in-requires c κs = fit (c .before .before) .column-size
-
-validity-refusal-requires : tie.Need-validity-refusal-requires
-validity-refusal-requires c κs = search needs
-
-refusal-requires-2 : tie.Need-refusal-requires-2
-refusal-requires-2 c κs = search needs
 
 returns-2 : tie.Need-returns-2
 unfolding idleCall
@@ -89,9 +74,6 @@ returns-2 c =
     let d = s .before in
     let n = validityRefusal (t d) (i d) (x d) in
     rw (fit (d .before .before .before) .tested, ne-eqb n 0 (λ z. c .before .if2 .taken (valid s ∙ z)), ← valid s) (c .refusal2 .ensures)
-
-own-rests-requires : tie.Need-own-rests-requires
-own-rests-requires c κs = search needs
 
 returns-3 : tie.Need-returns-3
 unfolding idleCall
@@ -113,16 +95,16 @@ pub mudasgup-raw-idle-spec : {M : Type 1} → statement M
 mudasgup-raw-idle-spec =
     tie.close
     (tie.spec
-    are-blocks-requires
-    refusal-requires
+    (search needs)
+    (search needs)
     returns
     tree-in-requires
     own-in-requires
-    cast-i
+    (search needs)
     column-in-requires
-    validity-refusal-requires
-    refusal-requires-2
+    (search needs)
+    (search needs)
     returns-2
-    own-rests-requires
+    (search needs)
     returns-3
     returns-4)

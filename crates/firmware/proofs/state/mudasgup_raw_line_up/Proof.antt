@@ -13,12 +13,6 @@ use Rattle.firmware.proofs.state.mudasgup_raw_line_up.Tie as tie
 good : (e : tie.Else1) → isColumn (e .before .before .before .args .column .now) ≡ true
 good e = sym (e .before .is-column .ensures) ∙ not-false _ (e .if1 .left)
 
-is-column-requires : tie.Need-is-column-requires
-is-column-requires c κs = search needs
-
-refusal-requires : tie.Need-refusal-requires
-refusal-requires c κs = search needs
-
 returns : tie.Need-returns
 unfolding lineUpCall
 returns c =
@@ -47,13 +41,4 @@ returns-3 c =
     rw (good e, eq-eqb (bitAnd (getD s 23 0) (getD s 24 0)) 0 (c .if2 .left))
 
 pub mudasgup-raw-line-up-spec : {M : Type 1} → statement M
-mudasgup-raw-line-up-spec =
-    tie.close
-    (tie.spec
-    is-column-requires
-    refusal-requires
-    returns
-    shared-slice-read-if2
-    shared-slice-read-if2-2
-    returns-2
-    returns-3)
+mudasgup-raw-line-up-spec = tie.close (tie.spec (search needs) (search needs) returns shared-slice-read-if2 shared-slice-read-if2-2 returns-2 returns-3)

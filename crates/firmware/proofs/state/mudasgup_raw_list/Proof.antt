@@ -36,12 +36,6 @@ module _ (l : tie.After-lone-list) where
       ∙ ap₂ (λ (y : Tree) (k : ℕ). loneList y k (d .column-in .result) (a .buffer .now)) (t .tree-in .ensures) (o .own-in .ensures)
       ∙ ap (λ (y : Column). loneList (treeIn (a .tree .now)) (ownIn (a .column .now)) y (a .buffer .now)) (d .column-in .ensures)
 
-are-blocks-requires : tie.Need-are-blocks-requires
-are-blocks-requires c κs = search needs
-
-refusal-requires : tie.Need-refusal-requires
-refusal-requires c κs = search needs
-
 returns : tie.Need-returns
 unfolding listCall
 returns c =
@@ -53,29 +47,11 @@ returns c =
 own-in-requires : tie.Need-own-in-requires
 own-in-requires c κs = fit c .column-size
 
-cast-i : tie.Need-cast-i
-cast-i c = search needs
-
 tree-in-requires : tie.Need-tree-in-requires
 tree-in-requires c κs = fit (c .before) .tree-size
 
 column-in-requires : tie.Need-column-in-requires
 column-in-requires c κs = fit (c .before .before) .column-size
-
-lone-list-requires : tie.Need-lone-list-requires
-lone-list-requires c κs = search needs
-
-enum-known-n : tie.Need-enum-known-n
-enum-known-n c = search needs
-
-refusal-requires-2 : tie.Need-refusal-requires-2
-refusal-requires-2 c κs = search needs
-
-enum-known-n-2 : tie.Need-enum-known-n-2
-enum-known-n-2 c = search needs
-
-same-length : tie.Need-same-length
-same-length c = search needs
 
 returns-2 : tie.Need-returns-2
 unfolding listCall
@@ -85,9 +61,6 @@ returns-2 c =
     rw (fit (l .before .before .before .before .before) .tested)
     (ap (λ (r : ℕ). filledMeant r (l .lone-list .last .1 .1 .1 .0)) (c .refusal2 .ensures)
     ∙ sym (ap (λ (x : Listing). listLeft (listedMeant x (l .lone-list .last .1 .1 .1 .0))) (m .n .given .1)) ∙ ap (λ (x : Listed). listLeft x) (left l))
-
-same-length-2 : tie.Need-same-length-2
-same-length-2 c = search needs
 
 returns-3 : tie.Need-returns-3
 unfolding listCall
@@ -101,18 +74,18 @@ pub mudasgup-raw-list-spec : {M : Type 1} → statement M
 mudasgup-raw-list-spec =
     tie.close
     (tie.spec
-    are-blocks-requires
-    refusal-requires
+    (search needs)
+    (search needs)
     returns
     own-in-requires
-    cast-i
+    (search needs)
     tree-in-requires
     column-in-requires
-    lone-list-requires
-    enum-known-n
-    refusal-requires-2
-    enum-known-n-2
-    same-length
+    (search needs)
+    (search needs)
+    (search needs)
+    (search needs)
+    (search needs)
     returns-2
-    same-length-2
+    (search needs)
     returns-3)

@@ -37,12 +37,6 @@ module _ (r : tie.After-read) where
       ∙ ap₂ (λ (y : Tree) (k : ℕ). readByte y k (d .column-in .result) (a .offset)) (t .tree-in .ensures) (o .own-in .ensures)
       ∙ ap (λ (y : Column). readByte (treeIn (a .tree .now)) (ownIn (a .column .now)) y (a .offset)) (d .column-in .ensures)
 
-are-blocks-requires : tie.Need-are-blocks-requires
-are-blocks-requires c κs = search needs
-
-refusal-requires : tie.Need-refusal-requires
-refusal-requires c κs = search needs
-
 returns : tie.Need-returns
 unfolding byteCall
 returns c =
@@ -54,29 +48,11 @@ returns c =
 own-in-requires : tie.Need-own-in-requires
 own-in-requires c κs = fit c .column-size
 
-cast-i : tie.Need-cast-i
-cast-i c = search needs
-
 tree-in-requires : tie.Need-tree-in-requires
 tree-in-requires c κs = fit (c .before) .tree-size
 
 column-in-requires : tie.Need-column-in-requires
 column-in-requires c κs = fit (c .before .before) .column-size
-
-read-requires : tie.Need-read-requires
-read-requires c κs = search needs
-
-enum-known-n : tie.Need-enum-known-n
-enum-known-n c = search needs
-
-refusal-requires-2 : tie.Need-refusal-requires-2
-refusal-requires-2 c κs = search needs
-
-enum-known-value : tie.Need-enum-known-value
-enum-known-value c = search needs
-
-cast-result : tie.Need-cast-result
-cast-result c = search needs
 
 returns-2 : tie.Need-returns-2
 unfolding byteCall
@@ -100,17 +76,17 @@ pub mudasgup-raw-page-read-spec : {M : Type 1} → statement M
 mudasgup-raw-page-read-spec =
     tie.close
     (tie.spec
-    are-blocks-requires
-    refusal-requires
+    (search needs)
+    (search needs)
     returns
     own-in-requires
-    cast-i
+    (search needs)
     tree-in-requires
     column-in-requires
-    read-requires
-    enum-known-n
-    refusal-requires-2
-    enum-known-value
-    cast-result
+    (search needs)
+    (search needs)
+    (search needs)
+    (search needs)
+    (search needs)
     returns-2
     returns-3)

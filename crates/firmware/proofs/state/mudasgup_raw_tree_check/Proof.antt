@@ -16,12 +16,6 @@ good e = sym (e .before .is-tree .ensures) ∙ not-false _ (e .if1 .left)
 found : (r : tie.After-tree-refusal) → r .tree-refusal .result ≡ treeRefusal (treeIn (r .before .before .before .before .before .args .tree .now))
 found r = r .tree-refusal .ensures ∙ ap (λ (t : Tree). treeRefusal t) (r .before .tree-in .ensures)
 
-is-tree-requires : tie.Need-is-tree-requires
-is-tree-requires c κs = search needs
-
-refusal-requires : tie.Need-refusal-requires
-refusal-requires c κs = search needs
-
 returns : tie.Need-returns
 unfolding treeCall
 returns c =
@@ -31,12 +25,6 @@ returns c =
 
 tree-in-requires : tie.Need-tree-in-requires
 tree-in-requires c κs = tree-size (c .before .before .before .args .tree .now) (good c)
-
-tree-refusal-requires : tie.Need-tree-refusal-requires
-tree-refusal-requires c κs = search needs
-
-refusal-requires-2 : tie.Need-refusal-requires-2
-refusal-requires-2 c κs = search needs
 
 returns-2 : tie.Need-returns-2
 unfolding treeCall
@@ -55,14 +43,4 @@ returns-3 c =
     rw (good e, eq-eqb (treeRefusal (treeIn tree)) 0 (sym (found r) ∙ c .if2 .left))
 
 pub mudasgup-raw-tree-check-spec : {M : Type 1} → statement M
-mudasgup-raw-tree-check-spec =
-    tie.close
-    (tie.spec
-    is-tree-requires
-    refusal-requires
-    returns
-    tree-in-requires
-    tree-refusal-requires
-    refusal-requires-2
-    returns-2
-    returns-3)
+mudasgup-raw-tree-check-spec = tie.close (tie.spec (search needs) (search needs) returns tree-in-requires (search needs) (search needs) returns-2 returns-3)

@@ -38,44 +38,17 @@ module _ (c : tie.After-b) where
   two-sizes : c .b .given .0 .1 .1 .0 ≤ length (second .read-journal2 .last .1 .1 .0)
   two-sizes = omega (arith, two .few, second .read-journal2 .kept .1 .0, second .read-journal2 .kept .1 .1 .0)
 
-slice-aggregate-read-journal : tie.Need-slice-aggregate-read-journal
-slice-aggregate-read-journal c = search needs
-
-slice-aggregate-read-journal-2 : tie.Need-slice-aggregate-read-journal-2
-slice-aggregate-read-journal-2 c = search needs
-
 read-journal-requires : tie.Need-read-journal-requires
 read-journal-requires c κs = search needs
 
-enum-known-n : tie.Need-enum-known-n
-enum-known-n c = search needs
-
-enum-known-a : tie.Need-enum-known-a
-enum-known-a c = search needs
-
-slice-aggregate-read-journal-3 : tie.Need-slice-aggregate-read-journal-3
-slice-aggregate-read-journal-3 c = search needs
-
-slice-aggregate-read-journal-4 : tie.Need-slice-aggregate-read-journal-4
-slice-aggregate-read-journal-4 c = search needs
-
 read-journal-requires-2 : tie.Need-read-journal-requires-2
 read-journal-requires-2 c κs = search needs
-
-enum-known-m : tie.Need-enum-known-m
-enum-known-m c = search needs
-
-enum-known-b : tie.Need-enum-known-b
-enum-known-b c = search needs
 
 sub-compare-read : tie.Need-sub-compare-read
 sub-compare-read c = let h = one (known (second (c .before))) in search (needs, h .inside)
 
 part-compare-read-start : tie.Need-part-compare-read-start
 part-compare-read-start c = let h = one (known (second (c .before))) in search (needs, h .inside)
-
-part-compare-read-end : tie.Need-part-compare-read-end
-part-compare-read-end c = search needs
 
 array-share-prefix-keys-one : tie.Need-array-share-prefix-keys-one
 array-share-prefix-keys-one c = let a = known (second (c .before .before)) in omega (arith, one a .few, first a .read-journal .kept .1 .0)
@@ -94,9 +67,6 @@ sub-compare-read-2 c = let h = two (c .before .before .before .before) in search
 
 part-compare-read-start-2 : tie.Need-part-compare-read-start-2
 part-compare-read-start-2 c = let h = two (c .before .before .before .before) in search (needs, h .inside)
-
-part-compare-read-end-2 : tie.Need-part-compare-read-end-2
-part-compare-read-end-2 c = search needs
 
 array-share-prefix-keys-two : tie.Need-array-share-prefix-keys-two
 array-share-prefix-keys-two c = let b = c .before .before .before .before .before in omega (arith, two b .few, second b .read-journal2 .kept .1 .0)
@@ -133,9 +103,6 @@ returns-2 c =
     let q = b .before .before .before .before in
     sym (second-refused _ _ _ _ _ (one (known q) .journal) (as-refused _ _ _ (b .m .given .1) (q .read-journal2 .ensures)))
 
-same-length : tie.Need-same-length
-same-length c = search needs
-
 returns-3 : tie.Need-returns-3
 returns-3 c =
     let w = c .before .before in
@@ -146,26 +113,26 @@ pub compare-spec : {M : Type 1} → statement M
 compare-spec =
     tie.close
     (tie.spec
-    slice-aggregate-read-journal
-    slice-aggregate-read-journal-2
+    (search needs)
+    (search needs)
     read-journal-requires
-    enum-known-n
-    enum-known-a
-    slice-aggregate-read-journal-3
-    slice-aggregate-read-journal-4
+    (search needs)
+    (search needs)
+    (search needs)
+    (search needs)
     read-journal-requires-2
-    enum-known-m
-    enum-known-b
+    (search needs)
+    (search needs)
     sub-compare-read
     part-compare-read-start
-    part-compare-read-end
+    (search needs)
     array-share-prefix-keys-one
     slice-aggregate-compare-read
     array-share-prefix-sizes-one
     slice-aggregate-compare-read-2
     sub-compare-read-2
     part-compare-read-start-2
-    part-compare-read-end-2
+    (search needs)
     array-share-prefix-keys-two
     slice-aggregate-compare-read-3
     array-share-prefix-sizes-two
@@ -173,5 +140,5 @@ compare-spec =
     compare-read-requires
     returns
     returns-2
-    same-length
+    (search needs)
     returns-3)

@@ -82,15 +82,9 @@ returns c =
     let k = c .before in
     sym (pair-owners (one k) (two k) _ (c .if1 .taken))
 
-slice-aggregate-chain : tie.Need-slice-aggregate-chain
-slice-aggregate-chain c = search needs
-
 chain-requires : tie.Need-chain-requires
 chain-requires c κs =
     (index-room (start (c .before .before) .pre .1), index-none _)
-
-slice-aggregate-chain-2 : tie.Need-slice-aggregate-chain-2
-slice-aggregate-chain-2 c = search needs
 
 chain-requires-2 : tie.Need-chain-requires-2
 chain-requires-2 c κs =
@@ -107,12 +101,6 @@ returns-2 c =
     (λ p. first-twice (one k) (two k) _ (apart x .if1 .left) (first-once x ∙ p))
     (truth (chained x .chain .result)))
 
-slice-aggregate-both-heard : tie.Need-slice-aggregate-both-heard
-slice-aggregate-both-heard c = search needs
-
-slice-aggregate-both-heard-2 : tie.Need-slice-aggregate-both-heard-2
-slice-aggregate-both-heard-2 c = search needs
-
 both-heard-requires : tie.Need-both-heard-requires
 both-heard-requires c κs =
     let f = c .before .before in
@@ -128,12 +116,6 @@ returns-3 c =
     sym (pair-unheard (one (known x)) (two (known x)) _ (apart x .if1 .left) (first-once x ∙ first-well f) (second-once x ∙ second-well f)
     (heard-is h ∙ not-true (h .both-heard .result) (c .if3 .taken)))
 
-slice-aggregate-write-missing : tie.Need-slice-aggregate-write-missing
-slice-aggregate-write-missing c = search needs
-
-slice-aggregate-write-missing-2 : tie.Need-slice-aggregate-write-missing-2
-slice-aggregate-write-missing-2 c = search needs
-
 write-missing-requires : tie.Need-write-missing-requires
 write-missing-requires c κs =
     let f = indexed (c .before .before .before .before) in
@@ -141,9 +123,6 @@ write-missing-requires c κs =
       record { holds = p .0; few = p .1; placed-in = first-placed f },
       record { holds = p .2; few = p .3; placed-in = second-placed f },
     )
-
-same-length : tie.Need-same-length
-same-length c = search needs
 
 returns-4 : tie.Need-returns-4
 returns-4 c =
@@ -161,17 +140,17 @@ compare-read-spec =
     tie.close
     (tie.spec
     returns
-    slice-aggregate-chain
+    (search needs)
     chain-requires
-    slice-aggregate-chain-2
+    (search needs)
     chain-requires-2
     returns-2
-    slice-aggregate-both-heard
-    slice-aggregate-both-heard-2
+    (search needs)
+    (search needs)
     both-heard-requires
     returns-3
-    slice-aggregate-write-missing
-    slice-aggregate-write-missing-2
+    (search needs)
+    (search needs)
     write-missing-requires
-    same-length
+    (search needs)
     returns-4)

@@ -29,9 +29,6 @@ first-length m = let p = start (m .before .before) .pre in m .missing-length .en
 second-length : (n : tie.After-missing-length2) → n .missing-length2 .result ≡ length (second (n .before .before .before .before))
 second-length n = let p = start (n .before .before .before .before) .pre in n .missing-length2 .ensures ∙ missing-size (p .1 .holds) (p .0 .holds)
 
-add-if1 : tie.Need-add-if1
-add-if1 c = search needs
-
 returns : tie.Need-returns
 returns c =
     let k = c .before in
@@ -72,13 +69,4 @@ returns-4 c =
     (omega (arith, n .before .if2 .left, c .if3 .left, first-length m, second-length n)))
 
 pub has-room-spec : {M : Type 1} → statement M
-has-room-spec =
-    tie.close
-    (tie.spec
-    add-if1
-    returns
-    missing-length-requires
-    returns-2
-    missing-length-requires-2
-    returns-3
-    returns-4)
+has-room-spec = tie.close (tie.spec (search needs) returns missing-length-requires returns-2 missing-length-requires-2 returns-3 returns-4)

@@ -84,9 +84,6 @@ put-missing-requires-2 c κs =
     let p = start (known e) .pre in
     (walk-start (p .1 .holds), as-many (p .1 .holds), p .1 .holds .below, p .0 .placed-in, omega (arith, room e, w .put-missing .ensures .place, w .put-missing .kept .1 .1 .1 .1 .1 .1 .1 .0))
 
-same-length : tie.Need-same-length
-same-length c = search needs
-
 returns-2 : tie.Need-returns-2
 returns-2 c =
     let y = c .before .before in
@@ -98,12 +95,4 @@ returns-2 c =
     (writes-more (first-text k) (second-text k) (omega (arith, room e, length-append (first-text k) (second-text k))) (w .put-missing .ensures) (y .put-missing2 .ensures)))
 
 pub write-missing-spec : {M : Type 1} → statement M
-write-missing-spec =
-    tie.close
-    (tie.spec
-    has-room-requires
-    returns
-    put-missing-requires
-    put-missing-requires-2
-    same-length
-    returns-2)
+write-missing-spec = tie.close (tie.spec has-room-requires returns put-missing-requires put-missing-requires-2 (search needs) returns-2)

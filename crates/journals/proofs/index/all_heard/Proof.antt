@@ -20,12 +20,6 @@ loop-holds : tie.Need-loop-holds Inv-loop μ-loop
 unfolding heardKeys
 loop-holds c = (omega arith, refl)
 
-mul-heard-one : tie.Need-mul-heard-one Inv-loop μ-loop
-mul-heard-one c = search needs
-
-shared-slice-read-heard-one : tie.Need-shared-slice-read-heard-one Inv-loop μ-loop
-shared-slice-read-heard-one c = search needs
-
 heard-one-requires : tie.Need-heard-one-requires Inv-loop μ-loop
 heard-one-requires c κs = search needs
 
@@ -36,9 +30,6 @@ returns c =
     let a = l .before .before .before .before .args in
     sym (heard-fails (a .a) (a .b) (a .theirs .now) (a .keys .now) (l .loop .i) (length (a .keys .now)) (k .before .before .loop-test .taken)
     (sym (k .heard-one .ensures) ∙ not-true (k .heard-one .result) (c .if1 .taken)))
-
-add-i : tie.Need-add-i Inv-loop μ-loop
-add-i c = search needs
 
 loop-less : tie.Need-loop-less Inv-loop μ-loop
 loop-less c = search needs
@@ -67,11 +58,11 @@ all-heard-spec =
     Inv-loop
     μ-loop
     loop-holds
-    mul-heard-one
-    shared-slice-read-heard-one
+    (search needs)
+    (search needs)
     heard-one-requires
     returns
-    add-i
+    (search needs)
     loop-less
     loop-again
     returns-2)

@@ -22,19 +22,10 @@ loop-holds c =
     let s = c .before .before in
     (omega arith, s .pre .0, refl, refl, s .pre .1)
 
-mul-has : tie.Need-mul-has Inv-loop μ-loop
-mul-has c = search needs
-
-shared-slice-read-has : tie.Need-shared-slice-read-has Inv-loop μ-loop
-shared-slice-read-has c = search needs
-
 has-requires : tie.Need-has-requires Inv-loop μ-loop
 has-requires c κs =
     let i = c .before .before .before .loop .inv in
     (omega arith, omega (arith, i .0, i .1), i .4)
-
-same-length : tie.Need-same-length Inv-loop μ-loop
-same-length c = search needs
 
 returns : tie.Need-returns Inv-loop μ-loop
 returns c =
@@ -49,9 +40,6 @@ add-requires c κs =
     let t = c .before .before .before .before .before in
     let i = t .before .loop .inv in
     (t .loop-test .taken, omega (arith, i .1, t .loop-test .taken), i .4)
-
-add-i : tie.Need-add-i Inv-loop μ-loop
-add-i c = search needs
 
 loop-less : tie.Need-loop-less Inv-loop μ-loop
 loop-less c = search needs
@@ -69,9 +57,6 @@ loop-again c =
       distinct-more _ (l .loop .i) (sym (e .before .has .ensures) ∙ e .if1 .left) (i .3),
       d .add .ensures,
     )
-
-same-length-2 : tie.Need-same-length-2 Inv-loop μ-loop
-same-length-2 c = search needs
 
 returns-2 : tie.Need-returns-2 Inv-loop μ-loop
 returns-2 c =
@@ -91,14 +76,14 @@ chain-spec =
     Inv-loop
     μ-loop
     loop-holds
-    mul-has
-    shared-slice-read-has
+    (search needs)
+    (search needs)
     has-requires
-    same-length
+    (search needs)
     returns
     add-requires
-    add-i
+    (search needs)
     loop-less
     loop-again
-    same-length-2
+    (search needs)
     returns-2)

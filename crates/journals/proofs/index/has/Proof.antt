@@ -15,12 +15,6 @@ Inv-loop keys n index key bucket i₀ i =
 abbrev μ-loop : tie.MeasureT-loop
 μ-loop keys n index key bucket i₀ i = i
 
-mul-i : tie.Need-mul-i Inv-loop μ-loop
-mul-i c = search needs
-
-shared-slice-read-i : tie.Need-shared-slice-read-i Inv-loop μ-loop
-shared-slice-read-i c = search needs
-
 loop-holds : tie.Need-loop-holds Inv-loop μ-loop
 loop-holds c =
     let s = c .before in
@@ -31,15 +25,6 @@ loop-holds c =
       λ j z. last-in (a .keys .now) (a .key % buckets) (a .n) j (sym e ∙ z),
     )
 
-sub-if1 : tie.Need-sub-if1 Inv-loop μ-loop
-sub-if1 c = search needs
-
-mul-if1 : tie.Need-mul-if1 Inv-loop μ-loop
-mul-if1 c = search needs
-
-shared-slice-read-if1 : tie.Need-shared-slice-read-if1 Inv-loop μ-loop
-shared-slice-read-if1 c = search needs
-
 returns : tie.Need-returns Inv-loop μ-loop
 returns c =
     let l = c .before .before .before in
@@ -47,18 +32,6 @@ returns c =
     let i = l .loop .i in
     let e : i ≡ suc (i - 1) = omega (arith, c .before .before .loop-test .taken) in
     sym (l .loop .inv .1 ∙ ap (λ (k : ℕ). among (a .keys .now) k (a .key)) e ∙ among-here (a .keys .now) (a .key) (i - 1) (c .if1 .taken))
-
-sub-i : tie.Need-sub-i Inv-loop μ-loop
-sub-i c = search needs
-
-add-i : tie.Need-add-i Inv-loop μ-loop
-add-i c = search needs
-
-mul-i-2 : tie.Need-mul-i-2 Inv-loop μ-loop
-mul-i-2 c = search needs
-
-shared-slice-read-i-2 : tie.Need-shared-slice-read-i-2 Inv-loop μ-loop
-shared-slice-read-i-2 c = search needs
 
 -- the place before it in its bucket
 before : (c : tie.After-shared-slice-known3 Inv-loop μ-loop)
@@ -105,17 +78,17 @@ has-spec =
     (tie.spec
     Inv-loop
     μ-loop
-    mul-i
-    shared-slice-read-i
+    (search needs)
+    (search needs)
     loop-holds
-    sub-if1
-    mul-if1
-    shared-slice-read-if1
+    (search needs)
+    (search needs)
+    (search needs)
     returns
-    sub-i
-    add-i
-    mul-i-2
-    shared-slice-read-i-2
+    (search needs)
+    (search needs)
+    (search needs)
+    (search needs)
     loop-less
     loop-again
     returns-2)

@@ -42,18 +42,6 @@ loop-holds c =
     let a = s .args in
     (s .pre .0, omega arith, refl, refl, sym (with-none (valuesFrom entryKey (a .owner) (a .text .now) (a .from))), sym (with-none (valuesFrom entrySize (a .owner) (a .text .now) (a .from))))
 
-next-key-requires : tie.Need-next-key-requires Inv-loop μ-loop
-next-key-requires c κs = search needs
-
-enum-known-n : tie.Need-enum-known-n Inv-loop μ-loop
-enum-known-n c = search needs
-
-same-length : tie.Need-same-length Inv-loop μ-loop
-same-length c = search needs
-
-same-length-2 : tie.Need-same-length-2 Inv-loop μ-loop
-same-length-2 c = search needs
-
 returns : tie.Need-returns Inv-loop μ-loop
 returns c =
     let k = c .before .before .before in
@@ -65,29 +53,17 @@ returns c =
       (sym (l .loop .inv .5 ∙ ap (withFront _) (stops entrySize) ∙ with-refused _ _), omega arith),
     )
 
-enum-known-key : tie.Need-enum-known-key Inv-loop μ-loop
-enum-known-key c = search needs
-
 sub-size : tie.Need-sub-size Inv-loop μ-loop
 sub-size c = omega (arith, stepped c .long)
 
 cast-size : tie.Need-cast-size Inv-loop μ-loop
 cast-size c = omega (arith, stepped c .inside, start (top c) .pre .1)
 
-mul-keys : tie.Need-mul-keys Inv-loop μ-loop
-mul-keys c = search needs
-
 slice-write-keys : tie.Need-slice-write-keys Inv-loop μ-loop
 slice-write-keys c = omega (arith, room c)
 
-mul-sizes : tie.Need-mul-sizes Inv-loop μ-loop
-mul-sizes c = search needs
-
 slice-write-sizes : tie.Need-slice-write-sizes Inv-loop μ-loop
 slice-write-sizes c = omega (arith, room c, top c .loop .inv .2, top c .loop .inv .3, start (top c) .pre .3)
-
-add-count : tie.Need-add-count Inv-loop μ-loop
-add-count c = search needs
 
 loop-less : tie.Need-loop-less Inv-loop μ-loop
 loop-less c = omega (arith, stepped c .long, stepped c .inside)
@@ -105,12 +81,6 @@ loop-again c =
       l .loop .inv .5 ∙ ap (withFront _) (z .rest-sizes) ∙ with-step _ _ _ _ (take-written (l .loop .sizes) (l .loop .count) _ here),
     )
 
-same-length-3 : tie.Need-same-length-3 Inv-loop μ-loop
-same-length-3 c = search needs
-
-same-length-4 : tie.Need-same-length-4 Inv-loop μ-loop
-same-length-4 c = search needs
-
 returns-2 : tie.Need-returns-2 Inv-loop μ-loop
 returns-2 c =
     let l = c .before in
@@ -126,21 +96,21 @@ read-entries-spec =
     Inv-loop
     μ-loop
     loop-holds
-    next-key-requires
-    enum-known-n
-    same-length
-    same-length-2
+    (search needs)
+    (search needs)
+    (search needs)
+    (search needs)
     returns
-    enum-known-key
+    (search needs)
     sub-size
     cast-size
-    mul-keys
+    (search needs)
     slice-write-keys
-    mul-sizes
+    (search needs)
     slice-write-sizes
-    add-count
+    (search needs)
     loop-less
     loop-again
-    same-length-3
-    same-length-4
+    (search needs)
+    (search needs)
     returns-2)

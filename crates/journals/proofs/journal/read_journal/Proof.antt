@@ -14,34 +14,10 @@ returns : tie.Need-returns
 returns c =
     journal-long _ (c .if1 .taken)
 
-find-requires : tie.Need-find-requires
-find-requires c κs = search needs
-
 returns-2 : tie.Need-returns-2
 returns-2 c =
     let f = c .before .find .ensures in
     journal-unended _ (c .before .before .if1 .left) _ (f .0) (f .1) (c .if2 .taken)
-
-sub-read-keyed : tie.Need-sub-read-keyed
-sub-read-keyed c = search needs
-
-part-read-keyed-start : tie.Need-part-read-keyed-start
-part-read-keyed-start c = search needs
-
-part-read-keyed-end : tie.Need-part-read-keyed-end
-part-read-keyed-end c = search needs
-
-slice-aggregate-read-keyed : tie.Need-slice-aggregate-read-keyed
-slice-aggregate-read-keyed c = search needs
-
-read-keyed-requires : tie.Need-read-keyed-requires
-read-keyed-requires c κs = search needs
-
-enum-told : tie.Need-enum-told
-enum-told c = search needs
-
-enum-known-owner : tie.Need-enum-known-owner
-enum-known-owner c = search needs
 
 returns-3 : tie.Need-returns-3
 returns-3 c =
@@ -51,33 +27,12 @@ returns-3 c =
     let f = e .before .find .ensures in
     journal-above _ (e .before .before .if1 .left) _ (f .0) (f .1) (e .if2 .left) _ (sym (k .read-keyed .ensures) ∙ ap numberMeant (o .owner .given .1)) (c .if3 .taken)
 
-add-read-entries : tie.Need-add-read-entries
-add-read-entries c = search needs
-
-read-entries-requires : tie.Need-read-entries-requires
-read-entries-requires c κs = search needs
-
-enum-known-n : tie.Need-enum-known-n
-enum-known-n c = search needs
-
-enum-known-count : tie.Need-enum-known-count
-enum-known-count c = search needs
-
-add-t26 : tie.Need-add-t26
-add-t26 c = search needs
-
 returns-4 : tie.Need-returns-4
 returns-4 c =
     let k = c .before .before in
     let e = k .before .before .before in
     let f = e .before .find .ensures in
     journal-unread _ (e .before .before .if1 .left) _ (f .0) (f .1) (e .if2 .left) (sym (k .read-keyed .ensures) ∙ ap numberMeant (c .enum-told .given .1))
-
-same-length : tie.Need-same-length
-same-length c = search needs
-
-same-length-2 : tie.Need-same-length-2
-same-length-2 c = search needs
 
 returns-5 : tie.Need-returns-5
 returns-5 c =
@@ -91,12 +46,6 @@ returns-5 c =
     read-refused _ _ (e .before .find .result + 1)
     (journal-owned _ (e .before .before .if1 .left) _ (f .0) (f .1) (e .if2 .left) _ (sym (k .read-keyed .ensures) ∙ ap numberMeant (o .owner .given .1)) (t .if3 .left))
     _ (ap (λ (r : Count). countMeant r (x .read-entries .last .1 .1 .1 .0)) (sym (n .n .given .1)) ∙ x .read-entries .ensures .0)
-
-same-length-3 : tie.Need-same-length-3
-same-length-3 c = search needs
-
-same-length-4 : tie.Need-same-length-4
-same-length-4 c = search needs
 
 returns-6 : tie.Need-returns-6
 returns-6 c =
@@ -119,25 +68,25 @@ read-journal-spec =
     tie.close
     (tie.spec
     returns
-    find-requires
+    (search needs)
     returns-2
-    sub-read-keyed
-    part-read-keyed-start
-    part-read-keyed-end
-    slice-aggregate-read-keyed
-    read-keyed-requires
-    enum-told
-    enum-known-owner
+    (search needs)
+    (search needs)
+    (search needs)
+    (search needs)
+    (search needs)
+    (search needs)
+    (search needs)
     returns-3
-    add-read-entries
-    read-entries-requires
-    enum-known-n
-    enum-known-count
-    add-t26
+    (search needs)
+    (search needs)
+    (search needs)
+    (search needs)
+    (search needs)
     returns-4
-    same-length
-    same-length-2
+    (search needs)
+    (search needs)
     returns-5
-    same-length-3
-    same-length-4
+    (search needs)
+    (search needs)
     returns-6)

@@ -43,86 +43,14 @@ third-read : (c : tie.After-read-numeral3)
     ≡ lineJudged (a .owner) (a .way) (numberMeant (n1 .read-numeral .result)) (numberMeant (n2 .read-numeral2 .result)) (numberMeant (c .read-numeral3 .result))
 third-read c = rw (c .read-numeral3 .ensures) (second-read (c .before .before .before .before .before))
 
-find-requires : tie.Need-find-requires
-find-requires c κs = search needs
-
 returns : tie.Need-returns
 returns c = sym (fields-one _ _ _ _ (c .before .find .ensures .1) (c .before .find .ensures .0) (c .if1 .taken))
-
-add-find : tie.Need-add-find
-add-find c = search needs
-
-find-requires-2 : tie.Need-find-requires-2
-find-requires-2 c κs = search needs
 
 returns-2 : tie.Need-returns-2
 returns-2 c =
     let e = c .before .before in
     let f = e .before .find .ensures in
     sym (fields-two _ _ _ _ (f .1) (f .0) (e .if1 .left) _ (c .before .find2 .ensures .1) (c .before .find2 .ensures .0) (c .if2 .taken))
-
-sub-read-numeral : tie.Need-sub-read-numeral
-sub-read-numeral c = search needs
-
-part-read-numeral-start : tie.Need-part-read-numeral-start
-part-read-numeral-start c = search needs
-
-part-read-numeral-end : tie.Need-part-read-numeral-end
-part-read-numeral-end c = search needs
-
-read-numeral-requires : tie.Need-read-numeral-requires
-read-numeral-requires c κs = search needs
-
-enum-told : tie.Need-enum-told
-enum-told c = search needs
-
-enum-known-kind : tie.Need-enum-known-kind
-enum-known-kind c = search needs
-
-add-read-numeral : tie.Need-add-read-numeral
-add-read-numeral c = search needs
-
-sub-read-numeral-2 : tie.Need-sub-read-numeral-2
-sub-read-numeral-2 c = search needs
-
-part-read-numeral-start-2 : tie.Need-part-read-numeral-start-2
-part-read-numeral-start-2 c = search needs
-
-part-read-numeral-end-2 : tie.Need-part-read-numeral-end-2
-part-read-numeral-end-2 c = search needs
-
-read-numeral-requires-2 : tie.Need-read-numeral-requires-2
-read-numeral-requires-2 c κs = search needs
-
-enum-told-2 : tie.Need-enum-told-2
-enum-told-2 c = search needs
-
-enum-known-other : tie.Need-enum-known-other
-enum-known-other c = search needs
-
-add-read-numeral-2 : tie.Need-add-read-numeral-2
-add-read-numeral-2 c = search needs
-
-sub-read-numeral-3 : tie.Need-sub-read-numeral-3
-sub-read-numeral-3 c = search needs
-
-part-read-numeral-start-3 : tie.Need-part-read-numeral-start-3
-part-read-numeral-start-3 c = search needs
-
-part-read-numeral-end-3 : tie.Need-part-read-numeral-end-3
-part-read-numeral-end-3 c = search needs
-
-read-numeral-requires-3 : tie.Need-read-numeral-requires-3
-read-numeral-requires-3 c κs = search needs
-
-enum-told-3 : tie.Need-enum-told-3
-enum-told-3 c = search needs
-
-enum-known-number : tie.Need-enum-known-number
-enum-known-number c = search needs
-
-judged-requires : tie.Need-judged-requires
-judged-requires c κs = search needs
 
 returns-3 : tie.Need-returns-3
 unfolding lineJudged
@@ -152,32 +80,32 @@ pub fields-spec : {M : Type 1} → statement M
 fields-spec =
     tie.close
     (tie.spec
-    find-requires
+    (search needs)
     returns
-    add-find
-    find-requires-2
+    (search needs)
+    (search needs)
     returns-2
-    sub-read-numeral
-    part-read-numeral-start
-    part-read-numeral-end
-    read-numeral-requires
-    enum-told
-    enum-known-kind
-    add-read-numeral
-    sub-read-numeral-2
-    part-read-numeral-start-2
-    part-read-numeral-end-2
-    read-numeral-requires-2
-    enum-told-2
-    enum-known-other
-    add-read-numeral-2
-    sub-read-numeral-3
-    part-read-numeral-start-3
-    part-read-numeral-end-3
-    read-numeral-requires-3
-    enum-told-3
-    enum-known-number
-    judged-requires
+    (search needs)
+    (search needs)
+    (search needs)
+    (search needs)
+    (search needs)
+    (search needs)
+    (search needs)
+    (search needs)
+    (search needs)
+    (search needs)
+    (search needs)
+    (search needs)
+    (search needs)
+    (search needs)
+    (search needs)
+    (search needs)
+    (search needs)
+    (search needs)
+    (search needs)
+    (search needs)
+    (search needs)
     returns-3
     returns-4
     returns-5

@@ -20,29 +20,9 @@ returns-4 c = sym (other-owner _ _ _ _ _ (c .if4 .taken))
 returns-5 : tie.Need-returns-5
 returns-5 c = sym (number-above _ _ _ _ _ (omega (arith, c .if5 .taken)))
 
-cast-kind-byte : tie.Need-cast-kind-byte
-cast-kind-byte c = search needs
-
-cast-other-byte : tie.Need-cast-other-byte
-cast-other-byte c = search needs
-
-cast-word : tie.Need-cast-word
-cast-word c = search needs
-
 returns-6 : tie.Need-returns-6
 returns-6 c =
     sym (line-good _ _ _ _ _ (omega arith) (omega arith) (omega arith) (c .before .if4 .left) (omega arith))
 
 pub judged-spec : {M : Type 1} → statement M
-judged-spec =
-    tie.close
-    (tie.spec
-    returns
-    returns-2
-    returns-3
-    returns-4
-    returns-5
-    cast-kind-byte
-    cast-other-byte
-    cast-word
-    returns-6)
+judged-spec = tie.close (tie.spec returns returns-2 returns-3 returns-4 returns-5 (search needs) (search needs) (search needs) returns-6)

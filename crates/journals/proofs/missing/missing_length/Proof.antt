@@ -19,20 +19,8 @@ abbrev μ-loop : tie.MeasureT-loop
 loop-holds : tie.Need-loop-holds Inv-loop μ-loop
 loop-holds c = (omega arith, omega arith, omega arith)
 
-mul-size : tie.Need-mul-size Inv-loop μ-loop
-mul-size c = search needs
-
-shared-slice-read-size : tie.Need-shared-slice-read-size Inv-loop μ-loop
-shared-slice-read-size c = search needs
-
 cast-size : tie.Need-cast-size Inv-loop μ-loop
 cast-size c = omega (arith, c .shared-slice-known5 .given (c .before .before .loop .i))
-
-mul-missed-one : tie.Need-mul-missed-one Inv-loop μ-loop
-mul-missed-one c = search needs
-
-shared-slice-read-missed-one : tie.Need-shared-slice-read-missed-one Inv-loop μ-loop
-shared-slice-read-missed-one c = search needs
 
 missed-one-requires : tie.Need-missed-one-requires Inv-loop μ-loop
 missed-one-requires c κs = search needs
@@ -45,9 +33,6 @@ add-count c =
     let k = c .before .before .before in
     let l = k .before .before in
     omega (arith, l .loop .inv .1, c .counted .ensures .1, k .shared-slice-known5 .given (l .loop .i))
-
-add-i : tie.Need-add-i Inv-loop μ-loop
-add-i c = search needs
 
 loop-less : tie.Need-loop-less Inv-loop μ-loop
 loop-less c = search needs
@@ -78,15 +63,15 @@ missing-length-spec =
     Inv-loop
     μ-loop
     loop-holds
-    mul-size
-    shared-slice-read-size
+    (search needs)
+    (search needs)
     cast-size
-    mul-missed-one
-    shared-slice-read-missed-one
+    (search needs)
+    (search needs)
     missed-one-requires
     counted-requires
     add-count
-    add-i
+    (search needs)
     loop-less
     loop-again
     returns)

@@ -27,29 +27,14 @@ loop-holds c =
     let s = c .before .before .before .before .before .before in
     (omega arith, s .pre .0, put-start _ _ _ _ _ _ (s .pre .4))
 
-mul-place : tie.Need-mul-place Inv-loop μ-loop
-mul-place c = search needs
-
-shared-slice-read-place : tie.Need-shared-slice-read-place Inv-loop μ-loop
-shared-slice-read-place c = search needs
-
 cast-place : tie.Need-cast-place Inv-loop μ-loop
 cast-place c = omega (arith, c .shared-slice-known6 .given (c .before .before .loop .i))
 
 add-place : tie.Need-add-place Inv-loop μ-loop
 add-place c = let w = further (c .before) in search (needs, w .walked .inside)
 
-mul-missed-one : tie.Need-mul-missed-one Inv-loop μ-loop
-mul-missed-one c = search needs
-
-shared-slice-read-missed-one : tie.Need-shared-slice-read-missed-one Inv-loop μ-loop
-shared-slice-read-missed-one c = search needs
-
 missed-one-requires : tie.Need-missed-one-requires Inv-loop μ-loop
 missed-one-requires c κs = search needs
-
-sub-put-piece : tie.Need-sub-put-piece Inv-loop μ-loop
-sub-put-piece c = search needs
 
 part-put-piece-start : tie.Need-part-put-piece-start Inv-loop μ-loop
 part-put-piece-start c = let w = further (c .before .before .before .before) in search (needs, w .walked .inside)
@@ -62,9 +47,6 @@ put-piece-requires c κs =
     let o = c .before .before in
     let k = o .before .before .before in
     put-room (further k) (k .before .loop .inv .2) _ (o .missed-one .ensures)
-
-add-i : tie.Need-add-i Inv-loop μ-loop
-add-i c = search needs
 
 loop-less : tie.Need-loop-less Inv-loop μ-loop
 loop-less c = search needs
@@ -79,9 +61,6 @@ loop-again c =
       put-more (further k) (k .before .loop .inv .2) _ (o .missed-one .ensures) (y .put-piece .ensures) (y .put-piece .kept .0),
     )
 
-same-length : tie.Need-same-length Inv-loop μ-loop
-same-length c = search needs
-
 returns : tie.Need-returns Inv-loop μ-loop
 returns c =
     let l = c .before in
@@ -94,19 +73,19 @@ put-missing-spec =
     Inv-loop
     μ-loop
     loop-holds
-    mul-place
-    shared-slice-read-place
+    (search needs)
+    (search needs)
     cast-place
     add-place
-    mul-missed-one
-    shared-slice-read-missed-one
+    (search needs)
+    (search needs)
     missed-one-requires
-    sub-put-piece
+    (search needs)
     part-put-piece-start
     part-put-piece-end
     put-piece-requires
-    add-i
+    (search needs)
     loop-less
     loop-again
-    same-length
+    (search needs)
     returns)

@@ -17,24 +17,9 @@ returns : tie.Need-returns
 returns c =
     rw (not-true (c .before .before .before .args .missed) (c .if1 .taken)) (writes-none _ _)
 
-sub-copy : tie.Need-sub-copy
-sub-copy c = search needs
-
-part-copy-start : tie.Need-part-copy-start
-part-copy-start c = search needs
-
-part-copy-end : tie.Need-part-copy-end
-part-copy-end c = search needs
-
 copy-requires : tie.Need-copy-requires
 copy-requires c κs =
     let h = room (c .before) in search (needs, h)
-
-add-result : tie.Need-add-result
-add-result c = search needs
-
-same-length : tie.Need-same-length
-same-length c = search needs
 
 returns-2 : tie.Need-returns-2
 returns-2 c =
@@ -50,14 +35,4 @@ returns-2 c =
     })
 
 pub put-piece-spec : {M : Type 1} → statement M
-put-piece-spec =
-    tie.close
-    (tie.spec
-    returns
-    sub-copy
-    part-copy-start
-    part-copy-end
-    copy-requires
-    add-result
-    same-length
-    returns-2)
+put-piece-spec = tie.close (tie.spec returns (search needs) (search needs) (search needs) copy-requires (search needs) (search needs) returns-2)

@@ -4,15 +4,6 @@ use Rattle.journals.specs.inner.LineWords.{wayIn}
 use Rattle.journals.proofs.word.about.Statement.{statement}
 use Rattle.journals.proofs.word.about.Tie as tie
 
-mul-if1 : tie.Need-mul-if1
-mul-if1 c = search needs
-
-mul-if1-2 : tie.Need-mul-if1-2
-mul-if1-2 c = search needs
-
-div-if1 : tie.Need-div-if1
-div-if1 c = search needs
-
 returns : tie.Need-returns
 returns c = let a = c .before .args in rw (ne-eqb (wayIn (a .key)) (a .way) (c .if1 .taken))
 
@@ -20,4 +11,4 @@ returns-2 : tie.Need-returns-2
 returns-2 c = let a = c .before .args in rw (eq-eqb (wayIn (a .key)) (a .way) (c .if1 .left))
 
 pub about-spec : {M : Type 1} → statement M
-about-spec = tie.close (tie.spec mul-if1 mul-if1-2 div-if1 returns returns-2)
+about-spec = tie.close (tie.spec (search needs) (search needs) (search needs) returns returns-2)

@@ -32,20 +32,11 @@ Inv-loop b heads doors sets l₀ set₀ l set =
 abbrev μ-loop : tie.MeasureT-loop
 μ-loop b heads doors sets l₀ set₀ l set = sets - set
 
-cast-sets : tie.Need-cast-sets Inv-loop μ-loop
-cast-sets c = search needs
-
-shl-sets : tie.Need-shl-sets Inv-loop μ-loop
-shl-sets c = search needs
-
 loop-holds : tie.Need-loop-holds Inv-loop μ-loop
 unfolding counted
 loop-holds c =
     let s = c .before .before in
     (s .pre, (shifted (s .args .b .tree .columns) (s .pre), (omega arith, refl)))
-
-ended-requires : tie.Need-ended-requires Inv-loop μ-loop
-ended-requires c κs = search needs
 
 with-ended-requires : tie.Need-with-ended-requires Inv-loop μ-loop
 with-ended-requires c κs =
@@ -85,10 +76,10 @@ count-spec =
     (tie.spec
     Inv-loop
     μ-loop
-    cast-sets
-    shl-sets
+    (search needs)
+    (search needs)
     loop-holds
-    ended-requires
+    (search needs)
     with-ended-requires
     add-set
     loop-less

@@ -31,27 +31,12 @@ begun-is c =
     (step-left (o .order .result) (o .order .ensures)
     ∙ ap (λ (b : Bank). after (order (state b words words) 0)) (fresh-left (f .fresh .result) (a .t) (is-counting (f .before) .tree) (f .fresh .ensures)))
 
-losses-refusal-requires : tie.Need-losses-refusal-requires
-losses-refusal-requires c κs = search needs
-
-refused-requires : tie.Need-refused-requires
-refused-requires c κs = search needs
-
 returns : tie.Need-returns
 unfolding lossesOf
 returns c =
     let k = c .before .before in
     let n = lossesRefusal (k .before .args .t) in
     rw (c .refused .ensures, k .losses-refusal .ensures, ne-eqb n 0 (λ z. c .before .if1 .taken (k .losses-refusal .ensures ∙ z)))
-
-fresh-requires : tie.Need-fresh-requires
-fresh-requires c κs = search needs
-
-order-requires : tie.Need-order-requires
-order-requires c κs = search needs
-
-dispatch-requires : tie.Need-dispatch-requires
-dispatch-requires c κs = search needs
 
 count-requires : tie.Need-count-requires
 count-requires c κs =
@@ -68,14 +53,4 @@ returns-2 c =
     rw (eq-eqb n 0 (sym (k .losses-refusal .ensures) ∙ e .if1 .left)) (c .count .ensures ∙ ap countedOf (begun-is (c .before)))
 
 pub count-losses-spec : {M : Type 1} → statement M
-count-losses-spec =
-    tie.close
-    (tie.spec
-    losses-refusal-requires
-    refused-requires
-    returns
-    fresh-requires
-    order-requires
-    dispatch-requires
-    count-requires
-    returns-2)
+count-losses-spec = tie.close (tie.spec (search needs) (search needs) returns (search needs) (search needs) (search needs) count-requires returns-2)

@@ -8,12 +8,6 @@ use Rattle.losses.specs.laws.LossesLaws.{step-left, dispatch-left}
 use Rattle.losses.proofs.count.ended.Statement.{statement}
 use Rattle.losses.proofs.count.ended.Tie as tie
 
-halt-requires : tie.Need-halt-requires
-halt-requires c κs = search needs
-
-dispatch-requires : tie.Need-dispatch-requires
-dispatch-requires c κs = search needs
-
 returns : tie.Need-returns
 unfolding ended
 returns c =
@@ -24,4 +18,4 @@ returns c =
     ∙ ap (λ (s : State). after (dispatchOutcome toRest s)) (step-left (h .halt .result) (h .halt .ensures)))
 
 pub ended-spec : {M : Type 1} → statement M
-ended-spec = tie.close (tie.spec halt-requires dispatch-requires returns)
+ended-spec = tie.close (tie.spec (search needs) (search needs) returns)

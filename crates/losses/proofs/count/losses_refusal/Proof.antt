@@ -5,15 +5,6 @@ use Rattle.losses.specs.Losses.{lossesConditions, lossesRefusal}
 use Rattle.losses.proofs.count.losses_refusal.Statement.{statement}
 use Rattle.losses.proofs.count.losses_refusal.Tie as tie
 
-tree-refusal-requires : tie.Need-tree-refusal-requires
-tree-refusal-requires c κs = search needs
-
-refuse-if-requires : tie.Need-refuse-if-requires
-refuse-if-requires c κs = search needs
-
-refuse-if-requires-2 : tie.Need-refuse-if-requires-2
-refuse-if-requires-2 c κs = search needs
-
 returns : tie.Need-returns
 unfolding lossesRefusal
 returns c =
@@ -24,5 +15,4 @@ returns c =
     (in-turn (treeRefusal t) (lossesConditions t) tt)
 
 pub losses-refusal-spec : {M : Type 1} → statement M
-losses-refusal-spec =
-    tie.close (tie.spec tree-refusal-requires refuse-if-requires refuse-if-requires-2 returns)
+losses-refusal-spec = tie.close (tie.spec (search needs) (search needs) (search needs) returns)

@@ -24,44 +24,11 @@ module _ (c : tie.After-read-table) where
       losses-read (start .args .input .now) (answered answer read) (c .before .if1 .left)
       (ap (λ (x : Answer). answered x read) (sym e) ∙ c .read-table .ensures)
 
-slice-aggregate-put-field : tie.Need-slice-aggregate-put-field
-slice-aggregate-put-field c = search needs
-
-put-field-requires : tie.Need-put-field-requires
-put-field-requires c κs = search needs
-
-same-length : tie.Need-same-length
-same-length c = search needs
-
 returns : tie.Need-returns
 returns c =
     let k = c .before .before in
     let t = k .before .before .before in
     rw (losses-long (t .before .before .before .args .input .now) (t .if1 .taken)) (refused-written 13 (omega arith) (t .before .before .before .pre) (k .put-field .ensures))
-
-read-table-requires : tie.Need-read-table-requires
-read-table-requires c κs = search needs
-
-enum-known-answer : tie.Need-enum-known-answer
-enum-known-answer c = search needs
-
-slice-aggregate-put-field-2 : tie.Need-slice-aggregate-put-field-2
-slice-aggregate-put-field-2 c = search needs
-
-cast-put-field : tie.Need-cast-put-field
-cast-put-field c = search needs
-
-put-field-requires-2 : tie.Need-put-field-requires-2
-put-field-requires-2 c κs = search needs
-
-enum-told : tie.Need-enum-told
-enum-told c = search needs
-
-put-asked-requires : tie.Need-put-asked-requires
-put-asked-requires c κs = search needs
-
-same-length-2 : tie.Need-same-length-2
-same-length-2 c = search needs
 
 returns-2 : tie.Need-returns-2
 unfolding tableText
@@ -70,9 +37,6 @@ returns-2 c =
     let n = k .before .before .before .before in
     let small : n .answer .given .0 .0 < 256 = search needs in
     rw (text-is (n .before .before) _ (n .answer .given .1)) (refused-written _ small (start (n .before .before) .pre) (k .put-field2 .ensures))
-
-same-length-3 : tie.Need-same-length-3
-same-length-3 c = search needs
 
 returns-3 : tie.Need-returns-3
 unfolding tableText
@@ -85,18 +49,18 @@ pub put-answer-spec : {M : Type 1} → statement M
 put-answer-spec =
     tie.close
     (tie.spec
-    slice-aggregate-put-field
-    put-field-requires
-    same-length
+    (search needs)
+    (search needs)
+    (search needs)
     returns
-    read-table-requires
-    enum-known-answer
-    slice-aggregate-put-field-2
-    cast-put-field
-    put-field-requires-2
-    enum-told
-    put-asked-requires
-    same-length-2
+    (search needs)
+    (search needs)
+    (search needs)
+    (search needs)
+    (search needs)
+    (search needs)
+    (search needs)
+    (search needs)
     returns-2
-    same-length-3
+    (search needs)
     returns-3)

@@ -28,21 +28,6 @@ read-is q x e =
     let n : length (drop (a .at) s) ≡ length s - a .at = length-drop (a .at) s in
     ap stepCount (sym (take-all (length s - a .at) (drop (a .at) s) (omega (arith, n)))) ∙ sym (q .step-count .ensures) ∙ ap numberMeant e
 
-losses-refusal-requires : tie.Need-losses-refusal-requires
-losses-refusal-requires c κs = search needs
-
-slice-aggregate-put-field : tie.Need-slice-aggregate-put-field
-slice-aggregate-put-field c = search needs
-
-cast-put-field : tie.Need-cast-put-field
-cast-put-field c = search needs
-
-put-field-requires : tie.Need-put-field-requires
-put-field-requires c κs = search needs
-
-same-length : tie.Need-same-length
-same-length c = search needs
-
 returns : tie.Need-returns
 returns c =
     let k = c .before .before in
@@ -50,15 +35,6 @@ returns c =
     let f = t .before in
     rw (asked-refused _ _ (λ z. t .if1 .taken (f .losses-refusal .ensures ∙ z)), ← f .losses-refusal .ensures)
     (refused-written _ (small f) (f .before .before .before .pre) (k .put-field .ensures))
-
-slice-aggregate-put-field-2 : tie.Need-slice-aggregate-put-field-2
-slice-aggregate-put-field-2 c = search needs
-
-put-field-requires-2 : tie.Need-put-field-requires-2
-put-field-requires-2 c κs = search needs
-
-same-length-2 : tie.Need-same-length-2
-same-length-2 c = search needs
 
 returns-2 : tie.Need-returns-2
 returns-2 c =
@@ -69,39 +45,6 @@ returns-2 c =
     rw (asked-missing (a .t) (good (u .before)) (a .input .now) (a .at) (u .if2 .taken))
     (refused-written 13 (omega arith) (s .pre) (k .put-field2 .ensures))
 
-sub-step-count : tie.Need-sub-step-count
-sub-step-count c = search needs
-
-part-step-count-start : tie.Need-part-step-count-start
-part-step-count-start c = search needs
-
-part-step-count-end : tie.Need-part-step-count-end
-part-step-count-end c = search needs
-
-step-count-requires : tie.Need-step-count-requires
-step-count-requires c κs = search needs
-
-enum-told : tie.Need-enum-told
-enum-told c = search needs
-
-slice-aggregate-put-field-3 : tie.Need-slice-aggregate-put-field-3
-slice-aggregate-put-field-3 c = search needs
-
-put-field-requires-3 : tie.Need-put-field-requires-3
-put-field-requires-3 c κs = search needs
-
-enum-known-steps : tie.Need-enum-known-steps
-enum-known-steps c = search needs
-
-count-losses-requires : tie.Need-count-losses-requires
-count-losses-requires c κs = search needs
-
-put-counts-requires : tie.Need-put-counts-requires
-put-counts-requires c κs = search needs
-
-same-length-3 : tie.Need-same-length-3
-same-length-3 c = search needs
-
 returns-3 : tie.Need-returns-3
 returns-3 c =
     let k = c .before .before in
@@ -109,9 +52,6 @@ returns-3 c =
     let q = m .before .before in
     let e = q .before .before .before in
     rw (asked-unread _ (good e) _ (read-is q _ (m .enum-told .given .1))) (refused-written 13 (omega arith) (q .before .before .before .before .before .before .before .pre) (k .put-field3 .ensures))
-
-same-length-4 : tie.Need-same-length-4
-same-length-4 c = search needs
 
 returns-4 : tie.Need-returns-4
 returns-4 c =
@@ -130,27 +70,27 @@ pub put-asked-spec : {M : Type 1} → statement M
 put-asked-spec =
     tie.close
     (tie.spec
-    losses-refusal-requires
-    slice-aggregate-put-field
-    cast-put-field
-    put-field-requires
-    same-length
+    (search needs)
+    (search needs)
+    (search needs)
+    (search needs)
+    (search needs)
     returns
-    slice-aggregate-put-field-2
-    put-field-requires-2
-    same-length-2
+    (search needs)
+    (search needs)
+    (search needs)
     returns-2
-    sub-step-count
-    part-step-count-start
-    part-step-count-end
-    step-count-requires
-    enum-told
-    slice-aggregate-put-field-3
-    put-field-requires-3
-    enum-known-steps
-    count-losses-requires
-    put-counts-requires
-    same-length-3
+    (search needs)
+    (search needs)
+    (search needs)
+    (search needs)
+    (search needs)
+    (search needs)
+    (search needs)
+    (search needs)
+    (search needs)
+    (search needs)
+    (search needs)
     returns-3
-    same-length-4
+    (search needs)
     returns-4)

@@ -18,17 +18,11 @@ line-is c =
     let f = c .before in
     line-ended (f .before .before .args .text .now) 0 (f .find .result) (omega arith) (f .find .ensures) (omega arith)
 
-find-requires : tie.Need-find-requires
-find-requires c κs = search needs
-
 returns : tie.Need-returns
 unfolding stepsIn
 returns c =
     let f = c .before in
     rw (line-unended (f .before .before .args .text .now) 0 (f .find .result) (omega arith) (f .find .ensures) (c .if1 .taken))
-
-add-if2 : tie.Need-add-if2
-add-if2 c = search needs
 
 returns-2 : tie.Need-returns-2
 unfolding stepsIn
@@ -41,21 +35,6 @@ returns-2 c =
       line-is b,
       ne-eqb (length (drop (r + 1) s)) 0 (λ z. omega (arith, z, length-drop (r + 1) s, c .if2 .taken, f .find .ensures .1, b .if1 .left)),
     )
-
-sub-read-keyed : tie.Need-sub-read-keyed
-sub-read-keyed c = search needs
-
-part-read-keyed-start : tie.Need-part-read-keyed-start
-part-read-keyed-start c = search needs
-
-part-read-keyed-end : tie.Need-part-read-keyed-end
-part-read-keyed-end c = search needs
-
-slice-aggregate-read-keyed : tie.Need-slice-aggregate-read-keyed
-slice-aggregate-read-keyed c = search needs
-
-read-keyed-requires : tie.Need-read-keyed-requires
-read-keyed-requires c κs = search needs
 
 returns-3 : tie.Need-returns-3
 unfolding stepsIn
@@ -71,13 +50,13 @@ pub step-count-spec : {M : Type 1} → statement M
 step-count-spec =
     tie.close
     (tie.spec
-    find-requires
+    (search needs)
     returns
-    add-if2
+    (search needs)
     returns-2
-    sub-read-keyed
-    part-read-keyed-start
-    part-read-keyed-end
-    slice-aggregate-read-keyed
-    read-keyed-requires
+    (search needs)
+    (search needs)
+    (search needs)
+    (search needs)
+    (search needs)
     returns-3)

@@ -11,38 +11,17 @@ Inv-loop frame₀ at bytes i₀ frame i = (length frame ≡ length frame₀) × 
 abbrev μ-loop : tie.MeasureT-loop
 μ-loop frame₀ at bytes i₀ frame i = length bytes - i
 
-sub-if1 : tie.Need-sub-if1 Inv-loop μ-loop
-sub-if1 c = search needs
-
 returns : tie.Need-returns Inv-loop μ-loop
 returns c = search needs
 
 loop-holds : tie.Need-loop-holds Inv-loop μ-loop
 loop-holds c = search needs
 
-shared-slice-read-frame : tie.Need-shared-slice-read-frame Inv-loop μ-loop
-shared-slice-read-frame c = search needs
-
-add-frame : tie.Need-add-frame Inv-loop μ-loop
-add-frame c = search needs
-
-slice-write-frame : tie.Need-slice-write-frame Inv-loop μ-loop
-slice-write-frame c = search needs
-
-add-i : tie.Need-add-i Inv-loop μ-loop
-add-i c = search needs
-
 loop-less : tie.Need-loop-less Inv-loop μ-loop
 loop-less c = search needs
 
 loop-again : tie.Need-loop-again Inv-loop μ-loop
 loop-again c = search needs
-
-add-result : tie.Need-add-result Inv-loop μ-loop
-add-result c = search needs
-
-same-length : tie.Need-same-length Inv-loop μ-loop
-same-length c = search needs
 
 returns-2 : tie.Need-returns-2 Inv-loop μ-loop
 returns-2 c = search needs
@@ -53,15 +32,15 @@ put-bytes-spec =
     (tie.spec
     Inv-loop
     μ-loop
-    sub-if1
+    (search needs)
     returns
     loop-holds
-    shared-slice-read-frame
-    add-frame
-    slice-write-frame
-    add-i
+    (search needs)
+    (search needs)
+    (search needs)
+    (search needs)
     loop-less
     loop-again
-    add-result
-    same-length
+    (search needs)
+    (search needs)
     returns-2)

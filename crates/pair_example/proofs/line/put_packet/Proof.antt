@@ -17,32 +17,14 @@ among c =
     rw (ap (λ (x : Wrote). x .bytes) is)
     (write-size (w .before .before .args .p) n (sym (ap (λ (x : Wrote). x .size) is) ∙ ap sizeMeant (c .before .size2 .given .1)))
 
-write-requires : tie.Need-write-requires
-write-requires c κs = search needs
-
-enum-known-size : tie.Need-enum-known-size
-enum-known-size c = search needs
-
-refused-requires : tie.Need-refused-requires
-refused-requires c κs = search needs
-
-enum-known-size-2 : tie.Need-enum-known-size-2
-enum-known-size-2 c = search needs
-
 array-share-prefix-bytes : tie.Need-array-share-prefix-bytes
 array-share-prefix-bytes c = among (c .before)
 
 slice-aggregate-put-bytes : tie.Need-slice-aggregate-put-bytes
 slice-aggregate-put-bytes c = sym (length-take-le _ _ (among (c .before .before)))
 
-put-bytes-requires : tie.Need-put-bytes-requires
-put-bytes-requires c κs = search needs
-
 returns : tie.Need-returns
 returns c = search needs
-
-same-length : tie.Need-same-length
-same-length c = search needs
 
 returns-2 : tie.Need-returns-2
 returns-2 c = search needs
@@ -51,13 +33,13 @@ pub put-packet-spec : {M : Type 1} → statement M
 put-packet-spec =
     tie.close
     (tie.spec
-    write-requires
-    enum-known-size
-    refused-requires
-    enum-known-size-2
+    (search needs)
+    (search needs)
+    (search needs)
+    (search needs)
     array-share-prefix-bytes
     slice-aggregate-put-bytes
-    put-bytes-requires
+    (search needs)
     returns
-    same-length
+    (search needs)
     returns-2)

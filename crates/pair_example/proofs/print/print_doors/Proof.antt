@@ -14,29 +14,11 @@ abbrev μ-loop : tie.MeasureT-loop
 loop-holds : tie.Need-loop-holds Inv-loop μ-loop
 loop-holds c = search needs
 
-cast-bytes : tie.Need-cast-bytes Inv-loop μ-loop
-cast-bytes c = search needs
-
-array-write-bytes : tie.Need-array-write-bytes Inv-loop μ-loop
-array-write-bytes c = search needs
-
-add-i : tie.Need-add-i Inv-loop μ-loop
-add-i c = search needs
-
 loop-less : tie.Need-loop-less Inv-loop μ-loop
 loop-less c = search needs
 
 loop-again : tie.Need-loop-again Inv-loop μ-loop
 loop-again c = search needs
-
-slice-aggregate-print-bytes : tie.Need-slice-aggregate-print-bytes Inv-loop μ-loop
-slice-aggregate-print-bytes c = search needs
-
-slice-aggregate-print-bytes-2 : tie.Need-slice-aggregate-print-bytes-2 Inv-loop μ-loop
-slice-aggregate-print-bytes-2 c = search needs
-
-print-bytes-requires : tie.Need-print-bytes-requires Inv-loop μ-loop
-print-bytes-requires c κs = search needs
 
 returns : tie.Need-returns Inv-loop μ-loop
 returns c = search needs
@@ -48,12 +30,12 @@ print-doors-spec =
     Inv-loop
     μ-loop
     loop-holds
-    cast-bytes
-    array-write-bytes
-    add-i
+    (search needs)
+    (search needs)
+    (search needs)
     loop-less
     loop-again
-    slice-aggregate-print-bytes
-    slice-aggregate-print-bytes-2
-    print-bytes-requires
+    (search needs)
+    (search needs)
+    (search needs)
     returns)

@@ -18,15 +18,15 @@ use Rattle.bank.specs.declared.bank.Bank.{Bank}
 use Rattle.bank.specs.declared.unchecked_for_script.Tested.{Tested}
 use types.Run.{OneOf, miss}
 use denote.Enum.Declared.{tagOf}
-use Rattle.script.specs.Lines.{lineMeant}
+use Rattle.script.specs.Lines.{parsedMeant}
 use Rattle.script.specs.Scripts.{Printed, printed, answered}
 use Rattle.script.specs.Advances.{room}
 use Rattle.script.specs.inner.ScriptLines.{Answers, byPlace, Carries}
 use Rattle.script.specs.laws.ScriptLaws.{step-answers, line-on}
 use Rattle.script.specs.laws.FillLaws.{carried-line}
-use Rattle.script.specs.declared.line.Line.{Line}
-use Rattle.script.specs.declared.line.Line.the-variants as line-is
-use Rattle.script.proofs.line.Line as line-type
+use Rattle.script.specs.declared.line.Parsed.{Parsed}
+use Rattle.script.specs.declared.line.Parsed.the-variants as parsed-is
+use Rattle.script.proofs.line.Parsed as parsed-type
 use Rattle.script.proofs.script.lines.Statement.{statement}
 use Rattle.script.proofs.script.lines.Tie as tie
 
@@ -61,24 +61,24 @@ module _ (n : tie.After-next-line Inv-loop μ-loop) where
   abbrev here : State
   here = state (loop .loop .bank) (loop .loop .heads) (loop .loop .doors)
 
-  abbrev read : Line
-  read = n .next-line .result .line
+  abbrev read : Parsed
+  read = n .next-line .result .parsed
 
-  carry : {b : Bank} {heads doors new : List ℕ} {r : ℕ} (line : Line) → read ≡ line → length new ≡ length (loop .loop .out)
-      → Answers (answered here (lineMeant line)) b heads doors r new (loop .loop .out) (loop .loop .at)
+  carry : {b : Bank} {heads doors new : List ℕ} {r : ℕ} (parsed : Parsed) → read ≡ parsed → length new ≡ length (loop .loop .out)
+      → Answers (answered here (parsedMeant parsed)) b heads doors r new (loop .loop .out) (loop .loop .at)
       → (v : Tested) → (v .known ≡ true → Tells v (state b heads doors))
       → let a = start loop .args in
       (length new ≡ length (a .out .now))
       × (Carries (a .input .now) (state (a .r .bank) (a .heads .now) (a .doors .now)) (a .r .position) (a .r .length) (a .out .now) (state b heads doors) (n .next-line .result .next) r new
       × (v .known ≡ true → Tells v (state b heads doors)))
-  carry line e kept a v told =
+  carry parsed e kept a v told =
       let inv = loop .loop .inv in
       let i = n .before in
       let within : loop .loop .at ≤ length (loop .loop .out) = omega (arith, roomy i) in (
         kept ∙ inv .0,
         (
           λ old text w same.
-              carried-line (inv .1 .0 old text w same) (n .next-line .result) line e (more i) (fits i) (n .next-line .ensures) (kept ∙ inv .0 ∙ same) within a,
+              carried-line (inv .1 .0 old text w same) (n .next-line .result) parsed e (more i) (fits i) (n .next-line .ensures) (kept ∙ inv .0 ∙ same) within a,
           told,
         ),
       )
@@ -108,13 +108,13 @@ same-answer : {a a' : Printed} {b : Bank} {heads doors new old : List ℕ} {r at
 same-answer {b = b} {heads = heads} {doors = doors} {new = new} {old = old} {r = r} {at = at} e = subst (λ (a : Printed). Answers a b heads doors r new old at) e
 
 -- a line that is neither a step nor a list, and goes by place, is of no form
-no-form : (s : State) (line : Line) → OneOf (2 ∷ 3 ∷ []) (tagOf line-type.the-type line) → byPlace line ≡ true
-    → answered s (lineMeant line) ≡ printed (refusedText 13) s
+no-form : (s : State) (parsed : Parsed) → OneOf (2 ∷ 3 ∷ []) (tagOf parsed-type.the-type parsed) → byPlace parsed ≡ true
+    → answered s (parsedMeant parsed) ≡ printed (refusedText 13) s
 unfolding answered
-no-form s (line-is.Perform x) k e = absurd (miss (2 ∷ 3 ∷ []) 0 tt k)
-no-form s (line-is.List i) k e = absurd (miss (2 ∷ 3 ∷ []) 1 tt k)
-no-form s (line-is.Dispatch limit) k e = absurd (true≢false (sym e))
-no-form s line-is.Unread k e = refl
+no-form s (parsed-is.Perform x) k e = absurd (miss (2 ∷ 3 ∷ []) 0 tt k)
+no-form s (parsed-is.List i) k e = absurd (miss (2 ∷ 3 ∷ []) 1 tt k)
+no-form s (parsed-is.Dispatch limit) k e = absurd (true≢false (sym e))
+no-form s parsed-is.Unread k e = refl
 
 loop-holds : tie.Need-loop-holds Inv-loop μ-loop
 loop-holds c = (refl, (λ old text w same. record { text = text; left = w; same = refl }, λ k. absurd (true≢false (sym k ∙ ap (λ (v : Tested). v .known) (c .untested .ensures)))))
@@ -156,8 +156,8 @@ loop-again-2 c =
     let v = j .if2 .v in
     let r = d .step-on .result in
     let b = loop n .loop .bank in
-    let p = d .step-on .ensures (b .columns) (knows j .1) (sym (ap byPlace (x .line .given .1)) ∙ placed j) (g .acting .ensures) refl in
-    carry n _ (x .line .given .1) (k .put-step .kept .1 .0)
+    let p = d .step-on .ensures (b .columns) (knows j .1) (sym (ap byPlace (x .parsed .given .1)) ∙ placed j) (g .acting .ensures) refl in
+    carry n _ (x .parsed .given .1) (k .put-step .kept .1 .0)
     (step-answers (record { bank = withPart b (g .acting .result) r; answer = r .answer }) _ (p .performed) (k .put-step .ensures)) (retested v (r .refusal)) (λ known. p .told)
 
 put-column-requires : tie.Need-put-column-requires Inv-loop μ-loop
@@ -172,7 +172,7 @@ loop-again-3 c =
     let k = c .before .before in
     let x = k .before .before .before .before in
     let j = x .before .before .before in
-    carry (line j) _ (x .line2 .given .1) (k .put-column .kept .1 .1 .1 .1 .0) (record { state-is = refl; text-is = k .put-column .ensures (here (line j)) (knows j .1) refl refl })
+    carry (line j) _ (x .parsed2 .given .1) (k .put-column .kept .1 .1 .1 .1 .0) (record { state-is = refl; text-is = k .put-column .ensures (here (line j)) (knows j .1) refl refl })
     (j .if2 .v) (λ known. knows j .1)
 
 put-refused-requires : tie.Need-put-refused-requires Inv-loop μ-loop

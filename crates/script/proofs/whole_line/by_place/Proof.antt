@@ -4,7 +4,7 @@ use Rattle.script.proofs.whole_line.by_place.Statement.{statement}
 use Rattle.script.proofs.whole_line.by_place.Tie as tie
 
 returns : tie.Need-returns
-returns c = c .is-move .ensures ∙ rw (c .before .before .line .given .1)
+returns c = c .is-move .ensures ∙ rw (c .before .before .parsed .given .1)
 
 returns-2 : tie.Need-returns-2
 returns-2 c = search needs

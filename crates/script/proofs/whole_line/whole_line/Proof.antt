@@ -15,8 +15,8 @@ returns c =
     let d = p .before .before .before in
     let x = d .before .before .before .before in
     let s = x .before .before .before in
-    rw (x .line .given .1)
-    (step-answers (d .whole-step .result) _ (d .whole-step .ensures (sym (ap byPlace (x .line .given .1)) ∙ s .pre .0)) (p .put-step .ensures))
+    rw (x .parsed .given .1)
+    (step-answers (d .whole-step .result) _ (d .whole-step .ensures (sym (ap byPlace (x .parsed .given .1)) ∙ s .pre .0)) (p .put-step .ensures))
 
 returns-2 : tie.Need-returns-2
 unfolding answered
@@ -25,7 +25,7 @@ returns-2 c =
     let d = p .before .before .before in
     let x = d .before .before .before .before in
     let a = x .before .before .before .args in
-    rw (x .line2 .given .1)
+    rw (x .parsed2 .given .1)
     (dispatch-answers (d .dispatch .result) _ (state (a .b) (a .heads .now) (a .doors .now)) (d .dispatch .ensures) (p .put-dispatched .ensures))
 
 returns-3 : tie.Need-returns-3
