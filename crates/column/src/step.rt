@@ -1,4 +1,5 @@
-// The steps of a lone column: refused and unchanged, or its effect.
+// The steps of a lone column: refused and unchanged, or its effect. They test the tree and the state apart: one test of both is large enough to be called, and
+// the column would be copied for it.
 use crate::effect::halt_effect;
 use crate::outcome::Outcome;
 use crate::outcome::refused;
