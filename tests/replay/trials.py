@@ -61,8 +61,8 @@ def replayed_wrong(name, library, folder, recorded):
 
 
 def is_as_told(done):
-    """The example of README.md prints what stands there."""
-    if done.returncode or not done.stdout or f"```\n{done.stdout}```\n" not in read("README.md"):
+    """The example prints what docs/FIRMWARE.md shows."""
+    if done.returncode or not done.stdout or f"```\n{done.stdout}```\n" not in read("docs", "FIRMWARE.md"):
         raise Differs(f"order.c, status {done.returncode}: {done.stdout}{done.stderr}")
     return "order.c as on x86-64"
 
