@@ -17,6 +17,10 @@ BARE = $(wildcard examples/firmware/bare/*.c examples/firmware/bare/*.ld) exampl
 CRATES = firmware $(shell sed -n 's/^firmware: //p' crates.txt)
 SOURCES = $(foreach crate,$(CRATES),$(wildcard crates/$(crate)/src/*.rt))
 
+ifeq ($(TARGET),wasm32)
+$(error for WebAssembly there is a module and no archive: tools/targets wasm32 makes it)
+endif
+
 all: $(LIBRARY)
 
 target/libmudasgup.a: $(BUILT)

@@ -1,4 +1,4 @@
-/* Column 2 is dark for a moment; meanwhile it is noted and an order is given. First it goes on with a block that its memory kept, which no call can refuse:
+/* Column 2 is without power for a moment; meanwhile it is noted and an order is given. First it goes on with a block that its memory kept, which no call can refuse:
  * all are idle, and it lists no order. Then it comes back as the header asks, and lists what the others do. */
 #include "uses.h"
 

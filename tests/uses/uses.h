@@ -36,7 +36,7 @@ static inline void print_list(size_t i) {
   putchar('\n');
 }
 
-/* A line that delivers each packet once and whole; packets to a column that is dark vanish. */
+/* A line that delivers each packet once and whole; packets to a column without power vanish. */
 static mudasgup_packet line[64];
 static size_t under_way;
 
@@ -55,19 +55,19 @@ static inline void take_packet(const mudasgup_packet *arrived) {
   } while (left);
 }
 
-/* Runs the columns to rest, but for the one that is dark, if any. */
+/* Runs the columns to rest, but for the one without power, if any. */
 #define NOBODY 3
-static inline void run(size_t dark) {
+static inline void run(size_t stopped) {
   mudasgup_packet put;
   for (size_t i = 0; i < 3; i++)
-    while (i != dark && mudasgup_next(&tree, &column[i], &put) == MUDASGUP_OK)
+    while (i != stopped && mudasgup_next(&tree, &column[i], &put) == MUDASGUP_OK)
       put_on_line(&put);
   if (under_way == 0)
     return;
   mudasgup_packet arrived = line[--under_way];
-  if (arrived.bytes[MUDASGUP_PACKET_TO] != dark)
+  if (arrived.bytes[MUDASGUP_PACKET_TO] != stopped)
     take_packet(&arrived);
-  run(dark);
+  run(stopped);
 }
 
 static inline int idle(size_t i) {

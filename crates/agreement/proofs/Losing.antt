@@ -129,23 +129,23 @@ module _ (t : Tree) (ok : lossesRefusal t ≡ 0) (steps : ℕ) where
         let few : m < 2 ^ moving .state .bank .tree .columns = subst (λ (u : Tree). m < 2 ^ u .columns) (sym moving-tree) below in
         rw (reached-passes moving moving-reached, lt-within m (moving .state .bank .tree .columns) few, members-run)
 
-    abbrev dark : World
-    dark = told moving (Halt m) (perform (moving .state) (Halt m))
+    abbrev halted : World
+    halted = told moving (Halt m) (perform (moving .state) (Halt m))
 
-    dark-reached : Reached dark
-    dark-reached = next moving (Halt m) moving-reached
+    halted-reached : Reached halted
+    halted-reached = next moving (Halt m) moving-reached
 
-    dark-is : dark .state ≡ after (halt (moving .state) m)
+    halted-is : halted .state ≡ after (halt (moving .state) m)
     unfolding perform
-    dark-is = told-state moving (Halt m) _
+    halted-is = told-state moving (Halt m) _
 
-    dark-tree : dark .state .bank .tree ≡ t
-    dark-tree = told-tree moving (Halt m) ∙ moving-tree
+    halted-tree : halted .state .bank .tree ≡ t
+    halted-tree = told-tree moving (Halt m) ∙ moving-tree
 
-    others-dark : (i : ℕ) → i < t .columns → runs (dark .state .bank) i ≡ not (has m i)
-    others-dark i h =
+    others-halted : (i : ℕ) → i < t .columns → runs (halted .state .bank) i ≡ not (has m i)
+    others-halted i h =
         let c = columnAt (moving .state .bank) i in
-        ap (λ (s : State). runs (s .bank) i) (dark-is ∙ ap after (halt-accepted (moving .state) m halts))
+        ap (λ (s : State). runs (s .bank) i) (halted-is ∙ ap after (halt-accepted (moving .state) m halts))
         ∙ ap (λ (x : Column). x .running) (column-at (moving .state) (has m) i)
         ∙ go c (has m i) (all-run i h)
       where
@@ -154,27 +154,27 @@ module _ (t : Tree) (ok : lossesRefusal t ≡ 0) (steps : ℕ) where
         go c false e = e
 
     abbrev resting : World
-    resting = dispatchedOn dark dark-reached toRest
+    resting = dispatchedOn halted halted-reached toRest
 
     resting-reached : Reached resting
-    resting-reached = reached dark (dispatched toRest (dark .state)) dark-reached
+    resting-reached = reached halted (dispatched toRest (halted .state)) halted-reached
 
     resting-is : resting .state ≡ ended (begun t steps) m
     unfolding ended
     resting-is =
-        dispatch-is dark dark-reached toRest
-        ∙ ap (λ (s : State). after (dispatchOutcome toRest s)) (dark-is ∙ ap (λ (s : State). after (halt s m)) moving-is)
+        dispatch-is halted halted-reached toRest
+        ∙ ap (λ (s : State). after (dispatchOutcome toRest s)) (halted-is ∙ ap (λ (s : State). after (halt s m)) moving-is)
 
     rests : AtRest (resting .state)
     rests =
-        let z = settles dark dark-reached in
+        let z = settles halted halted-reached in
         subst AtRest (sym (z .steps-lead toRest))
         (z .within .rests toRest
-        (subst (λ (u : Tree). stepsWithin (u .columns) ≤ toRest) (sym dark-tree) (enough (t .columns) (good .few))))
+        (subst (λ (u : Tree). stepsWithin (u .columns) ≤ toRest) (sym halted-tree) (enough (t .columns) (good .few))))
 
     resting-clear : Clear (resting .orders)
     resting-clear =
-        subst Clear (sym (dispatch-same dark dark-reached toRest .orders ∙ told-orders moving (Halt m) (perform (moving .state) (Halt m)) refl)) moving-clear
+        subst Clear (sym (dispatch-same halted halted-reached toRest .orders ∙ told-orders moving (Halt m) (perform (moving .state) (Halt m)) refl)) moving-clear
 
     one-or-none : (k : ℕ) → k ≤ 1 → (k ≡ 0) ⊎ (k ≡ 1)
     one-or-none zero h = inl refl
@@ -186,7 +186,7 @@ module _ (t : Tree) (ok : lossesRefusal t ≡ 0) (steps : ℕ) where
         let held = agrees resting resting-reached .at-rest rests in
         record {
           rests = rests;
-          others-run = λ i h. dispatch-same dark dark-reached toRest .running i ∙ others-dark i h;
+          others-run = λ i h. dispatch-same halted halted-reached toRest .running i ∙ others-halted i h;
           one-or-none = λ i h.
               let z = held i h in (
                 one-or-none (columnAt (resting .state .bank) i .number) (omega (arith, z .1 .number-is, z .1 .was-given, resting-clear .0)),

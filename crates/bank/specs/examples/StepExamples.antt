@@ -45,13 +45,13 @@ pub full-valid : Valid (crowded 512)
 full-valid = valid (crowded 512) (full .0)
 
 -- no packet is under way, and column 1 is halted
-abbrev dark : State
-dark = withColumn (crowded 0) 1 noColumn
+abbrev oneHalted : State
+oneHalted = withColumn (crowded 0) 1 noColumn
 
 -- "Only 5 and 7 can be written, at a halted column too"; "22 for .. a write elsewhere, after 4"
-pub with-halts-written : (perform dark (Write 1 5 255) ≡ accepted (withColumn dark 1 (withRegisters noColumn 255 0)))
-    × (perform dark (Write 1 6 255) ≡ refused 22 dark)
-    × (perform dark (Write 3 6 255) ≡ refused 4 dark)
+pub with-halts-written : (perform oneHalted (Write 1 5 255) ≡ accepted (withColumn oneHalted 1 (withRegisters noColumn 255 0)))
+    × (perform oneHalted (Write 1 6 255) ≡ refused 22 oneHalted)
+    × (perform oneHalted (Write 3 6 255) ≡ refused 4 oneHalted)
 unfolding every climbsIn treeRefusal stateRefusal places freshPlace bankRefusal perform writeRefusal written
 with-halts-written = (refl, refl, refl)
 

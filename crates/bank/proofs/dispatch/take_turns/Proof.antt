@@ -26,28 +26,28 @@ use Rattle.bank.proofs.dispatch.take_turns.Statement.{statement}
 use Rattle.bank.proofs.dispatch.take_turns.Tie as tie
 
 abbrev Inv-loop : tie.InvT-loop
-Inv-loop running limit heads₀ doors₀ d₀ t dark ready₀ steps₀ heads doors d ready steps =
+Inv-loop running limit heads₀ doors₀ d₀ t halted ready₀ steps₀ heads doors d ready steps =
     Going limit steps (state d₀ heads₀ doors₀) (state d heads doors)
-    × ((bankRefusal (state d heads doors) ≡ 0) × ((d .tree ≡ t) × (RunningIs running d × ((dark ≡ haltedOf d) × (ready ≡ readyOf d)))))
+    × ((bankRefusal (state d heads doors) ≡ 0) × ((d .tree ≡ t) × (RunningIs running d × ((halted ≡ haltedOf d) × (ready ≡ readyOf d)))))
 
 abbrev μ-loop : tie.MeasureT-loop
-μ-loop running limit heads₀ doors₀ d₀ t dark ready₀ steps₀ heads doors d ready steps = limit - steps
+μ-loop running limit heads₀ doors₀ d₀ t halted ready₀ steps₀ heads doors d ready steps = limit - steps
 
 halted-requires : tie.Need-halted-requires Inv-loop μ-loop
 halted-requires c κs = tree-sixteen _ (valid _ (c .before .pre .0) .tree)
 
-dark-is : (c : tie.After-halted Inv-loop μ-loop) → c .halted .result ≡ haltedOf (c .before .before .args .b)
-dark-is c =
+halted-is : (c : tie.After-halted Inv-loop μ-loop) → c .halted .result ≡ haltedOf (c .before .before .args .b)
+halted-is c =
     let s = c .before .before in
     c .halted .ensures ∙ ap (minus (whole (s .args .b .tree .columns))) (s .pre .1) ∙ others-halted (s .args .b)
 
 ready-columns-requires : tie.Need-ready-columns-requires Inv-loop μ-loop
-ready-columns-requires c κs = (tree-sixteen _ (valid _ (c .before .before .pre .0) .tree), dark-is c)
+ready-columns-requires c κs = (tree-sixteen _ (valid _ (c .before .before .pre .0) .tree), halted-is c)
 
 loop-holds : tie.Need-loop-holds Inv-loop μ-loop
 loop-holds c =
     let s = c .before .before .before in
-    (going-start _ _, (s .pre .0, (refl, (running-is-of (s .args .b) (s .pre .1), (dark-is (c .before), c .ready-columns .ensures)))))
+    (going-start _ _, (s .pre .0, (refl, (running-is-of (s .args .b) (s .pre .1), (halted-is (c .before), c .ready-columns .ensures)))))
 
 lowest-requires : tie.Need-lowest-requires Inv-loop μ-loop
 lowest-requires c κs = search needs

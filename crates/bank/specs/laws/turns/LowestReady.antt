@@ -159,10 +159,10 @@ module _ (b : Bank) where
             ap step (mod-eq-of-lt (first-lt some)) ∙ sym (first-turn some)
 
     -- the step of the lowest of the set that is kept
-    pub ready-turn : {t : Tree} {dark set low : ℕ} {x : Step} → b .tree ≡ t → dark ≡ haltedOf b → set ≡ readyOf b → low ≡ lowest set
-        → x ≡ stepOf t (isFull b) dark (low % 16) (columnAt b (low % 16)) (Take 0) → x ≡ quickTurn b
-    ready-turn {dark = dark} {low = low} tree-is dark-is set-is low-is e =
+    pub ready-turn : {t : Tree} {halted set low : ℕ} {x : Step} → b .tree ≡ t → halted ≡ haltedOf b → set ≡ readyOf b → low ≡ lowest set
+        → x ≡ stepOf t (isFull b) halted (low % 16) (columnAt b (low % 16)) (Take 0) → x ≡ quickTurn b
+    ready-turn {halted = halted} {low = low} tree-is halted-is set-is low-is e =
         e
-        ∙ ap₂ (λ (t : Tree) (h : ℕ). stepOf t (isFull b) h (low % 16) (columnAt b (low % 16)) (Take 0)) (sym tree-is) dark-is
+        ∙ ap₂ (λ (t : Tree) (h : ℕ). stepOf t (isFull b) h (low % 16) (columnAt b (low % 16)) (Take 0)) (sym tree-is) halted-is
         ∙ ap (λ (m : ℕ). step (m % 16)) (low-is ∙ ap lowest set-is)
         ∙ lowest-turn

@@ -77,10 +77,10 @@ module _ (b : Bank) (i : ℕ) (r : Change) (below : i < b .tree .columns) (acts 
       go j h (inr e) = other own j h e
 
   -- the set as it is kept
-  pub ready-kept : {t : Tree} {dark set next : ℕ} → b .tree ≡ t → dark ≡ haltedOf b → set ≡ readyOf b
-      → next ≡ cond (isReady t (isFull b) dark i (r .column)) (insert set i) (without set i) → next ≡ readyOf (stored b i r)
-  ready-kept {dark = dark} {set = set} tree-is dark-is set-is e =
+  pub ready-kept : {t : Tree} {halted set next : ℕ} → b .tree ≡ t → halted ≡ haltedOf b → set ≡ readyOf b
+      → next ≡ cond (isReady t (isFull b) halted i (r .column)) (insert set i) (without set i) → next ≡ readyOf (stored b i r)
+  ready-kept {halted = halted} {set = set} tree-is halted-is set-is e =
       e
-      ∙ ap (λ (t : Tree). cond (isReady t (isFull b) dark i (r .column)) (insert set i) (without set i)) (sym tree-is)
-      ∙ ap₂ (λ (h m : ℕ). cond (isReady (b .tree) (isFull b) h i (r .column)) (insert m i) (without m i)) dark-is set-is
+      ∙ ap (λ (t : Tree). cond (isReady t (isFull b) halted i (r .column)) (insert set i) (without set i)) (sym tree-is)
+      ∙ ap₂ (λ (h m : ℕ). cond (isReady (b .tree) (isFull b) h i (r .column)) (insert m i) (without m i)) halted-is set-is
       ∙ ready-stored
