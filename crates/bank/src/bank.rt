@@ -10,7 +10,7 @@ use column::tree::Tree;
 // One word for each packet of the network.
 pub type Words = [u64; CAPACITY];
 
-#[derive(Drop)]
+#[derive(Clone, Copy)]
 pub struct Bank {
     pub tree: Tree,
     // All sixteen places are held, whatever the tree's columns.
@@ -19,20 +19,20 @@ pub struct Bank {
     pub count: usize,
 }
 
-#[derive(Drop)]
+#[derive(Clone, Copy)]
 pub enum Answer {
     Done,
     Refused(u8),
 }
 
 // The bank after a call, or as it was where the call is refused.
-#[derive(Drop)]
+#[derive(Clone, Copy)]
 pub struct Outcome {
     pub bank: Bank,
     pub answer: Answer,
 }
 
-#[derive(Drop)]
+#[derive(Clone, Copy)]
 pub enum Step {
     Order(u64),
     Send(usize),

@@ -21,7 +21,7 @@ use column::state::Column;
 use column::tree::Tree;
 
 // The bank after the steps that were taken, and how many they were.
-#[derive(Drop)]
+#[derive(Clone, Copy)]
 pub struct Dispatched {
     pub answer: Answer,
     pub bank: Bank,

@@ -9,7 +9,7 @@ use crate::validity::acting_refusal;
 use column::page::{Byte, writable, written};
 use column::precedence::refuse_if;
 
-#[derive(Drop)]
+#[derive(Clone, Copy)]
 pub enum InterruptLine {
     Is(bool),
     Refused(u8),

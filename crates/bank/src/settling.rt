@@ -23,7 +23,7 @@ pub fn column_at(b: Bank, i: usize) -> Column
 }
 
 // What a step makes of the place of its column and of the network's count; or the number by which it is refused.
-#[derive(Drop)]
+#[derive(Clone, Copy)]
 pub struct Change {
     pub column: Column,
     pub count: usize,
@@ -31,7 +31,7 @@ pub struct Change {
 }
 
 // The same but for the column, which is the core's: handed on and back it would be copied each time.
-#[derive(Drop)]
+#[derive(Clone, Copy)]
 pub struct Settled {
     pub count: usize,
     pub answer: Answer,

@@ -24,7 +24,7 @@ const OWED: u64 = SETS * SETS;
 const NOTED: u64 = SETS * OWED;
 
 // What a pass over the columns has gathered.
-#[derive(Drop)]
+#[derive(Clone, Copy)]
 pub(crate) struct Seen {
     // The members of all sets, those of each of the four kinds in sixteen binary digits of their own.
     pub sets: u64,
@@ -180,7 +180,7 @@ pub fn halted(columns: usize, running: u16) -> u16
 }
 
 // By which of 2, 3 and 4 every step of the bank is refused, else 0; and who runs, where it is 0.
-#[derive(Drop)]
+#[derive(Clone, Copy)]
 pub struct Surveyed {
     pub refusal: u8,
     pub running: u16,

@@ -17,7 +17,7 @@ use column::state::Column;
 use column::tree::Tree;
 
 // What is known of a bank: nothing, or by which of 2, 3 and 4 it is refused, else 0, and who runs, where it is 0.
-#[derive(Drop)]
+#[derive(Clone, Copy)]
 pub struct Tested {
     pub known: bool,
     pub refusal: u8,
@@ -25,7 +25,7 @@ pub struct Tested {
 }
 
 // What a step makes of the place of its column and of the count, its answer, and by which number the bank after it is refused, else 0.
-#[derive(Drop)]
+#[derive(Clone, Copy)]
 pub struct Part {
     pub column: Column,
     pub count: usize,

@@ -1,6 +1,8 @@
 // Many laps of one step of a bank, for the benchmark beside plain C. Standard input is the step's letter, N, H, S or T, the columns in two digits,
 // the packets under way in three and the number of laps, as `T 16 100 1000`. What is printed folds what each lap left into one number, so that no
 // step can be left out.
+#![tactic(auto)]
+
 mod bank_laps;
 
 use laps_timing::number;

@@ -16,7 +16,7 @@ pub const MESSAGE_SIZE: usize = HEAD_SIZE + NUMBER_SIZE + DOORS_SIZE;
 pub const ACKNOWLEDGEMENT_SIZE: usize = HEAD_SIZE + NUMBER_SIZE;
 
 // What tells packets of two widths apart: the kinds of a message and of an acknowledgement, and how many bytes a number has.
-#[derive(Drop)]
+#[derive(Clone, Copy)]
 pub struct Width {
     pub message: u8,
     pub acknowledgement: u8,
@@ -37,19 +37,19 @@ pub(crate) const WIDE: Width = Width {
     count: NUMBER_SIZE,
 };
 
-#[derive(Drop)]
+#[derive(Clone, Copy)]
 pub enum Reading {
     Is { packet: Packet, used: usize },
     Refused(u8),
 }
 
-#[derive(Drop)]
+#[derive(Clone, Copy)]
 pub enum Size {
     Is(usize),
     Refused(u8),
 }
 
-#[derive(Drop)]
+#[derive(Clone, Copy)]
 pub struct Written {
     pub bytes: [u8; MESSAGE_SIZE],
     pub size: Size,

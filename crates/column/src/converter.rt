@@ -10,7 +10,7 @@ use crate::packet::{Number, Packet, number_of};
 // The highest number of two bytes.
 const NARROW_HIGHEST: Number = 65535;
 
-#[derive(Drop)]
+#[derive(Clone, Copy)]
 pub enum Single {
     Is(Packet),
     Refused(u8),

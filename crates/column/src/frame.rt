@@ -7,7 +7,7 @@ use crate::codec::{Reading, read};
 use crate::packet::{CAPACITY, Packet};
 
 // An array of enums cannot be a field; one of structs can.
-#[derive(Drop)]
+#[derive(Clone, Copy)]
 pub struct Slot {
     pub packet: Packet,
 }
@@ -22,13 +22,13 @@ const NO_SLOT: Slot = Slot {
     },
 };
 
-#[derive(Drop)]
+#[derive(Clone, Copy)]
 pub enum Count {
     Is(usize),
     Refused(u8),
 }
 
-#[derive(Drop)]
+#[derive(Clone, Copy)]
 pub struct Frame {
     pub count: Count,
     pub packets: [Slot; CAPACITY],

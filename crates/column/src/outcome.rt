@@ -5,7 +5,7 @@ ghost use Rattle.column.specs.Steps.{outcome_meant, accepted, refused};
 use crate::packet::Packet;
 use crate::state::Column;
 
-#[derive(Drop)]
+#[derive(Clone, Copy)]
 pub enum Answer {
     // Accepted, and no packet is to be put.
     Done,
@@ -17,7 +17,7 @@ pub enum Answer {
 }
 
 // The column after a step, or as it was where the step is refused.
-#[derive(Drop)]
+#[derive(Clone, Copy)]
 pub struct Outcome {
     pub column: Column,
     pub answer: Answer,

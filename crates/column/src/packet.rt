@@ -15,7 +15,7 @@ pub const NUMBERS: u64 = HIGHEST as u64 + 1;
 // Most packets that are held at once, and most of a frame.
 pub const CAPACITY: usize = 512;
 
-#[derive(Drop)]
+#[derive(Clone, Copy)]
 pub enum Packet {
     Message {
         from: u8,

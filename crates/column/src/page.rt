@@ -30,7 +30,7 @@ pub const HALT_NOTED: u8 = 2;
 
 pub const TOOK_OVER: u8 = 4;
 
-#[derive(Drop)]
+#[derive(Clone, Copy)]
 pub enum Byte {
     Is(u8),
     Refused(u8),

@@ -9,7 +9,7 @@ use crate::topology::{column_refusal, tree_refusal};
 use crate::tree::Tree;
 
 // Widest fields first, so that a column is 32 bytes.
-#[derive(Drop)]
+#[derive(Clone, Copy)]
 pub struct Column {
     pub doors: u64,
     // Who sent its record.
@@ -28,7 +28,7 @@ pub struct Column {
     pub pending: u8,
 }
 
-#[derive(Drop)]
+#[derive(Clone, Copy)]
 pub enum FreshColumn {
     Is(Column),
     Refused(u8),

@@ -10,7 +10,7 @@ use crate::tree::Tree;
 // Calls enough for the subtree of any column.
 const DESCENT: usize = 288;
 
-#[derive(Drop)]
+#[derive(Clone, Copy)]
 pub enum Members {
     Set(u16),
     Refused(u8),

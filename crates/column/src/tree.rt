@@ -3,7 +3,7 @@
 // The sequence of a tree that names none.
 pub const ASCENDING: [u8; 16] = [0, 1, 2, 3, 4, 5, 6, 7, 8, 9, 10, 11, 12, 13, 14, 15];
 
-#[derive(Drop)]
+#[derive(Clone, Copy)]
 pub struct Tree {
     pub columns: usize,
     pub root: usize,

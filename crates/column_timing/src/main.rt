@@ -1,5 +1,7 @@
 // Many laps of one step of a lone column, or of a frame read, for the benchmark beside plain C. Standard input is the step's letter, or f for the
 // frame, and the number of laps, as `s 1000`. What is printed folds what each lap left into one number, so that no step can be left out.
+#![tactic(auto)]
+
 mod column_laps;
 mod frame_laps;
 

@@ -1,6 +1,8 @@
 // Many laps of a bank dispatched to rest, for the benchmark beside plain C. Standard input is the bank's letter, D, F or G, its columns in two digits,
 // 16 for more and 1 for none, and the number of laps, as `F 16 10`. What is printed folds what each lap left into one number, so that no step can
 // be left out.
+#![tactic(auto)]
+
 mod dispatch_laps;
 
 ghost use Rattle.std.specs.Prelude.{◌≤◌, ◌<◌};

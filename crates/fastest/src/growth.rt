@@ -2,7 +2,7 @@
 ghost use Rattle.std.specs.Prelude.{◌+◌, ◌≤◌, ◌<◌, ◌≡◌, get_or};
 ghost use Rattle.fastest.specs.Strategy.{soonest, with_column, grown};
 
-#[derive(Drop)]
+#[derive(Clone, Copy)]
 pub struct Growth {
     // Each column's parent.
     pub up: [u8; 16],

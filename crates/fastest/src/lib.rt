@@ -1,3 +1,5 @@
 // Fastest trees: the tree that the strategy of the report's section 4 makes. That no tree completes earlier is proved in specs/laws.
+#![tactic(auto)]
+
 mod growth;
 pub mod strategy;

@@ -7,7 +7,7 @@ use column::precedence::refuse_if;
 use column::tree::{ASCENDING, Tree};
 
 // The tree counts where the refusal is 0; beside a refusal it is one of no columns.
-#[derive(Drop)]
+#[derive(Clone, Copy)]
 pub struct Plan {
     pub refusal: u8,
     pub tree: Tree,

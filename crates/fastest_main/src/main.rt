@@ -1,4 +1,6 @@
 // Answers the request for a fastest tree on standard input.
+#![tactic(auto)]
+
 use fastest_text::request::{LIMIT, TABLE, answer};
 use libc::{STDIN_FILENO, STDOUT_FILENO};
 

@@ -19,7 +19,7 @@ pub const LIMIT: usize = 29;
 pub const TABLE: usize = 70;
 
 // The numbers count where the text is of its form.
-#[derive(Drop)]
+#[derive(Clone, Copy)]
 struct Request {
     good: bool,
     columns: usize,

@@ -1,5 +1,7 @@
 // The core of one column for firmware in C: functions over numbers and blocks of bytes alone. `include/mudasgup.h` has them by types.
 // A refused call leaves every byte that was lent to it.
+#![tactic(auto)]
+
 mod answer;
 mod block;
 pub mod frames;

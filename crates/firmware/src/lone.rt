@@ -16,7 +16,7 @@ use column::step::{ack, all, halt, note, order, send, take};
 use column::tree::Tree;
 
 // The steps that put no packet.
-#[derive(Drop)]
+#[derive(Clone, Copy)]
 pub enum QuietStep {
     Order(u64),
     All,
@@ -34,7 +34,7 @@ pub enum QuietStep {
 }
 
 // The steps that may put a packet.
-#[derive(Drop)]
+#[derive(Clone, Copy)]
 pub enum PuttingStep {
     Send,
     Take(Packet),
@@ -43,7 +43,7 @@ pub enum PuttingStep {
 }
 
 // One of the core's steps: one place calls them, so that they are compiled into it.
-#[derive(Drop)]
+#[derive(Clone, Copy)]
 enum Chosen {
     Send,
     Take(Packet),

@@ -1,5 +1,7 @@
 // The bank's steps on banks handed in that no script reaches: one line a case, with the step, its answer, whether the bank and both
 // arrays are as they were, and what the step did.
+#![tactic(auto)]
+
 mod case;
 mod comparing;
 mod dispatching;

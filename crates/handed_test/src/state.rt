@@ -5,7 +5,7 @@ use column::packet::{CAPACITY, NUMBERS, Number};
 use column::state::Column;
 use column::tree::{ASCENDING, Tree};
 
-#[derive(Drop)]
+#[derive(Clone, Copy)]
 pub struct State {
     pub bank: Bank,
     pub heads: Words,

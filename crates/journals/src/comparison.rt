@@ -9,7 +9,7 @@ use crate::index::{INDEX, both_heard, chain};
 use crate::journal::{Heading, LINES, read_journal};
 use crate::missing::{missing_length, put_missing};
 
-#[derive(Drop)]
+#[derive(Clone, Copy)]
 pub enum Compared {
     Length(usize),
     Refused(u8),

@@ -17,20 +17,20 @@ const SHORTEST: usize = 10;
 pub const LINES: usize = JOURNAL / SHORTEST + 1;
 
 // The word of the next line, and the place after it.
-#[derive(Drop)]
+#[derive(Clone, Copy)]
 pub enum NextKey {
     Is(u64, usize),
     Refused(u8),
 }
 
-#[derive(Drop)]
+#[derive(Clone, Copy)]
 enum Count {
     Is(usize),
     Refused(u8),
 }
 
 // The owner of a journal, the place of its second line, and how many lines follow the first.
-#[derive(Drop)]
+#[derive(Clone, Copy)]
 pub enum Heading {
     Is(usize, usize, usize),
     Refused(u8),

@@ -1,4 +1,6 @@
 // The journals of two columns compared.
+#![tactic(auto)]
+
 pub mod comparison;
 mod index;
 mod journal;

@@ -18,13 +18,13 @@ const ACKNOWLEDGEMENT: usize = 2;
 
 const HIGHEST_NUMBER: usize = HIGHEST as usize;
 
-#[derive(Drop)]
+#[derive(Clone, Copy)]
 pub enum Way {
     Sent,
     Got,
 }
 
-#[derive(Drop)]
+#[derive(Clone, Copy)]
 pub struct Line {
     pub way: Way,
     // MESSAGE or ACKNOWLEDGEMENT.
@@ -33,7 +33,7 @@ pub struct Line {
     pub number: u32,
 }
 
-#[derive(Drop)]
+#[derive(Clone, Copy)]
 pub enum LineAnswer {
     Is(Line),
     Refused(u8),

@@ -1,4 +1,6 @@
 // Compares the journals in the two files that its arguments name.
+#![tactic(auto)]
+
 ghost use Rattle.io.specs.Counts.{IsPrefixLen};
 
 use journals::comparison::{Compared, compare};

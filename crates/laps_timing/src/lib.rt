@@ -1,4 +1,6 @@
 // What the timing programs share: the tree of their laps, the number that they read, and the fold of what a lap left into one number.
+#![tactic(auto)]
+
 ghost use Rattle.std.specs.Prelude.{◌≡◌};
 ghost use Rattle.laps_timing.specs.Laps.{parents_with, sequence_with, heap_with, folded, number_of};
 

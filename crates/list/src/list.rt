@@ -14,7 +14,7 @@ pub const LONGEST: usize = 229;
 // Room for the list under any number of 64 bits, which has up to eighteen digits more than that of a column of a bank.
 const SCRATCH: usize = LONGEST + 18;
 
-#[derive(Drop)]
+#[derive(Clone, Copy)]
 pub enum Listing {
     // The bytes that the list takes.
     Length(usize),

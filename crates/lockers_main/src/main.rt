@@ -1,4 +1,6 @@
 // Runs the script on standard input. All of it is read first, so that texts to print may wait and be written many at a time.
+#![tactic(auto)]
+
 use column::packet::CAPACITY;
 use libc::{STDIN_FILENO, STDOUT_FILENO};
 use script::script::{BUFFER, fill, start};

@@ -20,7 +20,7 @@ pub const MOST_COLUMNS: usize = 8;
 pub const TO_REST: usize = 536;
 
 // How many sets end with record 1, with record 0 and with no column running, where the refusal is 0; beside a refusal all are 0.
-#[derive(Drop)]
+#[derive(Clone, Copy)]
 pub struct Losses {
     pub refusal: u8,
     pub kept: usize,

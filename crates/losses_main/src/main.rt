@@ -1,4 +1,6 @@
 // Answers the table with a step count on standard input: how many halts lose the order.
+#![tactic(auto)]
+
 use libc::{STDIN_FILENO, STDOUT_FILENO};
 use losses_text::request::{COUNTS, answer};
 use table::table::LIMIT;

@@ -1,2 +1,4 @@
 // A table with a step count as text, and the text that answers it.
+#![tactic(auto)]
+
 pub mod request;

@@ -6,7 +6,7 @@ use bank::page::{line_up, read};
 use bank::step::perform;
 use column::page::PAGE_SIZE;
 
-#[derive(Drop)]
+#[derive(Clone, Copy)]
 pub struct Command {
     pub letter: u8,
     pub x: u8,

@@ -1,6 +1,8 @@
 // The two ends of a line: at one the core of a root, at the other those of its two children. One order goes down in a frame of two messages, and
 // the two acknowledgements come up in one. Each frame is printed as the bytes that go over the line, and each column's record as it is in the end,
 // with whom it still awaits. Then a line of which one end is old, and what the core answers of a larger tree.
+#![tactic(auto)]
+
 mod line;
 mod mixed;
 mod print;

@@ -5,7 +5,7 @@ ghost use Rattle.script.specs.inner.Hexadecimals.{digit_read, byte_read, doors_m
 
 use text::reading::Number;
 
-#[derive(Drop)]
+#[derive(Clone, Copy)]
 pub enum Doors {
     Are(u64),
     Unread,

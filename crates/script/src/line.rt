@@ -15,7 +15,7 @@ use text::reading::{Number, read_keyed, read_numeral, starts_with};
 const SIXTEEN: u32 = 65536;
 
 // What a line asks for.
-#[derive(Drop)]
+#[derive(Clone, Copy)]
 pub enum Parsed {
     Perform(Step),
     List(usize),
@@ -24,7 +24,7 @@ pub enum Parsed {
 }
 
 // What is asked with one number, a column, a place or a limit.
-#[derive(Drop)]
+#[derive(Clone, Copy)]
 enum Asked {
     Send,
     Take,

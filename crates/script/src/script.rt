@@ -26,7 +26,7 @@ pub const BUFFER: usize = 16384;
 // Up to here the longest text fits.
 const ROOM: usize = BUFFER - LONGEST;
 
-#[derive(Drop)]
+#[derive(Clone, Copy)]
 pub struct Run {
     pub bank: Bank,
     // Where the next line begins.
@@ -39,7 +39,7 @@ pub struct Run {
     pub length: usize,
 }
 
-#[derive(Drop)]
+#[derive(Clone, Copy)]
 struct NextLine {
     parsed: Parsed,
     // Where the line after it begins.

@@ -17,7 +17,7 @@ use bank::kind::is_move;
 use bank::step::{back, halt, write};
 
 // The bank after a line, and where its text ends.
-#[derive(Drop)]
+#[derive(Clone, Copy)]
 pub(crate) struct LineDone {
     pub bank: Bank,
     pub end: usize,

@@ -1,3 +1,5 @@
 // The table of a bank as text.
+#![tactic(auto)]
+
 mod number_list;
 pub mod table;

@@ -8,14 +8,14 @@ use column::tree::ASCENDING;
 use text::reading::{Number, read_numeral, starts_with};
 
 // The numbers of a line: how many, and the first sixteen.
-#[derive(Drop)]
+#[derive(Clone, Copy)]
 pub struct NumberList {
     pub count: usize,
     pub numbers: [u8; 16],
 }
 
 // The list counts where the line is of its form.
-#[derive(Drop)]
+#[derive(Clone, Copy)]
 pub struct ListLine {
     pub good: bool,
     pub list: NumberList,

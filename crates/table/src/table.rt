@@ -18,7 +18,7 @@ use text::three_lines::{LineEnds, find_three_lines};
 pub const LIMIT: usize = 65536;
 
 // The line of the sequence, where the table has it: whether it is of its form, whether it is there, its numbers, and the place after it.
-#[derive(Drop)]
+#[derive(Clone, Copy)]
 struct SequenceRead {
     good: bool,
     named: bool,
@@ -27,7 +27,7 @@ struct SequenceRead {
 }
 
 // The line of the watch, where the table has it: whether it is of its form, whether senders are watched, and the place after it.
-#[derive(Drop)]
+#[derive(Clone, Copy)]
 struct WatchRead {
     good: bool,
     watch: bool,
@@ -35,7 +35,7 @@ struct WatchRead {
 }
 
 // The lines after the third: whether they are of their form, whether the sequence is there, its numbers, the watch, and the place after them.
-#[derive(Drop)]
+#[derive(Clone, Copy)]
 struct FurtherRead {
     good: bool,
     named: bool,
@@ -50,7 +50,7 @@ const WATCHES_ROOT: usize = 11;
 const WATCHES_SENDER: usize = 13;
 
 // A tree and the place after its table, where it is not refused.
-#[derive(Drop)]
+#[derive(Clone, Copy)]
 pub struct Table {
     pub answer: Answer,
     pub tree: Tree,

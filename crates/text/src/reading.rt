@@ -4,7 +4,7 @@ ghost use Rattle.text.specs.Text.{numeral, starts_with, number_meant};
 ghost use Rattle.text.specs.Pieces.{keyed};
 ghost use Rattle.text.specs.inner.Texts.{digits};
 
-#[derive(Drop)]
+#[derive(Clone, Copy)]
 pub enum Number {
     Is(usize),
     Unread,

@@ -5,7 +5,7 @@ ghost use Rattle.text.specs.Pieces.{three_lines, ends_meant, Rising};
 use bytes::scan::find;
 
 // The places of the bytes 10 that end them.
-#[derive(Drop)]
+#[derive(Clone, Copy)]
 pub enum LineEnds {
     At(usize, usize, usize),
     Fewer,
