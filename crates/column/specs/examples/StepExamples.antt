@@ -5,7 +5,7 @@ use Rattle.std.specs.Int.Count.{count_trailing_zeros}
 use Rattle.column.specs.Sets.{selected}
 use Rattle.column.specs.Trees.{ascending, tree_by, tree_in_sequence, tree_of, every, climbs_in, tree_refusal}
 use Rattle.column.specs.Columns.{state_refusal, validity_refusal, with_registers}
-use Rattle.column.specs.Steps.{accepted, packet_refusal, order_refusal, order_effect, send_refusal, send_effect, send, take_refusal, acknowledgement_effect, receive_effect, message_effect, ack_refusal, ack_effect, ack, all_refusal, all_effect, note_refusal, note_effect, halt_refusal, halt_effect}
+use Rattle.column.specs.Steps.{accepted, packet_refusal, order_refusal, order_effect, send_refusal, send_effect, take_refusal, acknowledgement_effect, receive_effect, message_effect, ack_refusal, ack_effect, ack, all_refusal, all_effect, note_refusal, note_effect, halt_refusal, halt_effect}
 use Rattle.column.specs.declared.tree.Tree.{Tree}
 use Rattle.column.specs.declared.state.Column.{Column}
 use Rattle.column.specs.declared.packet.Packet.TheVariants.{Message, Acknowledgement}

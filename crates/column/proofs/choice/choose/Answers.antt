@@ -1,0 +1,36 @@
+-- The earliest of all places is the earliest of those from `at` on.
+use Prim.Native.Nat.{◌-◌}
+use mathlib.Core.Path.{◌≡◌, sym, ap, ◌∙◌}
+use native.Mathlib.Omega.{arith}
+use Rattle.column.specs.Trees.{earliest_from}
+use Rattle.column.specs.laws.ChoiceLaws.{from_here, from_next}
+use Rattle.column.proofs.choice.choose.Goals as goal
+
+pub loop-at-init : goal.loop-at-init
+loop-at-init c =
+    let n = c.places-n.result in
+    let e : n ≡ n - 0 = omega arith in
+    (omega arith, ap (earliest_from c.args.t.first c.args.set 0) e)
+
+pub bounds-first-at : goal.bounds-first-at
+bounds-first-at c = omega (arith, c.places-n.ensures)
+
+pub returns-then-has : goal.returns-then-has
+returns-then-has c =
+    let a = c.args in
+    sym (ap (earliest_from a.t.first a.set 0) (sym c.places-n.ensures) ∙ c.loop-at.invariant.1
+    ∙ from_here a.t.first a.set c.loop-at.at c.places-n.result (omega arith) (sym c.has.ensures ∙ c.if-has.true))
+
+pub loop-at-preserved : goal.loop-at-preserved
+loop-at-preserved c =
+    let a = c.args in
+    let at = c.loop-at.at in
+    let n = c.places-n.result in
+    (omega arith, c.loop-at.invariant.1 ∙ from_next a.t.first a.set at n (omega arith) (sym c.has.ensures ∙ c.if-has.false))
+
+pub returns : goal.returns
+returns c =
+    let a = c.args in
+    let none : c.places-n.result - c.loop-at.at ≡ 0 = omega arith in
+    sym (ap (earliest_from a.t.first a.set 0) (sym c.places-n.ensures) ∙ c.loop-at.invariant.1
+    ∙ ap (earliest_from a.t.first a.set c.loop-at.at) none)

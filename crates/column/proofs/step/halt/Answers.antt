@@ -1,0 +1,12 @@
+use mathlib.Core.Path.{sym, ap, ◌∙◌}
+use borrow.Author.Tests.{eq-eqb, ne_eqb}
+use Rattle.column.specs.Steps.{refused}
+use Rattle.column.proofs.step.halt.Goals as goal
+
+pub returns-then-n-ne0 : goal.returns-then-n-ne0
+returns-then-n-ne0 c =
+    let e = c.halt_refusal-n.ensures in
+    simp (ne_eqb _ _ (λ z. c.if-n-ne0.true (e ∙ z))) (c.refused.ensures ∙ ap (λ k. refused k c.args.c) e)
+
+pub returns : goal.returns
+returns c = simp (eq-eqb _ _ (sym c.halt_refusal-n.ensures ∙ c.if-n-ne0.false)) c.halt_effect.ensures
