@@ -1,3 +1,4 @@
+pub mod Search
 pub mod Text
 pub mod Pieces
 pub mod inner

@@ -2,5 +2,6 @@
 #![tactic(auto)]
 
 pub mod reading;
+pub mod search;
 pub mod three_lines;
 pub mod writing;

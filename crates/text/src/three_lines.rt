@@ -2,7 +2,7 @@
 ghost use Rattle.std.specs.Prelude.{◌≡◌};
 ghost use Rattle.text.specs.Pieces.{three_lines, ends_meant, Rising};
 
-use bytes::scan::find;
+use crate::search::find;
 
 // The places of the bytes 10 that end them.
 #[derive(Clone, Copy)]

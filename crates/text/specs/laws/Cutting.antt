@@ -3,7 +3,7 @@ use Rattle.std.specs.Prelude.{ℕ, suc, ◌+◌, ◌-◌, ◌≤◌, ◌<◌, �
 use Rattle.std.proofs.Common.{sym, ap, ◌∙◌, arith, add-one, length-take, length-drop, take_all, drop-drop, lt-ltb, le-ltb, le-leb, ltb-true, ltb-false, eqb-true}
 use Rattle.std.proofs.Math.Dec.{leb-suc-suc}
 use Rattle.std.proofs.lemmas.Bool.{lt-leb}
-use Rattle.bytes.specs.Bytes.{slice, index_after, index_of}
+use Rattle.text.specs.Search.{slice, index_after, index_of}
 use Rattle.text.specs.Text.{newline, comma, read, unread, is_digit, all_digits, value_from, leading_zero, numeral}
 use Rattle.text.specs.Pieces.{ended, unended, with_first, cut, longer, pieces}
 

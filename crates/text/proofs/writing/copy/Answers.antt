@@ -1,0 +1,10 @@
+use Rattle.std.proofs.Common.{sym, arith}
+use Rattle.text.specs.laws.WritingLaws.{written_none, written_next}
+use Rattle.text.proofs.writing.copy.Goals as goal
+
+pub loop-i-init : goal.loop-i-init
+loop-i-init c = (omega arith, sym (written_none c.args.out.now c.args.at))
+
+pub loop-i-preserved : goal.loop-i-preserved
+loop-i-preserved c =
+    (omega arith, rw c.loop-i.invariant.1 (written_next c.args.out.now c.args.at c.args.bytes.now c.loop-i.i (omega arith) (omega arith)))
