@@ -28,6 +28,7 @@ fn value_of(text: &[u8]) -> Number
 }
 
 // Ten digits at most, so that the value is held.
+#[tactic(auto, using(crate::specs::laws::ReadingLaws::numeral_none, crate::specs::laws::ReadingLaws::numeral_long, crate::specs::laws::ReadingLaws::numeral_zero, crate::specs::laws::ReadingLaws::numeral_digits, crate::specs::laws::ReadingLaws::leading_one, crate::specs::laws::ReadingLaws::leading_other))]
 fn numeral(text: &[u8], width: usize) -> Number
     requires { width ≤ 10 }
     ensures { number_meant result ≡ numeral width text.now }
