@@ -1,0 +1,26 @@
+use borrow.Author.Rules.{rules}
+use Prim.Native.Nat.{◌+◌, ◌-◌, ◌≤◌, ◌<◌}
+use mathlib.Core.Path.{◌≡◌, refl, sym, ap, ◌∙◌}
+use mathlib.Core.Logic.{⊎_elim}
+use mathlib.Core.Bool.{true, false, not}
+use native.Mathlib.Omega.{arith}
+use Rattle.column.specs.Sets.{has}
+use lib.ListN.{length, set, take, get_or, length-set}
+use Rattle.bank.specs.Networks.{keeping, elsewhere}
+use Rattle.bank.specs.laws.ListSteps.{keeping_longer, keeping_no, partly_start, partly_read, partly_yes, partly_no}
+use Rattle.bank.specs.inner.NetworkWords.{partly}
+use Rattle.bank.proofs.network.keep.Given as goal
+
+abbrev pub invariant-loop-j : goal.invariant-loop-j
+invariant-loop-j l =
+    (l.j ≤ l.count)
+    × (l.kept ≤ l.j)
+    × (length l.heads ≡ length l.initial.heads)
+    × (length l.doors ≡ length l.initial.doors)
+    × (l.kept ≡ length (keeping (elsewhere (has l.m)) (take l.j l.initial.heads) (take l.j l.initial.heads)))
+    × (l.kept ≡ length (keeping (elsewhere (has l.m)) (take l.j l.initial.heads) (take l.j l.initial.doors)))
+    × (l.heads ≡ partly (elsewhere (has l.m)) l.initial.heads l.initial.heads l.j)
+    × (l.doors ≡ partly (elsewhere (has l.m)) l.initial.heads l.initial.doors l.j)
+
+abbrev pub decreases-loop-j : goal.decreases-loop-j
+decreases-loop-j l = l.count - l.j

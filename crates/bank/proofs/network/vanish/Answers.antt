@@ -1,0 +1,53 @@
+use borrow.Author.Rules.{rules}
+use Prim.Native.Nat.{◌≤◌}
+use mathlib.Core.Path.{◌≡◌, ◌∙◌}
+use native.Mathlib.Omega.{arith}
+use lib.ListN.{length, take, length-take}
+use Rattle.bank.specs.Networks.{keeping, elsewhere, vanished, counting}
+use Rattle.bank.specs.laws.ListSteps.{keeping_few, keeping_same, partly_padded}
+use Rattle.column.specs.Sets.{has}
+use Rattle.bank.specs.Banks.{state}
+use Rattle.bank.proofs.network.vanish.Goals as goal
+use Rattle.bank.proofs.network.vanish.Goals.{After-keep-kept}
+
+lengths : (c : After-keep-kept) → let a = c.args in
+    (a.count ≤ length a.heads.now) × (a.count ≤ length a.doors.now)
+lengths c = keep-requires c.before c.keep-kept.lifetimes
+
+few : (c : After-keep-kept) → c.keep-kept.result ≤ c.args.count
+few c =
+    let a = c.args in
+    let h = take a.count a.heads.now in
+    omega (arith, c.keep-kept.ensures.many, keeping_few (elsewhere (has a.m)) h h, length-take a.count a.heads.now)
+
+same : (c : After-keep-kept) → let a = c.args in
+    let h = take a.count a.heads.now in
+    length (keeping (elsewhere (has a.m)) h h) ≡ length (keeping (elsewhere (has a.m)) h (take a.count a.doors.now))
+same c =
+    let a = c.args in
+    let h = take a.count a.heads.now in
+    keeping_same (elsewhere (has a.m)) h h (take a.count a.doors.now) (simp length-take (omega (arith, lengths c)))
+
+pub clear-requires : goal.clear-requires
+clear-requires c =
+    let e : length c.keep-kept.new.heads ≡ length c.args.heads.now = c.keep-kept.auto.1.1.0 in
+    (few (goal.at.clear-requires c).After-keep-kept, omega (arith, e, (lengths (goal.at.clear-requires c).After-keep-kept).0))
+
+pub clear-requires-2 : goal.clear-requires-2
+clear-requires-2 c =
+    let e : length c.keep-kept.new.doors ≡ length c.args.doors.now = c.keep-kept.auto.1.1.1.0 in
+    (few (goal.at.clear-requires-2 c).After-keep-kept, omega (arith, e, (lengths (goal.at.clear-requires-2 c).After-keep-kept).1))
+
+pub returns : goal.returns
+unfolding vanished
+returns c =
+    let a = c.args in
+    let h = a.heads.now in
+    let d = a.doors.now in
+    let f = elsewhere (has a.m) in
+    let n = a.count in
+    let s = c.keep-kept.ensures in
+    let r = c.keep-kept.result in
+    let heads = c.clear.ensures ∙ partly_padded f h h 0 0 n r n 0 _ s.heads_are s.many (few (goal.at.returns c).After-keep-kept) in
+    let doors = c.clear-2.ensures ∙ partly_padded f h d 0 0 n r n 0 _ s.doors_are (s.many ∙ same (goal.at.returns c).After-keep-kept) (few (goal.at.returns c).After-keep-kept) in
+    λ b t. state (counting b (s.many t)) (heads t) (doors t)

@@ -1,0 +1,24 @@
+-- The columns below i have j no longer noted.
+use borrow.Author.Rules.{rules}
+use Prim.Native.Nat.{ℕ, ◌≤◌, ◌-◌}
+use mathlib.Core.Path.{◌≡◌, refl, sym, ap, ◌∙◌}
+use mathlib.Core.Bool.{true}
+use mathlib.Core.List.{List}
+use native.Mathlib.Omega.{arith}
+use lib.ListN.{get_or, set}
+use Rattle.column.specs.Returns.{struck}
+use Rattle.column.specs.declared.state.Column.{Column}
+use Rattle.bank.specs.Banks.{no_column}
+use Rattle.bank.specs.Steps.{with_rewritten}
+use Rattle.bank.specs.laws.strips.Rewriting.{upto, rewrite_start, rewrite_yes}
+use Rattle.bank.specs.declared.bank.Bank.{Bank}
+use Rattle.bank.proofs.returning.strike_noted.Given as goal
+
+abbrev pub struck_below : Bank → ℕ → ℕ → Bank
+struck_below b j = λ i. with_rewritten (λ c. struck c j) b (upto (λ k. true) i)
+
+abbrev pub invariant-loop-i : goal.invariant-loop-i
+invariant-loop-i l = (l.i ≤ l.n) × (l.d ≡ struck_below l.initial.d l.j l.i)
+
+abbrev pub decreases-loop-i : goal.decreases-loop-i
+decreases-loop-i l = l.n - l.i

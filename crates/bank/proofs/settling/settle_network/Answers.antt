@@ -1,0 +1,32 @@
+use borrow.Author.Rules.{rules}
+use mathlib.Core.Path.{sym, ap, ◌∙◌}
+use mathlib.Core.Logic.{⊎_elim, inl, inr}
+use Rattle.bank.specs.laws.SettledLaws.{comes}
+use Rattle.bank.specs.laws.ChangeLaws.{settled_none, refused_at, settled_put}
+use Rattle.column.specs.declared.outcome.Answer.TheVariants as core_is
+use Rattle.bank.proofs.settling.settle_network.Goals as goal
+
+pub returns-in-Done : goal.returns-in-Done
+returns-in-Done c =
+    λ b i n running_is steady aimed.
+    let a = c.args in
+    rw c.in-Done.is (settled_none b i a.heads.now a.doors.now a.o.column a.count n (comes a.o.column c.changed.ensures) c.requires)
+
+pub returns-in-Refused : goal.returns-in-Refused
+returns-in-Refused c =
+    λ b i n running_is steady aimed.
+    let a = c.args in
+    rw c.in-Refused.is (refused_at b i a.heads.now a.doors.now (comes a.o.column c.unchanged.ensures))
+
+pub returns-in-Put : goal.returns-in-Put
+returns-in-Put c =
+    λ b i n running_is steady aimed.
+    let a = c.args in
+    ⊎_elim
+    (λ x.
+    settled_put b i a.heads.now a.doors.now a.o.column a.count n a.o.answer _ (inl (x.1.given.1 ∙ ap core_is.Put (sym x.3))) steady aimed
+    (λ s l. c.deliver.ensures a.o.column b i n running_is s l))
+    (λ x.
+    settled_put b i a.heads.now a.doors.now a.o.column a.count n a.o.answer _ (inr (x.1.given.1 ∙ ap core_is.Left (sym x.3))) steady aimed
+    (λ s l. c.deliver.ensures a.o.column b i n running_is s l))
+    c.in-Put.match-a-branch

@@ -1,0 +1,5 @@
+use borrow.Author.Rules.{rules}
+use Rattle.bank.proofs.step.back.Goals as goal
+
+pub returns : goal.returns
+returns c = c.bring_back.ensures c.args.doors.now

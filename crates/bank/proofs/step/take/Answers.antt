@@ -1,0 +1,14 @@
+use borrow.Author.Rules.{rules}
+use Rattle.bank.specs.Banks.{state}
+use Rattle.bank.specs.laws.MoveLaws.{taker}
+use Rattle.bank.specs.Performs.{perform}
+use Rattle.bank.proofs.step.take.Goals as goal
+
+pub act-requires : goal.act-requires
+act-requires c =
+    let a = c.args in
+    taker (state a.b a.heads.now a.doors.now) a.place c.receiver_at-i.ensures
+
+pub returns : goal.returns
+unfolding perform
+returns c = c.act.ensures

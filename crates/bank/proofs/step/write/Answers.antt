@@ -1,0 +1,5 @@
+use borrow.Author.Rules.{rules}
+use Rattle.bank.proofs.step.write.Goals as goal
+
+pub returns : goal.returns
+returns c = c.write_byte.ensures c.args.doors.now

@@ -1,0 +1,5 @@
+use borrow.Author.Rules.{rules}
+use Rattle.bank.proofs.validity.bank_refusal.Goals as goal
+
+pub returns : goal.returns
+returns c = c.survey-v.ensures.refuses
