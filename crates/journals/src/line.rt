@@ -4,7 +4,7 @@ ghost use Rattle.text.specs.Text.{read};
 ghost use Rattle.text.specs.Pieces.{pieces};
 ghost use Rattle.journals.specs.Journals.{line_meant, line_judged, line_pieces, line_of};
 
-use bytes::scan::find;
+use text::search::find;
 use column::packet::HIGHEST;
 use text::reading::{Number, read_numeral, starts_with};
 

@@ -5,7 +5,7 @@ ghost use Rattle.losses_text.specs.LossTexts.{step_count, counts_text, asked_tex
 ghost use Rattle.losses_text.specs.inner.LossAnswers.{longest_counts};
 
 use bank::bank::Answer;
-use bytes::scan::find;
+use text::search::find;
 use column::tree::Tree;
 use losses::count::{Losses, count_losses, losses_refusal};
 use table::table::{LIMIT, read_table};

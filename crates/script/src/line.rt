@@ -8,7 +8,7 @@ ghost use Rattle.script.specs.inner.ScriptLines.{asked};
 
 use crate::hexadecimal::{Doors, read_doors};
 use bank::bank::Step;
-use bytes::scan::find;
+use text::search::find;
 use text::reading::{Number, read_keyed, read_numeral, starts_with};
 
 // The set of column 16, which no bank has.

@@ -14,7 +14,7 @@ use crate::whole_line::{by_place, whole_line};
 use bank::bank::{Answer, Bank, NO_COLUMN, Words, fresh};
 use bank::rest::at_rest;
 use bank::unchecked_for_script::{acting, step_on, test_bank, untested};
-use bytes::scan::find;
+use text::search::find;
 use column::tree::{ASCENDING, Tree};
 use list::list::LONGEST;
 use table::table::{LIMIT, read_table};

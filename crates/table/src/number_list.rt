@@ -3,7 +3,7 @@ ghost use Rattle.std.specs.Prelude.{◌^◌, ◌<◌, ◌≡◌};
 ghost use Rattle.text.specs.Pieces.{numbers, pieces, numerals};
 ghost use Rattle.table.specs.inner.NumberLists.{with_one, line_meant, held};
 
-use bytes::scan::find;
+use text::search::find;
 use column::tree::ASCENDING;
 use text::reading::{Number, read_numeral, starts_with};
 

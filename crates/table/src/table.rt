@@ -7,7 +7,7 @@ ghost use Rattle.table.specs.inner.HeldTables.{sequence_meant, held_from, watch_
 
 use crate::number_list::{NO_LIST, NumberList, numbers_of};
 use bank::bank::Answer;
-use bytes::scan::find;
+use text::search::find;
 use column::precedence::{earlier, refuse_if};
 use column::topology::tree_refusal;
 use column::tree::{ASCENDING, Tree};

@@ -11,7 +11,7 @@ use Rattle.text.specs.Text.{comma, Reading, read, unread, numeral, starts_with, 
 use Rattle.text.specs.Pieces.{pieces, longer}
 use Rattle.text.specs.laws.ReadingLaws.{rest_of, after_rest, after_other, numeral_none}
 use Rattle.text.specs.laws.Cutting.{pieces_next, pieces_from, pieces_all, pieces_end, piece_from, comma_numeral}
-use Rattle.bytes.specs.Bytes.{index_of, slice}
+use Rattle.text.specs.Search.{index_of, slice}
 use Rattle.journals.specs.Journals.{sent_key, got_key, line, message_kind, acknowledgement_kind, good_line, line_judged, line_pieces, line_in, line_of}
 use Rattle.journals.specs.laws.JournalLaws.{is_good}
 use Rattle.journals.specs.declared.line.Way.{Way}

@@ -8,7 +8,7 @@ use Rattle.column.specs.Refusals.{Given, given, refused}
 use Rattle.text.specs.Text.{newline}
 use Rattle.text.specs.Pieces.{Cut, ended, unended, with_first, cut}
 use Rattle.text.specs.laws.Cutting.{line_ended, line_unended, line_length}
-use Rattle.bytes.specs.Bytes.{index_of, slice}
+use Rattle.text.specs.Search.{index_of, slice}
 use Rattle.journals.specs.Journals.{line_of, Entry, entry, with_entry, cut_entries, entries_in}
 use Rattle.journals.specs.inner.JournalKeys.{shortest_line, next_of, next_cut, values_of, values_in, entry_key, entry_size, Next}
 use Rattle.journals.specs.inner.LineWords.{key_of}

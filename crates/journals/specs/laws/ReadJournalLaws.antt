@@ -8,7 +8,7 @@ use Rattle.text.specs.Text.{column_key, newline, read, unread}
 use Rattle.text.specs.Pieces.{keyed}
 use Rattle.text.specs.laws.ReadingLaws.{rest_of}
 use Rattle.text.specs.laws.Cutting.{line_ended, line_unended}
-use Rattle.bytes.specs.Bytes.{index_of, slice}
+use Rattle.text.specs.Search.{index_of, slice}
 use Rattle.journals.specs.Journals.{Entry, with_owner, owned, headed, journal_limit, journal_of, once_each, all_heard, missing}
 use Rattle.journals.specs.inner.JournalKeys.{lines_limit, entry_key, entry_size, values_of, values_in}
 use Rattle.journals.specs.inner.LineWords.{byte_values, heard_keys}
