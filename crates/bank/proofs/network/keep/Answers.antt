@@ -1,7 +1,6 @@
 use borrow.Author.Rules.{rules}
 use Prim.Native.Nat.{◌+◌, ◌-◌, ◌≤◌, ◌<◌}
 use mathlib.Core.Path.{◌≡◌, refl, sym, ap, ◌∙◌}
-use mathlib.Core.Logic.{⊎_elim}
 use mathlib.Core.Bool.{true, false, not}
 use native.Mathlib.Omega.{arith}
 use Rattle.column.specs.Sets.{has}
@@ -10,6 +9,7 @@ use Rattle.bank.specs.Networks.{keeping, elsewhere}
 use Rattle.bank.specs.laws.ListSteps.{keeping_longer, keeping_no, partly_start, partly_read, partly_yes, partly_no}
 use Rattle.bank.specs.inner.NetworkWords.{partly}
 use Rattle.bank.proofs.network.keep.Goals as goal
+use Rattle.bank.proofs.network.keep.Goals.{then-not-member, else-not-member}
 
 pub loop-j-init : goal.loop-j-init
 unfolding keeping
@@ -36,30 +36,30 @@ loop-j-preserved c =
     let dr : get_or c.loop-j.doors j 0 ≡ get_or d j 0 = rw v.7 (partly_read f h d 0 0 j kd) in
     let tested : f (get_or h j 0) ≡ not c.member.result =
     ap f (sym hr) ∙ ap (λ n. not (has a.m n)) (sym c.receiver_in.ensures) ∙ ap not (sym c.member.ensures) in
-    ⊎_elim
-    (λ w.
-    let y : f (get_or h j 0) ≡ true = tested ∙ w.0.taken in (
-      omega arith,
-      omega (arith, w.3),
-      ap length w.1 ∙ length-set c.loop-j.heads c.loop-j.auto _ ∙ v.2,
-      ap length w.2 ∙ length-set c.loop-j.doors c.loop-j.auto _ ∙ v.3,
-      w.3 ∙ ap (λ n. n + 1) v.4 ∙ sym (keeping_longer f h h 0 0 j hl hl y),
-      w.3 ∙ ap (λ n. n + 1) v.5 ∙ sym (keeping_longer f h d 0 0 j hl dl y),
-      w.1 ∙ (λ k. set (v.6 k) (v.4 k) (hr k)) ∙ partly_yes f h h 0 0 j hl hl kh y,
-      w.2 ∙ (λ k. set (v.7 k) (v.5 k) (dr k)) ∙ partly_yes f h d 0 0 j hl dl kd y,
-    ))
-    (λ w.
-    let y : f (get_or h j 0) ≡ false = tested ∙ w.0.left in (
-      omega arith,
-      omega (arith, w.3),
-      ap length w.1 ∙ v.2,
-      ap length w.2 ∙ v.3,
-      w.3 ∙ v.4 ∙ ap length (sym (keeping_no f h h 0 0 j hl hl y)),
-      w.3 ∙ v.5 ∙ ap length (sym (keeping_no f h d 0 0 j hl dl y)),
-      w.1 ∙ v.6 ∙ partly_no f h h 0 0 j hl hl y,
-      w.2 ∙ v.7 ∙ partly_no f h d 0 0 j hl dl y,
-    ))
-    c.if-not-member.branch
+    elim c.if-not-member.branch [
+      | then-not-member w ↦
+          let y : f (get_or h j 0) ≡ true = tested ∙ ap not w.if-not-member.true in (
+            omega arith,
+            omega (arith, w.kept-is),
+            ap length w.heads-is ∙ length-set c.loop-j.heads c.loop-j.kept _ ∙ v.2,
+            ap length w.doors-is ∙ length-set c.loop-j.doors c.loop-j.kept _ ∙ v.3,
+            w.kept-is ∙ ap (λ n. n + 1) v.4 ∙ sym (keeping_longer f h h 0 0 j hl hl y),
+            w.kept-is ∙ ap (λ n. n + 1) v.5 ∙ sym (keeping_longer f h d 0 0 j hl dl y),
+            w.heads-is ∙ (λ k. set (v.6 k) (v.4 k) (hr k)) ∙ partly_yes f h h 0 0 j hl hl kh y,
+            w.doors-is ∙ (λ k. set (v.7 k) (v.5 k) (dr k)) ∙ partly_yes f h d 0 0 j hl dl kd y,
+          )
+      | else-not-member w ↦
+          let y : f (get_or h j 0) ≡ false = tested ∙ ap not w.if-not-member.false in (
+            omega arith,
+            omega (arith, w.kept-is),
+            ap length w.heads-is ∙ v.2,
+            ap length w.doors-is ∙ v.3,
+            w.kept-is ∙ v.4 ∙ ap length (sym (keeping_no f h h 0 0 j hl hl y)),
+            w.kept-is ∙ v.5 ∙ ap length (sym (keeping_no f h d 0 0 j hl dl y)),
+            w.heads-is ∙ v.6 ∙ partly_no f h h 0 0 j hl hl y,
+            w.doors-is ∙ v.7 ∙ partly_no f h d 0 0 j hl dl y,
+          )
+    ]
 
 pub shape_of-heads : goal.shape_of-heads
 shape_of-heads c = c.loop-j.invariant.2

@@ -12,7 +12,7 @@ use Rattle.bank.proofs.network.vanish.Goals.{After-keep-kept}
 
 lengths : (c : After-keep-kept) → let a = c.args in
     (a.count ≤ length a.heads.now) × (a.count ≤ length a.doors.now)
-lengths c = keep-requires c.before c.keep-kept.lifetimes
+lengths c = (omega (arith, c.told-heads), omega (arith, c.told-doors))
 
 few : (c : After-keep-kept) → c.keep-kept.result ≤ c.args.count
 few c =
@@ -30,12 +30,12 @@ same c =
 
 pub clear-requires : goal.clear-requires
 clear-requires c =
-    let e : length c.keep-kept.new.heads ≡ length c.args.heads.now = c.keep-kept.auto.1.1.0 in
+    let e : length c.keep-kept.new.heads ≡ length c.args.heads.now = c.keep-kept.auto.heads in
     (few (goal.at.clear-requires c).After-keep-kept, omega (arith, e, (lengths (goal.at.clear-requires c).After-keep-kept).0))
 
 pub clear-requires-2 : goal.clear-requires-2
 clear-requires-2 c =
-    let e : length c.keep-kept.new.doors ≡ length c.args.doors.now = c.keep-kept.auto.1.1.1.0 in
+    let e : length c.keep-kept.new.doors ≡ length c.args.doors.now = c.keep-kept.auto.doors in
     (few (goal.at.clear-requires-2 c).After-keep-kept, omega (arith, e, (lengths (goal.at.clear-requires-2 c).After-keep-kept).1))
 
 pub returns : goal.returns

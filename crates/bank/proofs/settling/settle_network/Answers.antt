@@ -22,11 +22,5 @@ pub returns-in-Put : goal.returns-in-Put
 returns-in-Put c =
     λ b i n running_is steady aimed.
     let a = c.args in
-    ⊎_elim
-    (λ x.
-    settled_put b i a.heads.now a.doors.now a.o.column a.count n a.o.answer _ (inl (x.1.given.1 ∙ ap core_is.Put (sym x.3))) steady aimed
-    (λ s l. c.deliver.ensures a.o.column b i n running_is s l))
-    (λ x.
-    settled_put b i a.heads.now a.doors.now a.o.column a.count n a.o.answer _ (inr (x.1.given.1 ∙ ap core_is.Left (sym x.3))) steady aimed
-    (λ s l. c.deliver.ensures a.o.column b i n running_is s l))
-    c.in-Put.match-a-branch
+    settled_put b i a.heads.now a.doors.now a.o.column a.count n a.o.answer _ c.in-Put.is steady aimed
+    (λ s l. c.deliver.ensures a.o.column b i n running_is s l)

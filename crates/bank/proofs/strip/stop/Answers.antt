@@ -1,7 +1,6 @@
 use borrow.Author.Rules.{rules}
 use Prim.Native.Nat.{ℕ, ◌≤◌, ◌-◌}
 use mathlib.Core.Path.{◌≡◌, sym, ap, ◌∙◌}
-use mathlib.Core.Logic.{⊎_elim}
 use mathlib.Core.List.{List}
 use native.Mathlib.Omega.{arith}
 use lib.ListN.{get_or, set}
@@ -13,6 +12,7 @@ use Rattle.column.specs.Columns.{stopped}
 use Rattle.bank.specs.laws.strips.Rewriting.{upto, rewrite_start, rewrite_yes, rewrite_no, rewrite_end}
 use Rattle.bank.specs.declared.bank.Bank.{Bank}
 use Rattle.bank.proofs.strip.stop.Goals as goal
+use Rattle.bank.proofs.strip.stop.Goals.{then-member, else-member}
 
 abbrev placed : Bank → List Column → Bank
 placed b l = record { tree = b.tree; columns = l; count = b.count }
@@ -26,15 +26,15 @@ loop-j-preserved c =
     let v = c.loop-j.invariant in
     let j = c.loop-j.j in (
       omega arith,
-      ⊎_elim
-          (λ w.
-          w.3
-          ∙ ap (λ (x : Column). placed c.loop-j.d (set c.loop-j.d.columns j x)) w.2.ensures
-          ∙ ap (λ (x : Bank). placed x (set x.columns j (stopped (get_or x.columns j no_column)))) v.1
-          ∙ ap (placed a.b) (rewrite_yes (has a.m) j stopped a.b.columns (sym c.member.ensures ∙ w.0.taken)))
-          (λ w.
-          w.1 ∙ v.1 ∙ ap (placed a.b) (rewrite_no (has a.m) j stopped a.b.columns (sym c.member.ensures ∙ w.0.left)))
-          c.if-member.branch,
+      elim c.if-member.branch [
+        | then-member w ↦
+            w.d-is
+            ∙ ap (λ (x : Column). placed c.loop-j.d (set c.loop-j.d.columns j x)) w.stopped.ensures
+            ∙ ap (λ (x : Bank). placed x (set x.columns j (stopped (get_or x.columns j no_column)))) v.1
+            ∙ ap (placed a.b) (rewrite_yes (has a.m) j stopped a.b.columns (sym c.member.ensures ∙ w.if-member.true))
+        | else-member w ↦
+            w.d-is ∙ v.1 ∙ ap (placed a.b) (rewrite_no (has a.m) j stopped a.b.columns (sym c.member.ensures ∙ w.if-member.false))
+      ],
     )
 
 pub returns : goal.returns

@@ -2,7 +2,6 @@
 use borrow.Author.Rules.{rules}
 use Prim.Native.Nat.{ℕ, ◌<◌, ◌≤◌, ◌-◌, ◌*◌, ◌^◌}
 use mathlib.Core.Bool.{Bool}
-use mathlib.Core.Logic.{⊎_elim}
 use mathlib.Core.Path.{◌≡◌, refl, sym, ap, ◌∙◌}
 use native.Mathlib.Nat.{mod-eq_of_lt}
 use native.Mathlib.Numerals.{add-one}
@@ -13,6 +12,7 @@ use Rattle.bank.specs.Banks.{column_at}
 use Rattle.bank.specs.inner.Turning.{is_full, is_ready}
 use Rattle.bank.specs.declared.bank.Bank.{Bank}
 use Rattle.bank.proofs.turn.ready_columns.Goals as goal
+use Rattle.bank.proofs.turn.ready_columns.Goals.{then-is_ready, else-is_ready}
 use Rattle.bank.proofs.turn.ready_columns.Invariants.{tests}
 
 pub loop-i-init : goal.loop-i-init
@@ -28,10 +28,10 @@ loop-i-preserved c =
     let one : 1 * 2 ^ i ≡ 2 ^ i = omega arith in
     let small : i < 16 = omega arith in (
       omega arith,
-      ⊎_elim
-          (λ w. w.1 ∙ rw (inv, add-one i, one, mod-eq_of_lt (pow-lt small), told ∙ w.0.taken))
-          (λ w. w.1 ∙ rw (inv, add-one i, told ∙ w.0.left))
-          c.if-is_ready.branch,
+      elim c.if-is_ready.branch [
+        | then-is_ready w ↦ w.set-is ∙ rw (inv, add-one i, one, mod-eq_of_lt (pow-lt small), told ∙ w.if-is_ready.true)
+        | else-is_ready w ↦ w.set-is ∙ rw (inv, add-one i, told ∙ w.if-is_ready.false)
+      ],
     )
 
 pub returns : goal.returns
