@@ -25,27 +25,24 @@ told_seen c =
     let a = c.args in
     passing_tells a.b c.places-seen_places.ensures a.heads.now c.loop-j.invariant (omega arith) c.seen_refusal-tested.ensures
 
-abbrev start : After-seen_refusal-tested → Start
-start c = c.before.before.before.before.before.before.before.before.before
-
 abbrev given : After-seen_refusal-tested → State
-given c = let a = (start c).args in state a.b a.heads.now a.doors.now
+given c = let a = c.args in state a.b a.heads.now a.doors.now
 
 bank_refused : (c : After-seen_refusal-tested) → c.seen_refusal-tested.result ≡ bank_refusal (given c)
-bank_refused c = (told_seen c).0 (start c).args.doors.now
+bank_refused c = (told_seen c).0 c.args.doors.now
 
-sixteen : (c : After-seen_refusal-tested) → c.seen_refusal-tested.result ≡ 0 → (start c).args.b.tree.columns ≤ 16
-sixteen c z = tree_sixteen (start c).args.b.tree (valid (given c) (sym (bank_refused c) ∙ z)).tree
+sixteen : (c : After-seen_refusal-tested) → c.seen_refusal-tested.result ≡ 0 → c.args.b.tree.columns ≤ 16
+sixteen c z = tree_sixteen c.args.b.tree (valid (given c) (sym (bank_refused c) ∙ z)).tree
 
-refusal : (c : After-halt_refusal-n) → c.halt_refusal-n.result ≡ halt_refusal (given c.before) (start c.before).args.m
+refusal : (c : After-halt_refusal-n) → c.halt_refusal-n.result ≡ halt_refusal (given c.before) c.args.m
 refusal c =
     c.halt_refusal-n.ensures
-    ∙ halting_refusal_lem (given c.before) (start c.before).args.m (bank_refused c.before) (λ z. (told_seen c.before).1 (sixteen c.before z))
+    ∙ halting_refusal_lem (given c.before) c.args.m (bank_refused c.before) (λ z. (told_seen c.before).1 (sixteen c.before z))
 
-within : (c : Then-n-eq0) → let a = (start c.before.before).args in (a.m < 2 ^ 16) × (a.b.count ≤ 512)
+within : (c : Then-n-eq0) → let a = c.args in (a.m < 2 ^ 16) × (a.b.count ≤ 512)
 within c =
     let s = given c.before.before in
-    let h = halts s (start c.before.before).args.m (sym (refusal c.before) ∙ c.if-n-eq0.true) in
+    let h = halts s c.args.m (sym (refusal c.before) ∙ c.if-n-eq0.true) in
     (lt_of_lt_of_le h.1 (pow_mono (tree_sixteen s.bank.tree h.0.tree)), h.0.room)
 
 pub loop-j-init : goal.loop-j-init
@@ -66,10 +63,10 @@ stop-d-requires c = (within (goal.at.stop-d-requires c).Then-n-eq0).0
 pub returns-then-n-eq0 : goal.returns-then-n-eq0
 unfolding halted
 returns-then-n-eq0 c =
-    let a = (start (goal.at.returns-then-n-eq0 c).After-seen_refusal-tested).args in
+    let a = c.args in
     ap (λ (x : Bank). accepted (state x c.vanish.new.heads c.vanish.new.doors)) c.stop-d.ensures
     ∙ ap (λ (x : State). accepted (state (with_stopped x.bank (has a.m)) x.heads x.doors)) (c.vanish.ensures a.b)
     ∙ unless_goes (given (goal.at.returns-then-n-eq0 c).After-seen_refusal-tested) _ _ _ (refusal (goal.at.returns-then-n-eq0 c).After-halt_refusal-n) c.if-n-eq0.true
 
 pub returns-else-n-eq0 : goal.returns-else-n-eq0
-returns-else-n-eq0 c = unless_refused (given (goal.at.returns-else-n-eq0 c).After-seen_refusal-tested) _ _ _ (record { bank = (start (goal.at.returns-else-n-eq0 c).After-seen_refusal-tested).args.b; answer = Refused c.halt_refusal-n.result }) (refusal (goal.at.returns-else-n-eq0 c).After-halt_refusal-n) c.if-n-eq0.false refl
+returns-else-n-eq0 c = unless_refused (given (goal.at.returns-else-n-eq0 c).After-seen_refusal-tested) _ _ _ (record { bank = c.args.b; answer = Refused c.halt_refusal-n.result }) (refusal (goal.at.returns-else-n-eq0 c).After-halt_refusal-n) c.if-n-eq0.false refl

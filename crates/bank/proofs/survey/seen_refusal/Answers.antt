@@ -45,7 +45,7 @@ columns_tell : (c : After-within) (columns : List Column) → let s = start c.be
     let v = s.args.v in
     Sees s columns → Goal s columns
     → (c.within.result && (v.sent && (not (has v.own 32) && s.args.whole))) ≡ columns_valid (given s columns)
-columns_tell c columns so goal =
+columns_tell c columns so goes =
     let s = start c.before.before.before in
     let root = s.args.t.root in
     let n = s.args.t.columns in
@@ -54,18 +54,18 @@ columns_tell c columns so goal =
     let past : leb n root ≡ false = lt-leb n root (low c.before.before.before).1 in
     ap (λ (x : Bool). x && (v.sent && (not (has v.own 32) && s.args.whole)))
     (c.within.ensures ∙ ap (λ (x : ℕ). within x n) c.members_in.ensures)
-    ∙ ap (λ (x : Bool). tells v n x) (goal (low c.before.before.before).0 ∙ sym (ap (λ (x : Bool). x || goal_is) past))
+    ∙ ap (λ (x : Bool). tells v n x) (goes (low c.before.before.before).0 ∙ sym (ap (λ (x : Bool). x || goal_is) past))
     ∙ (so (sixteen c.before.before.before)).valid_so
 
 columns_are : (c : Else-not-within-v) (columns : List Column) → let s = start c.before.before.before.before.before in
     Sees s columns → Goal s columns → columns_valid (given s columns) ≡ true
-columns_are c columns so goal = sym (columns_tell c.before.before columns so goal) ∙ not-false _ c.if-not-within-v.false-raw
+columns_are c columns so goes = sym (columns_tell c.before.before columns so goes) ∙ not-false _ c.if-not-within-v.false-raw
 
 -- what the heads say of the packets is what is left to test
 past_count : (c : After-heads_valid) (columns : List Column) (doors : List ℕ) → let s = start c.before.before.before.before.before.before.before in
     Sees s columns → Goal s columns → bank_refusal (state (given s columns) s.args.heads.now doors) ≡ first ((4, not c.heads_valid.result) ∷ [])
 unfolding bank_refusal
-past_count c columns doors so goal =
+past_count c columns doors so goes =
     let s = start c.before.before.before.before.before.before.before in
     let a = s.args in
     let b = given s columns in
@@ -73,31 +73,31 @@ past_count c columns doors so goal =
     c.heads_valid.ensures
     ∙ ap (λ (m : ℕ). every (λ (k : ℕ). head_valid a.t.columns a.t.root a.t.watch m (get_or a.heads.now k 0)) a.count) (so (sixteen c.before.before.before.before.before.before.before)).running_so
     ∙ heads_valid b a.heads.now doors in
-    rw (eq-eqb (tree_refusal a.t) 0 (tree_is c.before.before.before.before.before.before.before), columns_are c.before.before columns so goal, le-ltb capacity a.count c.if-count-gt-CAPACITY.false, sym packets)
+    rw (eq-eqb (tree_refusal a.t) 0 (tree_is c.before.before.before.before.before.before.before), columns_are c.before.before columns so goes, le-ltb capacity a.count c.if-count-gt-CAPACITY.false, sym packets)
 
 pub returns-then-n-ne0 : goal.returns-then-n-ne0
 unfolding bank_refusal
 returns-then-n-ne0 c =
     let e = c.tree_refusal-n.ensures in
-    λ columns so goal doors. rw (ne_eqb (tree_refusal c.args.t) 0 (λ z. c.if-n-ne0.true (e ∙ z))) e
+    λ columns so goes doors. rw (ne_eqb (tree_refusal c.args.t) 0 (λ z. c.if-n-ne0.true (e ∙ z))) e
 
 pub returns-then-not-within-v : goal.returns-then-not-within-v
 unfolding bank_refusal
 returns-then-not-within-v c =
-    λ columns so goal doors.
-    rw (eq-eqb (tree_refusal (start (goal.at.returns-then-not-within-v c).Else-n-ne0).args.t) 0 (tree_is (goal.at.returns-then-not-within-v c).Else-n-ne0), sym (columns_tell (goal.at.returns-then-not-within-v c).After-within columns so goal) ∙ not-true _ c.if-not-within-v.true-raw)
+    λ columns so goes doors.
+    rw (eq-eqb (tree_refusal (start (goal.at.returns-then-not-within-v c).Else-n-ne0).args.t) 0 (tree_is (goal.at.returns-then-not-within-v c).Else-n-ne0), sym (columns_tell (goal.at.returns-then-not-within-v c).After-within columns so goes) ∙ not-true _ c.if-not-within-v.true-raw)
 
 pub returns-then-count-gt-CAPACITY : goal.returns-then-count-gt-CAPACITY
 unfolding bank_refusal
 returns-then-count-gt-CAPACITY c =
     let a = (start (goal.at.returns-then-count-gt-CAPACITY c).Else-n-ne0).args in
-    λ columns so goal doors. rw (eq-eqb (tree_refusal a.t) 0 (tree_is (goal.at.returns-then-count-gt-CAPACITY c).Else-n-ne0), columns_are (goal.at.returns-then-count-gt-CAPACITY c).Else-not-within-v columns so goal, lt-ltb capacity a.count c.if-count-gt-CAPACITY.true)
+    λ columns so goes doors. rw (eq-eqb (tree_refusal a.t) 0 (tree_is (goal.at.returns-then-count-gt-CAPACITY c).Else-n-ne0), columns_are (goal.at.returns-then-count-gt-CAPACITY c).Else-not-within-v columns so goes, lt-ltb capacity a.count c.if-count-gt-CAPACITY.true)
 
 pub heads_valid-requires : goal.heads_valid-requires
 heads_valid-requires c = (sixteen (goal.at.heads_valid-requires c).Else-n-ne0, ((low (goal.at.heads_valid-requires c).Else-n-ne0).0, c.if-count-gt-CAPACITY.false))
 
 pub returns-then-not-heads_valid : goal.returns-then-not-heads_valid
-returns-then-not-heads_valid c = λ columns so goal doors. rw (past_count (goal.at.returns-then-not-heads_valid c).After-heads_valid columns doors so goal, c.if-not-heads_valid.true-raw)
+returns-then-not-heads_valid c = λ columns so goes doors. rw (past_count (goal.at.returns-then-not-heads_valid c).After-heads_valid columns doors so goes, c.if-not-heads_valid.true-raw)
 
 pub returns : goal.returns
-returns c = λ columns so goal doors. rw (past_count (goal.at.returns c).After-heads_valid columns doors so goal, c.if-not-heads_valid.false-raw)
+returns c = λ columns so goes doors. rw (past_count (goal.at.returns c).After-heads_valid columns doors so goes, c.if-not-heads_valid.false-raw)

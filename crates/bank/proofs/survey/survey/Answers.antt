@@ -13,10 +13,10 @@ use Rattle.bank.proofs.survey.survey.Goals.{After-seen_refusal-refusal}
 
 -- what is known once all columns are seen
 told_seen : (c : After-seen_refusal-refusal) → let a = c.args in
-    RefusesBank c.seen_refusal-refusal.result a.t a.heads.now × (a.t.tree.columns ≤ 16 → c.loop-j.v.running ≡ running_of a.t)
+    RefusesBank c.seen_refusal-refusal.result a.b a.heads.now × (a.b.tree.columns ≤ 16 → c.loop-j.v.running ≡ running_of a.b)
 told_seen c =
     let a = c.args in
-    passing_tells a.t c.places-n.ensures a.heads.now c.loop-j.invariant (omega arith) c.seen_refusal-refusal.ensures
+    passing_tells a.b c.places-n.ensures a.heads.now c.loop-j.invariant (omega arith) c.seen_refusal-refusal.ensures
 
 pub loop-j-init : goal.loop-j-init
 loop-j-init c = passing_start c.args.b c.places-n.ensures c.unseen-v.ensures
@@ -30,5 +30,5 @@ returns c =
     let t = told_seen (goal.at.returns c).After-seen_refusal-refusal in
     record {
       refuses = t.0;
-      running_is = λ z. t.1 (tree_sixteen a.t.tree (valid (state a.t a.heads.now []) (sym (t.0 []) ∙ z)).tree);
+      running_is = λ z. t.1 (tree_sixteen a.b.tree (valid (state a.b a.heads.now []) (sym (t.0 []) ∙ z)).tree);
     }
