@@ -24,7 +24,7 @@ use Rattle.bank.specs.Banks.{State, state, column_at, runs, halted_of, packet_at
 use Rattle.bank.specs.laws.ValidityLaws.{Valid, acting_passes}
 use Rattle.bank.specs.Networks.{with_packet, put, puts, removed}
 use Rattle.bank.specs.inner.NetworkWords.{Appended, ClosedUp}
-use Rattle.bank.specs.Steps.{Result, accepted, refused, answered, outcome_meant, unless, with_column, fitting, settled, acted, note_refusal, noted, delivered}
+use Rattle.bank.specs.Steps.{Result, accepted, refused, answered, outcome_meant, with_column, fitting, settled, acted, noted, delivered}
 use Rattle.bank.specs.Performs.{perform}
 use Rattle.bank.specs.laws.StepLaws.{fits, put_halted, put_running, put_full, put_count, settled_off, acted_refused, acted_settled}
 use Rattle.bank.specs.inner.Changes.{takes_off, Steady, Aimed, Becomes, stored, changed, change_by, RunningIs, core_step, is_refusal}

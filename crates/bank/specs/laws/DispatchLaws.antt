@@ -28,7 +28,7 @@ use Rattle.bank.specs.StepKinds.{is_take}
 use Rattle.bank.specs.inner.Moves.{place_in}
 use Rattle.bank.specs.laws.Kinds.{take_is}
 use Rattle.bank.specs.declared.bank.Step.{Step}
-use Rattle.bank.specs.declared.bank.Step.TheVariants.{Order, Send, Take, Ack, All, Note, Halt, Back, Write}
+use Rattle.bank.specs.declared.bank.Step.TheVariants.{Send, Take, Ack, All, Note}
 
 -- ---- a turn that is refused
 

@@ -23,7 +23,7 @@ use Rattle.bank.specs.Banks.{State, state, column_at, runs, packet_at, capacity,
 use Rattle.bank.specs.Networks.{put, puts, removed}
 use Rattle.bank.specs.laws.ValidityLaws.{Valid, valid, acting}
 use Rattle.bank.specs.laws.StepLaws.{fits, put_halted, put_running, put_full, put_count, takes}
-use Rattle.bank.specs.Steps.{Result, accepted, refused, after, unless, with_column, fitting, settled, acted, noted, note_refusal, take_refusal, delivered, halted, halt_conditions, halt_refusal, halt}
+use Rattle.bank.specs.Steps.{Result, accepted, refused, after, unless, with_column, fitting, settled, acted, take_refusal, delivered, halted, halt_conditions, halt_refusal, halt}
 use Rattle.bank.specs.Returns.{back_conditions, back_refusal, returned, back}
 use Rattle.bank.specs.Pages.{write_refusal, write}
 use Rattle.bank.specs.Performs.{perform}

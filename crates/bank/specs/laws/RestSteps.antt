@@ -12,7 +12,7 @@ use Rattle.column.specs.Columns.{validity_refusal}
 use Rattle.column.specs.Steps as core
 use Rattle.column.specs.declared.state.Column.{Column}
 use Rattle.bank.specs.Banks.{State, column_at, runs, capacity, bank_refusal}
-use Rattle.bank.specs.Steps.{accepted, refused, after, send, ack, all, note, note_refusal}
+use Rattle.bank.specs.Steps.{accepted, refused, after, send, ack, all, note}
 use Rattle.bank.specs.Performs.{perform}
 use Rattle.bank.specs.Exact.{own_refusal, raised, overfull, refusal_of}
 use Rattle.bank.specs.laws.ExactLaws.{exact}

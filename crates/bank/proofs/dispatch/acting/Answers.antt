@@ -1,4 +1,3 @@
-use borrow.Author.Rules.{rules}
 use Rattle.bank.proofs.dispatch.acting.Goals as goal
 
 pub returns-in-Take : goal.returns-in-Take

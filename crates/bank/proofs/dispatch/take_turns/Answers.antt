@@ -1,11 +1,11 @@
 -- The steps so far and those of a dispatch from here are those of the whole; the bank is valid, who runs stays, and the set is of all that are ready.
 use borrow.Author.Rules.{rules}
-use Prim.Native.Nat.{ℕ, ◌+◌, ◌-◌, ◌≤◌, ◌<◌}
+use Prim.Native.Nat.{ℕ, ◌+◌, ◌≤◌, ◌<◌}
 use native.Mathlib.Omega.{arith}
 use mathlib.Core.Path.{◌≡◌, refl, sym, ap, subst, ◌∙◌}
 use mathlib.Core.Bool.{Bool, true, false, not, ◌&&◌, ◌||◌, true≢false}
 use lib.Dec.{eqb, ltb}
-use borrow.Author.Tests.{eq-eqb, eqb-true, eqb-false, ltb-true, not-true, not-false}
+use borrow.Author.Tests.{eq-eqb, eqb-true, eqb-false, ltb-true}
 use Rattle.column.specs.laws.Cases.{and_left, and_right}
 use Rattle.column.specs.Sets.{minus, whole}
 use Rattle.column.specs.laws.TreeLaws.{tree_sixteen}

@@ -1,4 +1,3 @@
-use borrow.Author.Rules.{rules}
 use Rattle.bank.proofs.kind.is_take.Goals as goal
 
 pub returns : goal.returns

@@ -1,4 +1,3 @@
-use borrow.Author.Rules.{rules}
 use mathlib.Core.Path.{ap}
 use lib.ListN.{set}
 use Rattle.bank.proofs.network.append.Goals as goal

@@ -1,8 +1,6 @@
-use borrow.Author.Rules.{rules}
-use Prim.Native.Nat.{◌-◌, ◌≤◌}
-use mathlib.Core.Path.{◌≡◌, refl, ap, ◌∙◌}
+use mathlib.Core.Path.{refl, ap, ◌∙◌}
 use native.Mathlib.Omega.{arith}
-use lib.ListN.{length, take, length-take, length-set}
+use lib.ListN.{take, length-take, length-set}
 use Rattle.bank.specs.Networks.{padded}
 use Rattle.bank.specs.laws.ListSteps.{padded_none, padded_step}
 use Rattle.bank.proofs.network.clear.Goals as goal

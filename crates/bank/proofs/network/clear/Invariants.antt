@@ -1,10 +1,7 @@
-use borrow.Author.Rules.{rules}
 use Prim.Native.Nat.{◌-◌, ◌≤◌}
-use mathlib.Core.Path.{◌≡◌, refl, ap, ◌∙◌}
-use native.Mathlib.Omega.{arith}
-use lib.ListN.{length, take, length-take, length-set}
+use mathlib.Core.Path.{◌≡◌}
+use lib.ListN.{length, take}
 use Rattle.bank.specs.Networks.{padded}
-use Rattle.bank.specs.laws.ListSteps.{padded_none, padded_step}
 use Rattle.bank.proofs.network.clear.Given as goal
 
 abbrev pub invariant-loop-j : goal.invariant-loop-j

@@ -1,9 +1,7 @@
-use borrow.Author.Rules.{rules}
-use Prim.Native.Nat.{◌+◌, ◌-◌, ◌≤◌, ◌<◌}
-use mathlib.Core.Path.{◌≡◌, refl, sym, ap, ap₂, ◌∙◌}
-use native.Mathlib.Omega.{arith}
-use lib.ListN.{length, set, length-set}
-use Rattle.bank.specs.laws.ListSteps.{shifted, shifted_start, shifted_step, shifted_end}
+use Prim.Native.Nat.{◌-◌, ◌≤◌, ◌<◌}
+use mathlib.Core.Path.{◌≡◌}
+use lib.ListN.{length}
+use Rattle.bank.specs.laws.ListSteps.{shifted}
 use Rattle.bank.proofs.network.close_up.Given as goal
 
 abbrev pub invariant-loop-j : goal.invariant-loop-j

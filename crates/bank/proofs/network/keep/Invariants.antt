@@ -1,13 +1,8 @@
-use borrow.Author.Rules.{rules}
-use Prim.Native.Nat.{◌+◌, ◌-◌, ◌≤◌, ◌<◌}
-use mathlib.Core.Path.{◌≡◌, refl, sym, ap, ◌∙◌}
-use mathlib.Core.Logic.{⊎_elim}
-use mathlib.Core.Bool.{true, false, not}
-use native.Mathlib.Omega.{arith}
+use Prim.Native.Nat.{◌-◌, ◌≤◌}
+use mathlib.Core.Path.{◌≡◌}
 use Rattle.column.specs.Sets.{has}
-use lib.ListN.{length, set, take, get_or, length-set}
+use lib.ListN.{length, take}
 use Rattle.bank.specs.Networks.{keeping, elsewhere}
-use Rattle.bank.specs.laws.ListSteps.{keeping_longer, keeping_no, partly_start, partly_read, partly_yes, partly_no}
 use Rattle.bank.specs.inner.NetworkWords.{partly}
 use Rattle.bank.proofs.network.keep.Given as goal
 

@@ -1,6 +1,4 @@
 -- The columns below i have j no longer noted.
-use borrow.Author.Rules.{rules}
-use Prim.Native.Nat.{ℕ, ◌≤◌, ◌-◌}
 use mathlib.Core.Path.{◌≡◌, refl, sym, ap, ◌∙◌}
 use mathlib.Core.Bool.{true}
 use mathlib.Core.List.{List}
@@ -9,8 +7,7 @@ use lib.ListN.{get_or, set}
 use Rattle.column.specs.Returns.{struck}
 use Rattle.column.specs.declared.state.Column.{Column}
 use Rattle.bank.specs.Banks.{no_column}
-use Rattle.bank.specs.Steps.{with_rewritten}
-use Rattle.bank.specs.laws.strips.Rewriting.{upto, rewrite_start, rewrite_yes}
+use Rattle.bank.specs.laws.strips.Rewriting.{rewrite_start, rewrite_yes}
 use Rattle.bank.specs.declared.bank.Bank.{Bank}
 use Rattle.bank.proofs.returning.strike_noted.Goals as goal
 use Rattle.bank.proofs.returning.strike_noted.Invariants.{struck_below}

@@ -1,16 +1,10 @@
 -- The columns below i have j no longer noted.
-use borrow.Author.Rules.{rules}
 use Prim.Native.Nat.{ℕ, ◌≤◌, ◌-◌}
-use mathlib.Core.Path.{◌≡◌, refl, sym, ap, ◌∙◌}
+use mathlib.Core.Path.{◌≡◌}
 use mathlib.Core.Bool.{true}
-use mathlib.Core.List.{List}
-use native.Mathlib.Omega.{arith}
-use lib.ListN.{get_or, set}
 use Rattle.column.specs.Returns.{struck}
-use Rattle.column.specs.declared.state.Column.{Column}
-use Rattle.bank.specs.Banks.{no_column}
 use Rattle.bank.specs.Steps.{with_rewritten}
-use Rattle.bank.specs.laws.strips.Rewriting.{upto, rewrite_start, rewrite_yes}
+use Rattle.bank.specs.laws.strips.Rewriting.{upto}
 use Rattle.bank.specs.declared.bank.Bank.{Bank}
 use Rattle.bank.proofs.returning.strike_noted.Given as goal
 

@@ -1,9 +1,5 @@
-use borrow.Author.Rules.{rules}
-use mathlib.Core.Path.{sym, ap, ◌∙◌}
-use mathlib.Core.Logic.{⊎_elim, inl, inr}
 use Rattle.bank.specs.laws.SettledLaws.{comes}
 use Rattle.bank.specs.laws.ChangeLaws.{settled_none, refused_at, settled_put}
-use Rattle.column.specs.declared.outcome.Answer.TheVariants as core_is
 use Rattle.bank.proofs.settling.settle_network.Goals as goal
 
 pub returns-in-Done : goal.returns-in-Done

@@ -2,10 +2,9 @@ use borrow.Author.Rules.{rules}
 use borrow.Author.Tests.{not-true, not-false}
 use mathlib.Core.Path.{◌≡◌, refl, sym, ap, ◌∙◌}
 use native.Mathlib.Omega.{arith}
-use Prim.Native.Nat.{ℕ, ◌<◌, ◌≤◌, ◌-◌}
+use Prim.Native.Nat.{ℕ, ◌<◌, ◌≤◌}
 use Rattle.column.specs.laws.TreeLaws.{tree_sixteen}
 use Rattle.bank.specs.Banks.{State, state, running_of, RefusesBank}
-use Rattle.bank.specs.inner.Surveys.{Passing}
 use Rattle.bank.specs.laws.ValidityLaws.{valid_passes}
 use Rattle.bank.specs.laws.SurveyLaws.{passing_start, passing_on, passing_tells}
 use Rattle.bank.specs.inner.Changes.{changed}

@@ -1,4 +1,3 @@
-use borrow.Author.Rules.{rules}
 use mathlib.Core.Path.{◌∙◌}
 use Rattle.column.specs.laws.UncheckedLaws.{order_unchecked_lem, send_unchecked_lem, ack_unchecked_lem, all_unchecked_lem}
 use Rattle.bank.proofs.step.core_step.Goals as goal

@@ -1,5 +1,4 @@
-use borrow.Author.Rules.{rules}
-use Prim.Native.Nat.{◌≤◌, ◌<◌, ◌-◌, ◌^◌}
+use Prim.Native.Nat.{◌≤◌, ◌<◌, ◌^◌}
 use mathlib.Core.Path.{◌≡◌, refl, sym, ap, ◌∙◌}
 use native.Mathlib.Nat.{lt_of_lt_of_le}
 use native.Mathlib.Omega.{arith}
@@ -7,7 +6,6 @@ use lib.Pow.{pow_mono}
 use Rattle.column.specs.Sets.{has}
 use Rattle.column.specs.laws.TreeLaws.{tree_sixteen}
 use Rattle.bank.specs.Banks.{State, state, running_of, bank_refusal, RefusesBank}
-use Rattle.bank.specs.inner.Surveys.{Passing}
 use Rattle.bank.specs.laws.ValidityLaws.{valid}
 use Rattle.bank.specs.laws.SurveyLaws.{passing_start, passing_on, passing_tells}
 use Rattle.bank.specs.laws.StepLaws.{unless_refused, unless_goes, halting_refusal_lem}

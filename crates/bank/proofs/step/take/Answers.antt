@@ -1,4 +1,3 @@
-use borrow.Author.Rules.{rules}
 use Rattle.bank.specs.Banks.{state}
 use Rattle.bank.specs.laws.MoveLaws.{taker}
 use Rattle.bank.specs.Performs.{perform}

@@ -1,4 +1,3 @@
-use borrow.Author.Rules.{rules}
 use Rattle.bank.proofs.step.write.Goals as goal
 
 pub returns : goal.returns

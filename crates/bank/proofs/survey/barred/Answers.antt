@@ -1,4 +1,3 @@
-use borrow.Author.Rules.{rules}
 use Rattle.bank.specs.inner.Surveys.{barred_of}
 use Rattle.bank.proofs.survey.barred.Goals as goal
 

@@ -1,16 +1,14 @@
 -- The packets before place k have valid ends, and whether they are valid is whether their receivers, gathered, run.
-use Prim.Native.Nat.{ℕ, ◌<◌, ◌≤◌, ◌-◌, ◌*◌, ◌/◌, ◌%◌, ◌^◌}
+use Prim.Native.Nat.{ℕ, ◌<◌, ◌*◌, ◌/◌, ◌%◌, ◌^◌}
 use mathlib.Core.Bool.{Bool, ◌&&◌}
 use mathlib.Core.Path.{◌≡◌, sym, ap, ◌∙◌}
 use native.Mathlib.Nat.{mod-eq_of_lt}
 use native.Mathlib.Numerals.{add-one}
 use native.Mathlib.Omega.{arith}
-use lib.Dec.{eqb}
 use lib.ListN.{get_or}
 use lib.Pow.{pow-lt, pow_pos}
-use borrow.Author.Rules.{rules}
 use borrow.Author.Tests.{not-true, not-false}
-use Rattle.column.specs.Sets.{has, join}
+use Rattle.column.specs.Sets.{has}
 use Rattle.column.specs.laws.SetLaws.{insert_lt}
 use Rattle.column.specs.Trees.{every}
 use Rattle.column.specs.laws.TreeLaws.{every_fails}

@@ -1,4 +1,3 @@
-use borrow.Author.Rules.{rules}
 use borrow.Author.Tests.{eq-eqb, ne_eqb, not-true}
 use mathlib.Core.Bool.{or-true}
 use lib.Dec.{eqb}

@@ -1,4 +1,3 @@
-use borrow.Author.Rules.{rules}
 use Rattle.bank.proofs.turn.can_take_over.Goals as goal
 
 pub returns : goal.returns

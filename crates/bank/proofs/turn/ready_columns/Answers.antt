@@ -1,16 +1,11 @@
 -- The set so far is that of the columns below i that can do anything.
-use borrow.Author.Rules.{rules}
-use Prim.Native.Nat.{ℕ, ◌<◌, ◌≤◌, ◌-◌, ◌*◌, ◌^◌}
-use mathlib.Core.Bool.{Bool}
+use Prim.Native.Nat.{ℕ, ◌<◌, ◌*◌, ◌^◌}
 use mathlib.Core.Path.{◌≡◌, refl, sym, ap, ◌∙◌}
 use native.Mathlib.Nat.{mod-eq_of_lt}
 use native.Mathlib.Numerals.{add-one}
 use native.Mathlib.Omega.{arith}
 use lib.Pow.{pow-lt}
 use Rattle.column.specs.Sets.{selected}
-use Rattle.bank.specs.Banks.{column_at}
-use Rattle.bank.specs.inner.Turning.{is_full, is_ready}
-use Rattle.bank.specs.declared.bank.Bank.{Bank}
 use Rattle.bank.proofs.turn.ready_columns.Goals as goal
 use Rattle.bank.proofs.turn.ready_columns.Goals.{then-is_ready, else-is_ready}
 use Rattle.bank.proofs.turn.ready_columns.Invariants.{tests}

@@ -1,13 +1,7 @@
 -- The set so far is that of the columns below i that can do anything.
-use borrow.Author.Rules.{rules}
-use Prim.Native.Nat.{ℕ, ◌<◌, ◌≤◌, ◌-◌, ◌*◌, ◌^◌}
+use Prim.Native.Nat.{ℕ, ◌≤◌, ◌-◌}
 use mathlib.Core.Bool.{Bool}
-use mathlib.Core.Logic.{⊎_elim}
-use mathlib.Core.Path.{◌≡◌, refl, sym, ap, ◌∙◌}
-use native.Mathlib.Nat.{mod-eq_of_lt}
-use native.Mathlib.Numerals.{add-one}
-use native.Mathlib.Omega.{arith}
-use lib.Pow.{pow-lt}
+use mathlib.Core.Path.{◌≡◌}
 use Rattle.column.specs.Sets.{selected}
 use Rattle.bank.specs.Banks.{column_at}
 use Rattle.bank.specs.inner.Turning.{is_full, is_ready}

@@ -1,4 +1,3 @@
-use borrow.Author.Rules.{rules}
 use mathlib.Core.Path.{refl}
 use Rattle.bank.proofs.unchecked_for_script.test_bank.Goals as goal
 

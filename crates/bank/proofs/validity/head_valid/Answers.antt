@@ -1,4 +1,3 @@
-use borrow.Author.Rules.{rules}
 use mathlib.Core.Path.{sym}
 use Rattle.bank.specs.laws.HeadLaws.{head_ends}
 use Rattle.bank.proofs.validity.head_valid.Goals as goal

@@ -1,4 +1,3 @@
-use borrow.Author.Rules.{rules}
 use borrow.Author.Tests.{lt-ltb, le-ltb}
 use Rattle.bank.specs.Words.{packet_of}
 use Rattle.bank.proofs.words.packet.Goals as goal

@@ -22,7 +22,7 @@ use Rattle.column.specs.declared.state.Column.{Column}
 use Rattle.column.specs.declared.packet.Packet.TheVariants.{Message}
 use Rattle.bank.specs.Banks.{State, column_at, runs, halted_of, capacity}
 use Rattle.bank.specs.laws.ValidityLaws.{Valid, valid_passes}
-use Rattle.bank.specs.Steps.{accepted, send, ack, all, note}
+use Rattle.bank.specs.Steps.{send, ack, all, note}
 use Rattle.bank.specs.Performs.{perform}
 use Rattle.bank.specs.Rest.{is_refused}
 use Rattle.bank.specs.laws.RestSteps.{refuses, refused_exactly, then_refuses}

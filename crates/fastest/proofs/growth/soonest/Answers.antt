@@ -1,7 +1,5 @@
 -- The best so far is the first of those that send next.
-use borrow.Author.Rules.{rules}
-use Prim.Native.Nat.{◌≤◌, ◌<◌, ◌-◌}
-use mathlib.Core.Path.{◌≡◌, refl, sym, ap, ◌∙◌}
+use mathlib.Core.Path.{refl, sym, ap, ◌∙◌}
 use native.Mathlib.Numerals.{add-one}
 use native.Mathlib.Omega.{arith}
 use borrow.Author.Tests.{lt-ltb, le-ltb}
@@ -24,11 +22,11 @@ loop-i-preserved c =
       omega arith,
       elim c.if-next-i.branch [ then-next-i w ↦ omega (arith, w.best-is) | else-next-i w ↦ omega (arith, w.best-is) ],
       elim c.if-next-i.branch [
-          then-next-i w ↦
+        | then-next-i w ↦
             w.best-is ∙ sym (rw (add-one i) (rw (← inv) (rw (lt-ltb (get_or next i 0) (get_or next best 0) w.if-next-i.true))))
         | else-next-i w ↦
             w.best-is ∙ sym (rw (add-one i) (rw (← inv) (rw (le-ltb (get_or next i 0) (get_or next best 0) w.if-next-i.false))))
-        ],
+      ],
     )
 
 pub returns : goal.returns

@@ -1,8 +1,7 @@
-use borrow.Author.Rules.{rules}
 use mathlib.Core.Path.{◌≡◌, ap}
 use native.Mathlib.Omega.{arith}
 use lib.ListN.{get_or}
-use Rattle.fastest.specs.Strategy.{soonest, turn, with_column}
+use Rattle.fastest.specs.Strategy.{turn, with_column}
 use Rattle.fastest.proofs.growth.with_column.Goals as goal
 use Rattle.fastest.proofs.growth.with_column.Goals.{After-time-1}
 

@@ -1,4 +1,3 @@
-use borrow.Author.Rules.{rules}
 use Rattle.column.specs.laws.RefusalLaws.{in_turn}
 use Rattle.fastest.specs.Strategy.{fastest_conditions, fastest_refusal}
 use Rattle.fastest.proofs.strategy.fastest_refusal.Goals as goal
