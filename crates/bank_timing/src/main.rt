@@ -6,11 +6,12 @@
 mod bank_laps;
 
 use laps_timing::number;
-use libc::{STDIN_FILENO, STDOUT_FILENO};
+use std::io;
+use streams::read_full;
 
-fn main() {
+fn main(rt: HostRuntime) -> io::Result<()> {
     let mut input = [0u8; 32];
-    io::read_full(STDIN_FILENO, &mut input);
+    let _ = read_full(&mut rt.stdin(), &mut input);
     // A space, and so 0: what is in the input no compiler knows.
     let read = input[1] % 8;
     let sum = bank_laps::run(
@@ -20,6 +21,5 @@ fn main() {
         number(&input[5..8]),
         number(&input[9..]),
     );
-    io::print_decimal(STDOUT_FILENO, sum);
-    io::write_all(STDOUT_FILENO, b"\n");
+    println!(rt; "{sum}")
 }

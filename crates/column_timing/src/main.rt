@@ -6,11 +6,12 @@ mod column_laps;
 mod frame_laps;
 
 use laps_timing::number;
-use libc::{STDIN_FILENO, STDOUT_FILENO};
+use std::io;
+use streams::read_full;
 
-fn main() {
+fn main(rt: HostRuntime) -> io::Result<()> {
     let mut input = [0u8; 32];
-    io::read_full(STDIN_FILENO, &mut input);
+    let _ = read_full(&mut rt.stdin(), &mut input);
     let letter = input[0];
     let laps = number(&input[2..]);
     // A space, and so 0: what is in the input no compiler knows.
@@ -19,6 +20,5 @@ fn main() {
         b'f' => frame_laps::run(laps),
         _ => column_laps::run(letter, read, laps),
     };
-    io::print_decimal(STDOUT_FILENO, sum);
-    io::write_all(STDOUT_FILENO, b"\n");
+    println!(rt; "{sum}")
 }

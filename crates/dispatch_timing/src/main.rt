@@ -8,7 +8,8 @@ mod dispatch_laps;
 ghost use Rattle.std.specs.Prelude.{◌≤◌, ◌<◌};
 
 use laps_timing::number;
-use libc::{STDIN_FILENO, STDOUT_FILENO};
+use std::io;
+use streams::read_full;
 
 fn columns_of(n: u64) -> usize
     ensures { (0 < result) × (result ≤ 16) }
@@ -22,13 +23,12 @@ fn columns_of(n: u64) -> usize
     n as usize
 }
 
-fn main() {
+fn main(rt: HostRuntime) -> io::Result<()> {
     let mut input = [0u8; 32];
-    io::read_full(STDIN_FILENO, &mut input);
+    let _ = read_full(&mut rt.stdin(), &mut input);
     // A space, and so 0: what is in the input no compiler knows.
     let read = input[1] % 8;
     let columns = columns_of(number(&input[2..4]));
     let sum = dispatch_laps::run(input[0], read, columns, number(&input[5..]));
-    io::print_decimal(STDOUT_FILENO, sum);
-    io::write_all(STDOUT_FILENO, b"\n");
+    println!(rt; "{sum}")
 }

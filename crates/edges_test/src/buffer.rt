@@ -1,5 +1,6 @@
 // A lent buffer after a call.
 use crate::print::{print, print_number, print_text};
+use std::io;
 
 // What the buffer holds before a call; no text that is written has this byte.
 pub const FILLED: u8 = 170;
@@ -18,25 +19,26 @@ fn changed(bytes: &[u8]) -> usize {
 }
 
 // The text that was written from `at` on, and how much else was.
-pub fn print_written(buffer: &[u8], at: usize, n: usize) {
+pub fn print_written(out: io::Stdout, buffer: &[u8], at: usize, n: usize) -> io::Result<()> {
     if buffer.len() < at {
-        return;
+        return Ok(());
     }
     if buffer.len() - at < n {
-        return;
+        return Ok(());
     }
     let end = at + n;
-    print_number(b"length ", n as u64);
-    print_number(b", changed before ", changed(&buffer[0..at]) as u64);
-    print_number(b" and after ", changed(&buffer[end..]) as u64);
+    print_number(out, b"length ", n as u64)?;
+    print_number(out, b", changed before ", changed(&buffer[0..at]) as u64)?;
+    print_number(out, b" and after ", changed(&buffer[end..]) as u64)?;
     if 0 < n {
-        print(b", ");
-        print_text(&buffer[at..end]);
+        print(out, b", ")?;
+        print_text(out, &buffer[at..end])?;
     }
+    Ok(())
 }
 
 // The number by which a call was refused, and how much it wrote.
-pub fn print_refused(number: u8, buffer: &[u8]) {
-    print_number(b"refused ", number as u64);
-    print_number(b", changed ", changed(buffer) as u64);
+pub fn print_refused(out: io::Stdout, number: u8, buffer: &[u8]) -> io::Result<()> {
+    print_number(out, b"refused ", number as u64)?;
+    print_number(out, b", changed ", changed(buffer) as u64)
 }

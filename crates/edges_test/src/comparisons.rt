@@ -2,56 +2,65 @@
 use crate::buffer::{FILLED, print_refused, print_written};
 use crate::print::{print, print_number, print_text};
 use journals::comparison::{Compared, compare};
+use std::io;
 
 // More than what is missing takes.
 const ROOM: usize = 30;
 
 // The comparison is lent the first `size` bytes of the buffer.
-fn compared(one: &[u8], two: &[u8], buffer: &mut [u8], size: usize) {
+fn compared(
+    out: io::Stdout,
+    one: &[u8],
+    two: &[u8],
+    buffer: &mut [u8],
+    size: usize,
+) -> io::Result<()> {
     if buffer.len() < size {
-        return;
+        return Ok(());
     }
     match compare(one, two, &mut buffer[0..size]) {
-        Compared::Length(n) => print_written(buffer, 0, n),
-        Compared::Refused(n) => print_refused(n, buffer),
+        Compared::Length(n) => print_written(out, buffer, 0, n)?,
+        Compared::Refused(n) => print_refused(out, n, buffer)?,
     }
+    Ok(())
 }
 
-fn case(one: &[u8], two: &[u8], size: usize) {
+fn case(out: io::Stdout, one: &[u8], two: &[u8], size: usize) -> io::Result<()> {
     let mut buffer = [FILLED; ROOM];
-    print(b"journals ");
-    print_text(one);
-    print(b" and ");
-    print_text(two);
-    print_number(b", ", size as u64);
-    print(b" bytes: ");
-    compared(one, two, &mut buffer, size);
-    print(b"\n");
+    print(out, b"journals ")?;
+    print_text(out, one)?;
+    print(out, b" and ")?;
+    print_text(out, two)?;
+    print_number(out, b", ", size as u64)?;
+    print(out, b" bytes: ")?;
+    compared(out, one, two, &mut buffer, size)?;
+    print(out, b"\n")
 }
 
 // A line of 11 bytes is missing of the first journal, one of 12 of the second.
-fn both_miss(size: usize) {
+fn both_miss(out: io::Stdout, size: usize) -> io::Result<()> {
     case(
+        out,
         b"column=0\nsent=1,1,7\nsent=1,2,8\n",
         b"column=1\ngot=2,3,8\nsent=2,0,10\n",
         size,
-    );
+    )
 }
 
-pub fn cases() {
-    both_miss(ROOM);
-    both_miss(23);
-    both_miss(22);
-    both_miss(12);
-    both_miss(11);
-    both_miss(10);
-    both_miss(0);
-    case(b"column=0\nsent=1,1,7\n", b"column=1\n", 11);
-    case(b"column=0\nsent=1,1,7\n", b"column=1\n", 10);
-    case(b"column=0\n", b"column=1\nsent=1,0,7\n", 11);
-    case(b"column=0\n", b"column=1\nsent=1,0,7\n", 10);
-    case(b"column=0\nsent=1,1,7\n", b"column=1\ngot=1,0,7\n", 0);
-    case(b"column=0\nsent=1,1,7\n", b"column=0\n", 0);
-    case(b"column=0\nsent=1,1,7\nsent=1,1,7\n", b"column=1\n", 0);
-    case(b"column=0\nsent=1,1,7\ngot=1,1,7\n", b"column=1\n", 0);
+pub fn cases(out: io::Stdout) -> io::Result<()> {
+    both_miss(out, ROOM)?;
+    both_miss(out, 23)?;
+    both_miss(out, 22)?;
+    both_miss(out, 12)?;
+    both_miss(out, 11)?;
+    both_miss(out, 10)?;
+    both_miss(out, 0)?;
+    case(out, b"column=0\nsent=1,1,7\n", b"column=1\n", 11)?;
+    case(out, b"column=0\nsent=1,1,7\n", b"column=1\n", 10)?;
+    case(out, b"column=0\n", b"column=1\nsent=1,0,7\n", 11)?;
+    case(out, b"column=0\n", b"column=1\nsent=1,0,7\n", 10)?;
+    case(out, b"column=0\nsent=1,1,7\n", b"column=1\ngot=1,0,7\n", 0)?;
+    case(out, b"column=0\nsent=1,1,7\n", b"column=0\n", 0)?;
+    case(out, b"column=0\nsent=1,1,7\nsent=1,1,7\n", b"column=1\n", 0)?;
+    case(out, b"column=0\nsent=1,1,7\ngot=1,1,7\n", b"column=1\n", 0)
 }

@@ -5,6 +5,7 @@ use bank::step::perform;
 use column::packet::CAPACITY;
 use column::tree::{ASCENDING, Tree};
 use script::line::{Parsed, parse};
+use std::io;
 
 const TREE: Tree = Tree {
     columns: 3,
@@ -22,41 +23,41 @@ fn performed(x: Step) -> Answer {
     r.answer
 }
 
-fn line(text: &[u8]) {
-    print(b"line ");
-    print(text);
-    print(b": ");
+fn line(out: io::Stdout, text: &[u8]) -> io::Result<()> {
+    print(out, b"line ")?;
+    print(out, text)?;
+    print(out, b": ")?;
     match parse(text) {
-        Parsed::Perform(x) => print_answer(performed(x)),
-        Parsed::List(_) => print(b"a list"),
-        Parsed::Dispatch(limit) => print_number(b"a run of at most ", limit as u64),
-        Parsed::Unread => print_answer(Answer::Refused(13)),
+        Parsed::Perform(x) => print_answer(out, performed(x))?,
+        Parsed::List(_) => print(out, b"a list")?,
+        Parsed::Dispatch(limit) => print_number(out, b"a run of at most ", limit as u64)?,
+        Parsed::Unread => print_answer(out, Answer::Refused(13))?,
     }
-    print(b"\n");
+    print(out, b"\n")
 }
 
-pub fn cases() {
-    line(b"take=0");
-    line(b"take=9");
-    line(b"take=10");
-    line(b"take=99");
-    line(b"take=100");
-    line(b"take=511");
-    line(b"take=512");
-    line(b"take=513");
-    line(b"take=999");
-    line(b"take=1000");
-    line(b"take=0999");
-    line(b"take=00");
-    line(b"take=");
-    line(b"take=5a");
-    line(b"send=99");
-    line(b"send=100");
-    line(b"run=0");
-    line(b"run=9999");
-    line(b"run=10000");
-    line(b"run=01");
-    line(b"run=");
-    line(b"jump=1");
-    line(b"");
+pub fn cases(out: io::Stdout) -> io::Result<()> {
+    line(out, b"take=0")?;
+    line(out, b"take=9")?;
+    line(out, b"take=10")?;
+    line(out, b"take=99")?;
+    line(out, b"take=100")?;
+    line(out, b"take=511")?;
+    line(out, b"take=512")?;
+    line(out, b"take=513")?;
+    line(out, b"take=999")?;
+    line(out, b"take=1000")?;
+    line(out, b"take=0999")?;
+    line(out, b"take=00")?;
+    line(out, b"take=")?;
+    line(out, b"take=5a")?;
+    line(out, b"send=99")?;
+    line(out, b"send=100")?;
+    line(out, b"run=0")?;
+    line(out, b"run=9999")?;
+    line(out, b"run=10000")?;
+    line(out, b"run=01")?;
+    line(out, b"run=")?;
+    line(out, b"jump=1")?;
+    line(out, b"")
 }

@@ -6,6 +6,7 @@ use column::packet::CAPACITY;
 use column::tree::{ASCENDING, Tree};
 use list::list::Listing;
 use script::bank_list::list;
+use std::io;
 
 // More than the longest list takes.
 const ROOM: usize = 235;
@@ -43,61 +44,71 @@ fn answer(b: Bank, i: usize, buffer: &mut [u8], at: usize) -> Listing {
 }
 
 // The list is lent the first `size` bytes of the buffer.
-fn listed(b: Bank, i: usize, buffer: &mut [u8], size: usize, at: usize) {
+fn listed(
+    out: io::Stdout,
+    b: Bank,
+    i: usize,
+    buffer: &mut [u8],
+    size: usize,
+    at: usize,
+) -> io::Result<()> {
     if buffer.len() < size {
-        return;
+        return Ok(());
     }
     match answer(b, i, &mut buffer[0..size], at) {
-        Listing::Length(n) => print_written(buffer, at, n),
-        Listing::Refused(n) => print_refused(n, buffer),
+        Listing::Length(n) => print_written(out, buffer, at, n)?,
+        Listing::Refused(n) => print_refused(out, n, buffer)?,
     }
+    Ok(())
 }
 
-fn case(name: &[u8], b: Bank, i: usize, size: usize, at: usize) {
+fn case(out: io::Stdout, name: &[u8], b: Bank, i: usize, size: usize, at: usize) -> io::Result<()> {
     let mut buffer = [FILLED; ROOM];
-    print(name);
-    print_number(b"list of column ", i as u64);
-    print_number(b" of 16, ", size as u64);
-    print_number(b" bytes, place ", at as u64);
-    print(b": ");
-    listed(b, i, &mut buffer, size, at);
-    print(b"\n");
+    print(out, name)?;
+    print_number(out, b"list of column ", i as u64)?;
+    print_number(out, b" of 16, ", size as u64)?;
+    print_number(out, b" bytes, place ", at as u64)?;
+    print(out, b": ")?;
+    listed(out, b, i, &mut buffer, size, at)?;
+    print(out, b"\n")
 }
 
 // The four lines as they are, in a buffer of just their bytes.
-fn longest(b: Bank) {
+fn longest(out: io::Stdout, b: Bank) -> io::Result<()> {
     let mut buffer = [FILLED; 229];
     if let Listing::Length(n) = answer(b, LISTER, &mut buffer, 0) {
-        print_number(b"the longest list, ", n as u64);
-        print(b" bytes:\n");
-        print(&buffer);
+        print_number(out, b"the longest list, ", n as u64)?;
+        print(out, b" bytes:\n")?;
+        print(out, &buffer)?;
     }
+    Ok(())
 }
 
-pub fn cases() {
+pub fn cases(out: io::Stdout) -> io::Result<()> {
     let running = bank(true, true);
     let halted = bank(false, true);
     let wrong = bank(false, false);
-    longest(running);
-    case(b"", running, LISTER, 229, 0);
-    case(b"", running, LISTER, 228, 0);
-    case(b"", running, LISTER, ROOM, 3);
-    case(b"", running, LISTER, ROOM, 6);
-    case(b"", running, LISTER, ROOM, 7);
-    case(b"", running, LISTER, ROOM, ROOM);
-    case(b"", running, LISTER, ROOM, ROOM + 1);
-    case(b"", running, LISTER, ROOM, 18446744073709551615);
-    case(b"", running, LISTER, 0, 0);
-    case(b"", running, 9, ROOM, 0);
-    case(b"", running, 16, ROOM, 0);
-    case(b"", running, 16, 0, 0);
-    case(b"halted, ", halted, LISTER, ROOM, 0);
-    case(b"halted, ", halted, LISTER, 0, 0);
+    longest(out, running)?;
+    case(out, b"", running, LISTER, 229, 0)?;
+    case(out, b"", running, LISTER, 228, 0)?;
+    case(out, b"", running, LISTER, ROOM, 3)?;
+    case(out, b"", running, LISTER, ROOM, 6)?;
+    case(out, b"", running, LISTER, ROOM, 7)?;
+    case(out, b"", running, LISTER, ROOM, ROOM)?;
+    case(out, b"", running, LISTER, ROOM, ROOM + 1)?;
+    case(out, b"", running, LISTER, ROOM, 18446744073709551615)?;
+    case(out, b"", running, LISTER, 0, 0)?;
+    case(out, b"", running, 9, ROOM, 0)?;
+    case(out, b"", running, 16, ROOM, 0)?;
+    case(out, b"", running, 16, 0, 0)?;
+    case(out, b"halted, ", halted, LISTER, ROOM, 0)?;
+    case(out, b"halted, ", halted, LISTER, 0, 0)?;
     case(
+        out,
         b"halted and a root whose goal is own, ",
         wrong,
         LISTER,
         0,
         0,
-    );
+    )
 }

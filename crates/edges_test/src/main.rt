@@ -8,9 +8,12 @@ mod lists;
 mod print;
 mod tables;
 
-fn main() {
-    lists::cases();
-    tables::cases();
-    lines::cases();
-    comparisons::cases();
+use std::io;
+
+fn main(rt: HostRuntime) -> io::Result<()> {
+    let out = rt.stdout();
+    lists::cases(out)?;
+    tables::cases(out)?;
+    lines::cases(out)?;
+    comparisons::cases(out)
 }

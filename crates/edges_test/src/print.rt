@@ -1,32 +1,34 @@
 // The parts of a line.
 use bank::bank::Answer;
-use libc::STDOUT_FILENO;
+use std::io;
 
-pub fn print(text: &[u8]) {
-    io::write_all(STDOUT_FILENO, text);
+pub fn print(out: io::Stdout, text: &[u8]) -> io::Result<()> {
+    out.write_all(text)
 }
 
-pub fn print_number(key: &[u8], n: u64) {
-    print(key);
-    io::print_decimal(STDOUT_FILENO, n);
+pub fn print_number(out: io::Stdout, key: &[u8], n: u64) -> io::Result<()> {
+    print(out, key)?;
+    print!(out; "{n}")
 }
 
-pub fn print_answer(a: Answer) {
+pub fn print_answer(out: io::Stdout, a: Answer) -> io::Result<()> {
     match a {
-        Answer::Done => print(b"ok"),
-        Answer::Refused(n) => print_number(b"refused ", n as u64),
+        Answer::Done => print(out, b"ok")?,
+        Answer::Refused(n) => print_number(out, b"refused ", n as u64)?,
     }
+    Ok(())
 }
 
 // A text of several lines as one, a bar for each line's end.
-pub fn print_text(text: &[u8]) {
+pub fn print_text(out: io::Stdout, text: &[u8]) -> io::Result<()> {
     let mut i: usize = 0;
     while i < text.len() {
         if text[i] == 10 {
-            print(b"|");
+            print(out, b"|")?;
         } else {
-            print(&text[i..i + 1]);
+            print(out, &text[i..i + 1])?;
         }
         i += 1;
     }
+    Ok(())
 }

@@ -2,13 +2,16 @@
 #![tactic(auto)]
 
 use fastest_text::request::{LIMIT, TABLE, answer};
-use libc::{STDIN_FILENO, STDOUT_FILENO};
+use std::io;
+use streams::read_full;
 
-fn main() {
+// A write that fails ends it with that error.
+fn main(rt: HostRuntime) -> io::Result<()> {
     // One byte more than the limit shows that an input is too long.
     let mut input = [0u8; LIMIT + 1];
-    let n = io::read_full(STDIN_FILENO, &mut input);
+    // A read that fails is the end of the input.
+    let (n, _) = read_full(&mut rt.stdin(), &mut input);
     let mut text = [0u8; TABLE];
     let length = answer(&input[..n], &mut text);
-    io::write_all(STDOUT_FILENO, &text[..length]);
+    rt.write_all(&text[..length])
 }

@@ -2,14 +2,15 @@
 use crate::print::{print_bytes, print_number};
 use column::codec::Size;
 use column::converter::convert;
+use std::io;
 
-pub fn show(s: &[u8]) {
+pub fn show(out: io::Stdout, s: &[u8]) -> io::Result<()> {
     let written = convert(s);
     let size = written.size;
     let bytes = written.bytes;
     match size {
-        Size::Is(n) => print_number(b"converted=", n as u64),
-        Size::Refused(n) => print_number(b"unconverted=", n as u64),
+        Size::Is(n) => print_number(out, b"converted=", n as u64)?,
+        Size::Refused(n) => print_number(out, b"unconverted=", n as u64)?,
     }
-    print_bytes(b" ", &bytes);
+    print_bytes(out, b" ", &bytes)
 }

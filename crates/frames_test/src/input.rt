@@ -3,53 +3,57 @@
 use crate::converted;
 use crate::print::{print, print_answer, print_packet};
 use column::frame::{Count, read_frame};
-use libc::STDIN_FILENO;
+use std::io;
+use streams::read_full;
 
 const LIMIT: usize = 65536;
 
-fn show_frame(bytes: &[u8]) {
+fn show_frame(out: io::Stdout, bytes: &[u8]) -> io::Result<()> {
     let frame = read_frame(bytes);
-    print_answer(frame);
+    print_answer(out, frame)?;
     let count = frame.count;
     let Count::Is(n) = count else {
-        return;
+        return Ok(());
     };
     let packets = frame.packets;
     let mut k = 0;
     while k < n {
         let slot = packets[k];
         let packet = slot.packet;
-        print_packet(b" ", packet);
+        print_packet(out, b" ", packet)?;
         k += 1;
     }
+    Ok(())
 }
 
 // Two lines.
-fn show_bytes(bytes: &[u8]) {
-    show_frame(bytes);
-    print(b"\n");
-    converted::show(bytes);
+fn show_bytes(out: io::Stdout, bytes: &[u8]) -> io::Result<()> {
+    show_frame(out, bytes)?;
+    print(out, b"\n")?;
+    converted::show(out, bytes)
 }
 
 fn number(high: u8, low: u8) -> usize {
     high as usize * 256 + low as usize
 }
 
-fn show_frames(input: &[u8]) {
+fn show_frames(out: io::Stdout, input: &[u8]) -> io::Result<()> {
     let mut at = 0;
     while 2 <= input.len() - at {
         let size = number(input[at], input[at + 1]);
         let start = at + 2;
         if input.len() - start < size {
-            return;
+            return Ok(());
         }
-        show_bytes(&input[start..start + size]);
+        show_bytes(out, &input[start..start + size])?;
         at = start + size;
     }
+    Ok(())
 }
 
-pub fn show() {
+// A read that fails is the end of the input.
+pub fn show(mut input_stream: io::Stdin, out: io::Stdout) -> io::Result<()> {
     let mut input = [0u8; LIMIT];
-    let n = io::read_full(STDIN_FILENO, &mut input);
-    show_frames(&input[..n]);
+    let (n, _) = read_full(&mut input_stream, &mut input);
+    show_frames(out, &input[..n])
 }

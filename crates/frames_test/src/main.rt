@@ -7,7 +7,10 @@ mod edges;
 mod input;
 mod print;
 
-fn main() {
-    edges::show();
-    input::show();
+use std::io;
+
+fn main(rt: HostRuntime) -> io::Result<()> {
+    let out = rt.stdout();
+    edges::show(out)?;
+    input::show(rt.stdin(), out)
 }

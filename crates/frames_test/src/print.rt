@@ -3,35 +3,31 @@ ghost use Rattle.std.specs.Prelude.{◌<◌};
 
 use column::frame::{Count, Frame};
 use column::packet::{CAPACITY, Packet};
-use libc::STDOUT_FILENO;
+use std::io;
 
-pub fn print(text: &[u8]) {
-    io::write_all(STDOUT_FILENO, text);
+pub fn print(out: io::Stdout, text: &[u8]) -> io::Result<()> {
+    out.write_all(text)
 }
 
-pub fn print_number(key: &[u8], n: u64) {
-    print(key);
-    io::print_decimal(STDOUT_FILENO, n);
+pub fn print_number(out: io::Stdout, key: &[u8], n: u64) -> io::Result<()> {
+    print(out, key)?;
+    print!(out; "{n}")
 }
 
-pub fn print_bytes(key: &[u8], bytes: &[u8]) {
-    print(key);
+pub fn print_bytes(out: io::Stdout, key: &[u8], bytes: &[u8]) -> io::Result<()> {
+    print(out, key)?;
     let mut i = 0;
     while i < bytes.len() {
         let byte = bytes[i];
-        io::print_hex(STDOUT_FILENO, wide(byte), 2);
+        print!(out; "{byte:02x}")?;
         i += 1;
     }
-    print(b"\n");
-}
-
-fn wide(byte: u8) -> u64 {
-    byte as u64
+    print(out, b"\n")
 }
 
 // Kind, from, to, number and, of a message, the doors as one number.
-pub fn print_packet(key: &[u8], packet: Packet) {
-    print(key);
+pub fn print_packet(out: io::Stdout, key: &[u8], packet: Packet) -> io::Result<()> {
+    print(out, key)?;
     match packet {
         Packet::Message {
             from,
@@ -39,17 +35,18 @@ pub fn print_packet(key: &[u8], packet: Packet) {
             number,
             doors,
         } => {
-            print_number(b"3,", from as u64);
-            print_number(b",", to as u64);
-            print_number(b",", number as u64);
-            print_number(b",", doors);
+            print_number(out, b"3,", from as u64)?;
+            print_number(out, b",", to as u64)?;
+            print_number(out, b",", number as u64)?;
+            print_number(out, b",", doors)?;
         }
         Packet::Acknowledgement { from, to, number } => {
-            print_number(b"4,", from as u64);
-            print_number(b",", to as u64);
-            print_number(b",", number as u64);
+            print_number(out, b"4,", from as u64)?;
+            print_number(out, b",", to as u64)?;
+            print_number(out, b",", number as u64)?;
         }
     }
+    Ok(())
 }
 
 // 0 for a place of zeros, otherwise 1.
@@ -86,11 +83,11 @@ fn filled(frame: Frame) -> u64 {
     n
 }
 
-pub fn print_answer(frame: Frame) {
+pub fn print_answer(out: io::Stdout, frame: Frame) -> io::Result<()> {
     let count = frame.count;
     match count {
-        Count::Is(n) => print_number(b"count=", n as u64),
-        Count::Refused(n) => print_number(b"refused=", n as u64),
+        Count::Is(n) => print_number(out, b"count=", n as u64)?,
+        Count::Refused(n) => print_number(out, b"refused=", n as u64)?,
     }
-    print_number(b" filled=", filled(frame));
+    print_number(out, b" filled=", filled(frame))
 }

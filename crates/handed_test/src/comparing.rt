@@ -4,55 +4,56 @@ use crate::same::same;
 use crate::state::{State, TREE, quiet, with_column, with_count, with_tree, with_words};
 use bank::bank::NO_COLUMN;
 use column::state::Column;
+use std::io;
 
-fn compared(part: &[u8], s: State) {
-    print(part);
-    print_flag(same(quiet(), s), b": same\n", b": different\n");
+fn compared(out: io::Stdout, part: &[u8], s: State) -> io::Result<()> {
+    print(out, part)?;
+    print_flag(out, same(quiet(), s), b": same\n", b": different\n")
 }
 
-fn field(part: &[u8], c: Column) {
-    print(b"column 15, ");
-    compared(part, with_column(quiet(), 15, c));
+fn field(out: io::Stdout, part: &[u8], c: Column) -> io::Result<()> {
+    print(out, b"column 15, ")?;
+    compared(out, part, with_column(quiet(), 15, c))
 }
 
-fn fields() {
+fn fields(out: io::Stdout) -> io::Result<()> {
     let mut c = NO_COLUMN;
-    field(b"no field", c);
+    field(out, b"no field", c)?;
     c.running = true;
-    field(b"running", c);
+    field(out, b"running", c)?;
     c = NO_COLUMN;
     c.number = 1;
-    field(b"number", c);
+    field(out, b"number", c)?;
     c = NO_COLUMN;
     c.doors = 1;
-    field(b"doors", c);
+    field(out, b"doors", c)?;
     c = NO_COLUMN;
     c.send = 1;
-    field(b"send", c);
+    field(out, b"send", c)?;
     c = NO_COLUMN;
     c.awaited = 1;
-    field(b"awaited", c);
+    field(out, b"awaited", c)?;
     c = NO_COLUMN;
     c.owed = 1;
-    field(b"owed", c);
+    field(out, b"owed", c)?;
     c = NO_COLUMN;
     c.noted = 1;
-    field(b"noted", c);
+    field(out, b"noted", c)?;
     c = NO_COLUMN;
     c.whole = true;
-    field(b"whole", c);
+    field(out, b"whole", c)?;
     c = NO_COLUMN;
     c.sender = 1;
-    field(b"sender", c);
+    field(out, b"sender", c)?;
     c = NO_COLUMN;
     c.mask = 1;
-    field(b"mask", c);
+    field(out, b"mask", c)?;
     c = NO_COLUMN;
     c.pending = 1;
-    field(b"pending", c);
+    field(out, b"pending", c)
 }
 
-fn trees() {
+fn trees(out: io::Stdout) -> io::Result<()> {
     let mut columns = TREE;
     let mut root = TREE;
     let mut up = TREE;
@@ -63,19 +64,23 @@ fn trees() {
     first.first[15] = 1;
     let mut watch = TREE;
     watch.watch = true;
-    compared(b"columns", with_tree(quiet(), columns));
-    compared(b"root", with_tree(quiet(), root));
-    compared(b"the last parent", with_tree(quiet(), up));
-    compared(b"the last place of the sequence", with_tree(quiet(), first));
-    compared(b"watch", with_tree(quiet(), watch));
+    compared(out, b"columns", with_tree(quiet(), columns))?;
+    compared(out, b"root", with_tree(quiet(), root))?;
+    compared(out, b"the last parent", with_tree(quiet(), up))?;
+    compared(
+        out,
+        b"the last place of the sequence",
+        with_tree(quiet(), first),
+    )?;
+    compared(out, b"watch", with_tree(quiet(), watch))
 }
 
-pub fn cases() {
-    fields();
-    trees();
-    compared(b"count", with_count(quiet(), 1));
-    compared(b"the first head", with_words(quiet(), 0, 1, 0));
-    compared(b"the first doors", with_words(quiet(), 0, 0, 1));
-    compared(b"the last head", with_words(quiet(), 511, 1, 0));
-    compared(b"the last doors", with_words(quiet(), 511, 0, 1));
+pub fn cases(out: io::Stdout) -> io::Result<()> {
+    fields(out)?;
+    trees(out)?;
+    compared(out, b"count", with_count(quiet(), 1))?;
+    compared(out, b"the first head", with_words(quiet(), 0, 1, 0))?;
+    compared(out, b"the first doors", with_words(quiet(), 0, 0, 1))?;
+    compared(out, b"the last head", with_words(quiet(), 511, 1, 0))?;
+    compared(out, b"the last doors", with_words(quiet(), 511, 0, 1))
 }

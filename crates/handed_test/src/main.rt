@@ -20,17 +20,20 @@ mod state;
 mod watching;
 mod writing;
 
-fn main() {
-    comparing::cases();
-    members::cases();
-    packets::cases();
-    fine::cases();
-    overlaps::cases();
-    full::cases();
-    halting::cases();
-    resting::cases();
-    dispatching::cases();
-    returning::cases();
-    watching::cases();
-    writing::cases();
+use std::io;
+
+fn main(rt: HostRuntime) -> io::Result<()> {
+    let out = rt.stdout();
+    comparing::cases(out)?;
+    members::cases(out)?;
+    packets::cases(out)?;
+    fine::cases(out)?;
+    overlaps::cases(out)?;
+    full::cases(out)?;
+    halting::cases(out)?;
+    resting::cases(out)?;
+    dispatching::cases(out)?;
+    returning::cases(out)?;
+    watching::cases(out)?;
+    writing::cases(out)
 }

@@ -2,14 +2,17 @@
 #![tactic(auto)]
 
 use column::packet::CAPACITY;
-use libc::{STDIN_FILENO, STDOUT_FILENO};
 use script::script::{BUFFER, fill, start};
+use std::io;
+use streams::read_full;
 use table::table::LIMIT;
 
-fn main() {
+// A write that fails ends it with that error.
+fn main(rt: HostRuntime) -> io::Result<()> {
     // One byte more than the limit shows that an input is too long.
     let mut input = [0u8; LIMIT + 1];
-    let n = io::read_full(STDIN_FILENO, &mut input);
+    // A read that fails is the end of the input.
+    let (n, _) = read_full(&mut rt.stdin(), &mut input);
     let mut heads = [0u64; CAPACITY];
     let mut doors = [0u64; CAPACITY];
     let mut texts = [0u8; BUFFER];
@@ -18,12 +21,11 @@ fn main() {
     while k < n + 2 {
         run = fill(run, &input[..n], &mut heads, &mut doors, &mut texts);
         let length = run.length;
-        if !io::write_all(STDOUT_FILENO, &texts[..length]) {
-            return;
-        }
+        rt.write_all(&texts[..length])?;
         if run.over {
-            return;
+            return Ok(());
         }
         k += 1;
     }
+    Ok(())
 }

@@ -1,15 +1,18 @@
 // Answers the table with a step count on standard input: how many halts lose the order.
 #![tactic(auto)]
 
-use libc::{STDIN_FILENO, STDOUT_FILENO};
 use losses_text::request::{COUNTS, answer};
+use std::io;
+use streams::read_full;
 use table::table::LIMIT;
 
-fn main() {
+// A write that fails ends it with that error.
+fn main(rt: HostRuntime) -> io::Result<()> {
     // One byte more than the limit shows that an input is too long.
     let mut input = [0u8; LIMIT + 1];
-    let n = io::read_full(STDIN_FILENO, &mut input);
+    // A read that fails is the end of the input.
+    let (n, _) = read_full(&mut rt.stdin(), &mut input);
     let mut text = [0u8; COUNTS];
     let length = answer(&input[..n], &mut text);
-    io::write_all(STDOUT_FILENO, &text[..length]);
+    rt.write_all(&text[..length])
 }

@@ -5,6 +5,7 @@ use bank::dispatch::dispatch;
 use bank::page::{line_up, read};
 use bank::step::perform;
 use column::page::PAGE_SIZE;
+use std::io;
 
 #[derive(Clone, Copy)]
 pub struct Command {
@@ -44,40 +45,52 @@ fn step(c: Command) -> Step {
 }
 
 // The whole page, a byte to a line.
-fn show_page(b: Bank, i: usize, heads: &Words) {
+fn show_page(out: io::Stdout, b: Bank, i: usize, heads: &Words) -> io::Result<()> {
     let mut offset = 0;
     while offset < PAGE_SIZE {
-        print_byte(b"byte=", read(b, i, offset, heads));
+        print_byte(out, b"byte=", read(b, i, offset, heads))?;
         offset += 1;
     }
-    print_line(line_up(b, i, heads));
+    print_line(out, line_up(b, i, heads))
 }
 
-fn run(b: Bank, limit: usize, heads: &mut Words, doors: &mut Words) -> Bank {
+fn run(
+    out: io::Stdout,
+    b: Bank,
+    limit: usize,
+    heads: &mut Words,
+    doors: &mut Words,
+) -> io::Result<Bank> {
     let r = dispatch(b, limit, heads, doors);
     let a = r.answer;
-    print_answer(a);
-    print_number(b"steps=", r.steps as u64);
-    r.bank
+    print_answer(out, a)?;
+    print_number(out, b"steps=", r.steps as u64)?;
+    Ok(r.bank)
 }
 
 // Its answer is printed; the bank after it.
-pub fn obey(b: Bank, c: Command, heads: &mut Words, doors: &mut Words) -> Bank {
+pub fn obey(
+    out: io::Stdout,
+    b: Bank,
+    c: Command,
+    heads: &mut Words,
+    doors: &mut Words,
+) -> io::Result<Bank> {
     let letter = c.letter;
     let i = c.x as usize;
     if letter == b'p' {
-        show_page(b, i, heads);
-        return b;
+        show_page(out, b, i, heads)?;
+        return Ok(b);
     }
     if letter == b'r' {
-        print_byte(b"byte=", read(b, i, offset_of(c), heads));
-        return b;
+        print_byte(out, b"byte=", read(b, i, offset_of(c), heads))?;
+        return Ok(b);
     }
     if letter == b'd' {
-        return run(b, number(c.x, c.y) as usize, heads, doors);
+        return run(out, b, number(c.x, c.y) as usize, heads, doors);
     }
     let r = perform(b, step(c), heads, doors);
     let a = r.answer;
-    print_answer(a);
-    r.bank
+    print_answer(out, a)?;
+    Ok(r.bank)
 }

@@ -5,7 +5,8 @@ use crate::print::print_answer;
 use bank::bank::fresh;
 use column::packet::CAPACITY;
 use column::tree::{ASCENDING, Tree};
-use libc::STDIN_FILENO;
+use std::io;
+use streams::read_full;
 
 const LIMIT: usize = 65536;
 
@@ -39,11 +40,11 @@ fn tree(input: &[u8]) -> Tree {
     }
 }
 
-fn run(input: &[u8]) {
+fn run(out: io::Stdout, input: &[u8]) -> io::Result<()> {
     let r = fresh(tree(input));
     let mut b = r.bank;
     let a = r.answer;
-    print_answer(a);
+    print_answer(out, a)?;
     let mut heads = [0u64; CAPACITY];
     let mut doors = [0u64; CAPACITY];
     let mut at = TREE_SIZE;
@@ -55,13 +56,15 @@ fn run(input: &[u8]) {
             z: byte(input, at + 3),
             value: byte(input, at + 4),
         };
-        b = obey(b, c, &mut heads, &mut doors);
+        b = obey(out, b, c, &mut heads, &mut doors)?;
         at += COMMAND_SIZE;
     }
+    Ok(())
 }
 
-pub fn show() {
+// A read that fails is the end of the input.
+pub fn show(mut input_stream: io::Stdin, out: io::Stdout) -> io::Result<()> {
     let mut input = [0u8; LIMIT];
-    let n = io::read_full(STDIN_FILENO, &mut input);
-    run(&input[..n]);
+    let (n, _) = read_full(&mut input_stream, &mut input);
+    run(out, &input[..n])
 }

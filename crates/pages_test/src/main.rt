@@ -6,6 +6,8 @@ mod command;
 mod input;
 mod print;
 
-fn main() {
-    input::show();
+use std::io;
+
+fn main(rt: HostRuntime) -> io::Result<()> {
+    input::show(rt.stdin(), rt.stdout())
 }

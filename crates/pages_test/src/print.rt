@@ -2,41 +2,44 @@
 use bank::bank::Answer;
 use bank::page::InterruptLine;
 use column::page::Byte;
-use libc::STDOUT_FILENO;
+use std::io;
 
-fn print(text: &[u8]) {
-    io::write_all(STDOUT_FILENO, text);
+fn print(out: io::Stdout, text: &[u8]) -> io::Result<()> {
+    out.write_all(text)
 }
 
-pub fn print_number(key: &[u8], n: u64) {
-    print(key);
-    io::print_decimal(STDOUT_FILENO, n);
-    print(b"\n");
+pub fn print_number(out: io::Stdout, key: &[u8], n: u64) -> io::Result<()> {
+    print(out, key)?;
+    print!(out; "{n}")?;
+    print(out, b"\n")
 }
 
-pub fn print_answer(a: Answer) {
+pub fn print_answer(out: io::Stdout, a: Answer) -> io::Result<()> {
     match a {
-        Answer::Done => print(b"ok\n"),
-        Answer::Refused(n) => print_number(b"refused=", n as u64),
+        Answer::Done => print(out, b"ok\n")?,
+        Answer::Refused(n) => print_number(out, b"refused=", n as u64)?,
     }
+    Ok(())
 }
 
-pub fn print_byte(key: &[u8], byte: Byte) {
+pub fn print_byte(out: io::Stdout, key: &[u8], byte: Byte) -> io::Result<()> {
     match byte {
-        Byte::Is(value) => print_number(key, value as u64),
-        Byte::Refused(n) => print_number(b"refused=", n as u64),
+        Byte::Is(value) => print_number(out, key, value as u64)?,
+        Byte::Refused(n) => print_number(out, b"refused=", n as u64)?,
     }
+    Ok(())
 }
 
-pub fn print_line(line: InterruptLine) {
+pub fn print_line(out: io::Stdout, line: InterruptLine) -> io::Result<()> {
     match line {
         InterruptLine::Is(up) => {
             if up {
-                print(b"line=up\n");
+                print(out, b"line=up\n")?;
             } else {
-                print(b"line=down\n");
+                print(out, b"line=down\n")?;
             }
         }
-        InterruptLine::Refused(n) => print_number(b"refused=", n as u64),
+        InterruptLine::Refused(n) => print_number(out, b"refused=", n as u64)?,
     }
+    Ok(())
 }

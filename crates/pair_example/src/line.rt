@@ -1,5 +1,5 @@
 // The line between the two ends: what steps put goes over it as the bytes of one frame, and each column takes from these what is for it.
-ghost use Rattle.std.specs.Prelude.{◌≤◌, length};
+ghost use Rattle.std.specs.Prelude.{IfOk, ◌≤◌, length};
 
 use crate::print::{print_bytes, print_line, wide};
 use column::codec::{Size, write};
@@ -9,9 +9,10 @@ use column::packet::{Packet, receiver};
 use column::state::Column;
 use column::step::take;
 use column::tree::Tree;
+use std::io;
 
-fn refused(n: u8) {
-    print_line(b"refused=", wide(n));
+fn refused(out: io::Stdout, n: u8) -> io::Result<()> {
+    print_line(out, b"refused=", wide(n))
 }
 
 // The bytes from the place on, if they fit; the place after them.
@@ -30,46 +31,51 @@ fn put_bytes(frame: &mut [u8], at: usize, bytes: &[u8]) -> usize
     at + i
 }
 
-fn put_packet(frame: &mut [u8], at: usize, p: Packet) -> usize
+fn put_packet(out: io::Stdout, frame: &mut [u8], at: usize, p: Packet) -> io::Result<usize>
     requires { at ≤ length frame.old }
-    ensures { result ≤ length frame.new }
+    ensures { IfOk result (λ n. n ≤ length frame.new) }
 {
     let written = write(p);
     let size = written.size;
     let bytes = written.bytes;
     match size {
         Size::Refused(n) => {
-            refused(n);
-            at
+            refused(out, n)?;
+            Ok(at)
         }
-        Size::Is(n) => put_bytes(frame, at, &bytes[..n]),
+        Size::Is(n) => Ok(put_bytes(frame, at, &bytes[..n])),
     }
 }
 
 // The packet that a step puts; a step that puts none leaves the frame as it is.
-fn put(frame: &mut [u8], at: usize, answer: Answer) -> usize
+fn put(out: io::Stdout, frame: &mut [u8], at: usize, answer: Answer) -> io::Result<usize>
     requires { at ≤ length frame.old }
-    ensures { result ≤ length frame.new }
+    ensures { IfOk result (λ n. n ≤ length frame.new) }
 {
     match answer {
-        Answer::Put(p) => put_packet(frame, at, p),
-        Answer::Left(p) => put_packet(frame, at, p),
+        Answer::Put(p) => put_packet(out, frame, at, p),
+        Answer::Left(p) => put_packet(out, frame, at, p),
         Answer::Refused(n) => {
-            refused(n);
-            at
+            refused(out, n)?;
+            Ok(at)
         }
-        Answer::Done => at,
+        Answer::Done => Ok(at),
     }
 }
 
 // What two steps put, joined in one frame from its start; how many bytes of it go over the line.
-pub fn over_the_line(frame: &mut [u8], first: Answer, second: Answer) -> usize
-    ensures { result ≤ length frame.new }
+pub fn over_the_line(
+    out: io::Stdout,
+    frame: &mut [u8],
+    first: Answer,
+    second: Answer,
+) -> io::Result<usize>
+    ensures { IfOk result (λ n. n ≤ length frame.new) }
 {
-    let middle = put(frame, 0, first);
-    let end = put(frame, middle, second);
-    print_bytes(b"frame=", &frame[..end]);
-    end
+    let middle = put(out, frame, 0, first)?;
+    let end = put(out, frame, middle, second)?;
+    print_bytes(out, b"frame=", &frame[..end])?;
+    Ok(end)
 }
 
 pub fn taken(t: Tree, i: usize, c: Column, p: Packet) -> Column {
@@ -82,12 +88,12 @@ pub fn taken(t: Tree, i: usize, c: Column, p: Packet) -> Column {
 }
 
 // Column i after every packet of the frame that is for it.
-pub fn received(t: Tree, i: usize, c: Column, frame: &[u8]) -> Column {
+pub fn received(out: io::Stdout, t: Tree, i: usize, c: Column, frame: &[u8]) -> io::Result<Column> {
     let read = read_frame(frame);
     let count = read.count;
     let Count::Is(n) = count else {
-        refused(12);
-        return c;
+        refused(out, 12)?;
+        return Ok(c);
     };
     let packets = read.packets;
     let mut d = c;
@@ -98,5 +104,5 @@ pub fn received(t: Tree, i: usize, c: Column, frame: &[u8]) -> Column {
         d = taken(t, i, d, p);
         k += 1;
     }
-    d
+    Ok(d)
 }

@@ -14,6 +14,7 @@ use column::codec::MESSAGE_SIZE;
 use column::state::{Column, FreshColumn, fresh};
 use column::step::{ack, order, send};
 use column::tree::{ASCENDING, Tree};
+use std::io;
 
 const ROOT: usize = 0;
 
@@ -27,16 +28,16 @@ const FRAME_SIZE: usize = 2 * MESSAGE_SIZE;
 // Doors 1 and 10: bit 0 of byte 0 and bit 1 of byte 1.
 const DOORS: u64 = 1 + 2 * 256;
 
-fn print_column(i: usize, c: Column) {
+fn print_column(out: io::Stdout, i: usize, c: Column) -> io::Result<()> {
     let number = c.number;
-    print_line(b"column=", i as u64);
-    print_line(b"number=", number as u64);
-    print_doors(c.doors);
-    print_set(b"awaited=", c.awaited);
-    print(b"\n");
+    print_line(out, b"column=", i as u64)?;
+    print_line(out, b"number=", number as u64)?;
+    print_doors(out, c.doors)?;
+    print_set(out, b"awaited=", c.awaited)?;
+    print(out, b"\n")
 }
 
-fn exchange() {
+fn exchange(out: io::Stdout) -> io::Result<()> {
     let t = Tree {
         columns: 3,
         root: ROOT,
@@ -45,13 +46,13 @@ fn exchange() {
         watch: false,
     };
     let FreshColumn::Is(root) = fresh(t, ROOT) else {
-        return;
+        return Ok(());
     };
     let FreshColumn::Is(first) = fresh(t, FIRST) else {
-        return;
+        return Ok(());
     };
     let FreshColumn::Is(second) = fresh(t, SECOND) else {
-        return;
+        return Ok(());
     };
     let ordered = order(t, ROOT, root, DOORS);
     let sent = send(t, ROOT, ordered.column);
@@ -59,20 +60,23 @@ fn exchange() {
     let message = sent.answer;
     let message_on = sent_on.answer;
     let mut down = [0u8; FRAME_SIZE];
-    let down_size = over_the_line(&mut down, message, message_on);
-    let acknowledged = ack(t, FIRST, received(t, FIRST, first, &down[..down_size]));
-    let acknowledged_on = ack(t, SECOND, received(t, SECOND, second, &down[..down_size]));
+    let down_size = over_the_line(out, &mut down, message, message_on)?;
+    let told = &down[..down_size];
+    let acknowledged = ack(t, FIRST, received(out, t, FIRST, first, told)?);
+    let acknowledged_on = ack(t, SECOND, received(out, t, SECOND, second, told)?);
     let acknowledgement = acknowledged.answer;
     let acknowledgement_on = acknowledged_on.answer;
     let mut up = [0u8; FRAME_SIZE];
-    let up_size = over_the_line(&mut up, acknowledgement, acknowledgement_on);
-    print_column(ROOT, received(t, ROOT, sent_on.column, &up[..up_size]));
-    print_column(FIRST, acknowledged.column);
-    print_column(SECOND, acknowledged_on.column);
+    let up_size = over_the_line(out, &mut up, acknowledgement, acknowledgement_on)?;
+    let heard = received(out, t, ROOT, sent_on.column, &up[..up_size])?;
+    print_column(out, ROOT, heard)?;
+    print_column(out, FIRST, acknowledged.column)?;
+    print_column(out, SECOND, acknowledged_on.column)
 }
 
-fn main() {
-    exchange();
-    mixed::show();
-    tree::show();
+fn main(rt: HostRuntime) -> io::Result<()> {
+    let out = rt.stdout();
+    exchange(out)?;
+    mixed::show(out)?;
+    tree::show(out)
 }

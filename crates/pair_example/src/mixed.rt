@@ -11,6 +11,7 @@ use column::packet::Number;
 use column::state::{Column, FreshColumn, fresh};
 use column::step::{ack, order, send};
 use column::tree::{ASCENDING, Tree};
+use std::io;
 
 const NEW_END: usize = 0;
 
@@ -36,16 +37,17 @@ fn packet_size(size: Size, bytes: &[u8]) -> usize
     }
 }
 
-fn print_packet(key: &[u8], w: Written) {
+fn print_packet(out: io::Stdout, key: &[u8], w: Written) -> io::Result<()> {
     let size = w.size;
     let bytes = w.bytes;
     match size {
-        Size::Refused(n) => print_line(b"refused=", wide(n)),
+        Size::Refused(n) => print_line(out, b"refused=", wide(n))?,
         Size::Is(_) => {
             let n = packet_size(size, &bytes);
-            print_bytes(key, &bytes[..n]);
+            print_bytes(out, key, &bytes[..n])?;
         }
     }
+    Ok(())
 }
 
 fn converted(w: Written) -> Written {
@@ -56,21 +58,21 @@ fn converted(w: Written) -> Written {
 }
 
 // What a step puts, as it is written, as it goes over the line, and as it is on the other side of it.
-fn over(answer: Answer) -> Written {
+fn over(out: io::Stdout, answer: Answer) -> io::Result<Written> {
     let Answer::Put(p) = answer else {
-        return NOTHING;
+        return Ok(NOTHING);
     };
     let written = write(p);
-    print_packet(b"new=", written);
+    print_packet(out, b"new=", written)?;
     let narrow = converted(written);
-    print_packet(b"old=", narrow);
+    print_packet(out, b"old=", narrow)?;
     let size = narrow.size;
     if let Size::Refused(_) = size {
-        return NOTHING;
+        return Ok(NOTHING);
     }
     let widened = converted(narrow);
-    print_packet(b"new=", widened);
-    widened
+    print_packet(out, b"new=", widened)?;
+    Ok(widened)
 }
 
 // The column after the packet that came over the line.
@@ -85,7 +87,7 @@ fn received(t: Tree, i: usize, c: Column, w: Written) -> Column {
 }
 
 // The order after this number goes down over the line, and its acknowledgement up; then what both ends hold.
-fn order_after(number: Number) {
+fn order_after(out: io::Stdout, number: Number) -> io::Result<()> {
     let t = Tree {
         columns: 2,
         root: NEW_END,
@@ -94,27 +96,27 @@ fn order_after(number: Number) {
         watch: false,
     };
     let FreshColumn::Is(root) = fresh(t, NEW_END) else {
-        return;
+        return Ok(());
     };
     let FreshColumn::Is(child) = fresh(t, OLD_END) else {
-        return;
+        return Ok(());
     };
     let mut begun = root;
     begun.number = number;
     let ordered = order(t, NEW_END, begun, 1);
     let sent = send(t, NEW_END, ordered.column);
     let message = sent.answer;
-    let told = received(t, OLD_END, child, over(message));
+    let told = received(t, OLD_END, child, over(out, message)?);
     let acknowledged = ack(t, OLD_END, told);
     let acknowledgement = acknowledged.answer;
-    let last = received(t, NEW_END, sent.column, over(acknowledgement));
+    let last = received(t, NEW_END, sent.column, over(out, acknowledgement)?);
     let heard = acknowledged.column;
-    print_line(b"held=", last.number as u64);
-    print_line(b"held=", heard.number as u64);
+    print_line(out, b"held=", last.number as u64)?;
+    print_line(out, b"held=", heard.number as u64)
 }
 
 // The highest number that the old kinds carry, and the one after it, which does not get over the line: 18.
-pub fn show() {
-    order_after(65534);
-    order_after(65535);
+pub fn show(out: io::Stdout) -> io::Result<()> {
+    order_after(out, 65534)?;
+    order_after(out, 65535)
 }

@@ -1,29 +1,30 @@
 // The parts of a line: a key and its value.
-use libc::STDOUT_FILENO;
 
-pub fn print(text: &[u8]) {
-    io::write_all(STDOUT_FILENO, text);
+use std::io;
+
+pub fn print(out: io::Stdout, text: &[u8]) -> io::Result<()> {
+    out.write_all(text)
 }
 
-pub fn print_number(key: &[u8], n: u64) {
-    print(key);
-    io::print_decimal(STDOUT_FILENO, n);
+pub fn print_number(out: io::Stdout, key: &[u8], n: u64) -> io::Result<()> {
+    print(out, key)?;
+    print!(out; "{n}")
 }
 
-pub fn print_line(key: &[u8], n: u64) {
-    print_number(key, n);
-    print(b"\n");
+pub fn print_line(out: io::Stdout, key: &[u8], n: u64) -> io::Result<()> {
+    print_number(out, key, n)?;
+    print(out, b"\n")
 }
 
-pub fn print_bytes(key: &[u8], bytes: &[u8]) {
-    print(key);
+pub fn print_bytes(out: io::Stdout, key: &[u8], bytes: &[u8]) -> io::Result<()> {
+    print(out, key)?;
     let mut i = 0;
     while i < bytes.len() {
         let byte = bytes[i];
-        io::print_hex(STDOUT_FILENO, wide(byte), 2);
+        print!(out; "{byte:02x}")?;
         i += 1;
     }
-    print(b"\n");
+    print(out, b"\n")
 }
 
 pub fn wide(byte: u8) -> u64 {
@@ -31,7 +32,7 @@ pub fn wide(byte: u8) -> u64 {
 }
 
 // Byte 0 first, as a packet has them.
-pub fn print_doors(doors: u64) {
+pub fn print_doors(out: io::Stdout, doors: u64) -> io::Result<()> {
     let mut bytes = [0u8; 8];
     let mut rest = doors;
     let mut i = 0;
@@ -40,27 +41,28 @@ pub fn print_doors(doors: u64) {
         rest = rest / 256;
         i += 1;
     }
-    print_bytes(b"doors=", &bytes);
+    print_bytes(out, b"doors=", &bytes)
 }
 
 // A comma is before each but the first.
-fn print_member(first: bool, n: u64) {
+fn print_member(out: io::Stdout, first: bool, n: u64) -> io::Result<()> {
     if !first {
-        print(b",");
+        print(out, b",")?;
     }
-    io::print_decimal(STDOUT_FILENO, n);
+    print!(out; "{n}")
 }
 
 // The columns whose bits are set, lowest first.
-pub fn print_set(key: &[u8], set: u16) {
-    print(key);
+pub fn print_set(out: io::Stdout, key: &[u8], set: u16) -> io::Result<()> {
+    print(out, key)?;
     let mut first = true;
     let mut i: u64 = 0;
     while i < 16 {
         if (set >> i) % 2 == 1 {
-            print_member(first, i);
+            print_member(out, first, i)?;
             first = false;
         }
         i += 1;
     }
+    Ok(())
 }
