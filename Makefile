@@ -10,11 +10,11 @@ DESTDIR =
 VERSION = $(shell sed -n 's/^Version: //p' mudasgup.pc)
 TARGET =
 LIBRARY = $(if $(TARGET),target/machines/$(TARGET)/libmudasgup.a,target/libmudasgup.a)
-BUILT = target/staticlib/libfirmware.a
+BUILT = crates/firmware_c/out/libfirmware_c.a
 DIST = target/mudasgup-$(VERSION)$(if $(TARGET),-$(TARGET))
 EXAMPLES = $(wildcard examples/firmware/*.c examples/firmware/*.h) examples/firmware/Makefile
 BARE = $(wildcard examples/firmware/bare/*.c examples/firmware/bare/*.ld) examples/firmware/bare/Makefile
-CRATES = firmware $(shell sed -n 's/^firmware: //p' crates.txt)
+CRATES = firmware_c $(shell sed -n 's/^firmware_c staticlib: //p' crates.txt)
 SOURCES = $(foreach crate,$(CRATES),$(wildcard crates/$(crate)/src/*.rt))
 
 ifeq ($(TARGET),wasm32)
@@ -24,10 +24,12 @@ endif
 all: $(LIBRARY)
 
 target/libmudasgup.a: $(BUILT)
+	@mkdir -p target
 	cp $(BUILT) $@
 
 $(BUILT): $(SOURCES)
-	@tools/build.sh staticlib firmware 'five to six minutes'
+	@tools/build.sh lib firmware_c 'five to six minutes'
+	@touch $@
 
 target/machines/%/libmudasgup.a: $(BUILT)
 	tools/targets $*

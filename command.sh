@@ -44,16 +44,18 @@ has_sources() {
     [ -e "$folder/crates.txt" ]
 }
 
-program=$folder/target/bin/$crate
+program=$folder/crates/$crate/out/$crate
 if ! has_sources && [ -x "$folder/$crate" ]; then
     program=$folder/$crate
 fi
 
-# The folders of the program's crate and of those that it rests on; the kit's own have none.
+# What a check reads of the program's crate and of those that it rests on; the kit's own have no folder.
 crate_folders() {
-    local each
+    local each part
     for each in "$crate" $(sed -n "s/^$crate://p" crates.txt); do
-        [ ! -d "crates/$each" ] || echo "crates/$each"
+        for part in src specs proofs; do
+            [ ! -d "crates/$each/$part" ] || echo "crates/$each/$part"
+        done
     done
 }
 
@@ -66,8 +68,8 @@ build() {
     command -v rt >/dev/null || fail "$program is missing or older than its sources, and rt, which builds it, is not found"
     local began
     began=$(date +@%s.%N)
-    "$folder/tools/build.sh" check "$crate" "$takes" || fail "the build failed; its log is $log"
-    [ -x "$program" ] || fail "rt had nothing to prove, and there is no $program: remove $folder/target and run again"
+    "$folder/tools/build.sh" program "$crate" "$takes" || fail "the build failed; its log is $log"
+    [ -x "$program" ] || fail "rt built nothing, and there is no $program: remove $folder/crates/$crate/out and run again"
     # So that a source changed during the build is newer, and one that rt found unchanged is not.
     touch -d "$began" "$program"
 }

@@ -1,9 +1,8 @@
-"""The archive of `crates/firmware` for C, and what it exports."""
+"""The archive of `crates/firmware_c` for C, what it exports, and the sources of `crates/firmware`, which it calls."""
 import glob
 import os
 import re
 
-from machines.module import controls
 from machines.table import LIBRARY
 from repository import ROOT, read
 
@@ -13,20 +12,15 @@ ALONE = [PREFIX + name for name in ("tree_check", "column_fresh", "order", "take
 TYPES = {"usize": "uint64_t", "u8": "uint8_t", "u32": "uint32_t"}
 
 
-def archive():
-    """The archive, built where a source is newer than it."""
-    return controls(LIBRARY)
-
-
-def sources():
-    """The texts of the crate."""
-    return [read(path) for path in sorted(glob.glob(os.path.join(ROOT, "crates", "firmware", "src", "*.rt")))]
+def sources(crate="firmware"):
+    """The texts of a crate."""
+    return [read(path) for path in sorted(glob.glob(os.path.join(ROOT, "crates", crate, "src", "*.rt")))]
 
 
 def exported():
     """The C declaration of each function that the crate exports, by its name."""
     found = {}
-    for text in sources():
+    for text in sources(LIBRARY):
         for name, parameters, result in re.findall(r'pub extern "C" fn (\w+)\(([^)]*)\) -> (\w+)', text):
             words = []
             for parameter, kind in re.findall(r"(\w+): ([^,]+)", parameters):

@@ -5,7 +5,8 @@ import os
 import re
 import subprocess
 
-from archive import ALONE, archive, exported
+from archive import ALONE, exported
+from machines.module import archive
 from laps import COLD, COUNTED, COUNTED_FRAMES, STEPS
 from measure import FOLDER, Side, Work, compiled, run
 from repository import INCLUDE, ROOT

@@ -10,7 +10,7 @@ from repository import ROOT, parser, read
 
 FOLDERS = ("inner", "laws", "examples")
 WORD = re.compile(r"\[\]|[^\s(){}\[\];,.⌜⌝λ\"]+")
-CITED = re.compile(r"Rattle·(\w+)(?:·\w+)?\.specs\.(?!declared)(\S+?)(?:\.\{([^}]*)\})?(?: as (\S+))?$")
+CITED = re.compile(r"Rattle\.(?!std\b)(\w+)\.specs\.(?!declared)(\S+?)(?:\.\{([^}]*)\})?(?: as (\S+))?$")
 MARKS = ("abbrev", "unfoldable", "pub", "mutual")
 
 # A claim: what it is called, the statements that it makes, by crate and file, and the crates and modules whose public contracts it makes.
@@ -19,7 +19,7 @@ CLAIMS = (
     ("a step of the core", {}, ("column/step",)),
     ("a step of the bank", {"bank/Exact": ["Exact"]}, ("bank/bank", "bank/step")),
     ("a call from C", {}, ("firmware",)),
-    ("the script's text", {"script/Scripts": ["scriptText"], "script/Advances": ["start", "filledBy", "printedBy"]}, ("script/script",)),
+    ("the script's text", {"script/Scripts": ["script_text"], "script/Advances": ["start", "filled_by", "printed_by"]}, ("script/script",)),
     ("journals", {"agreement/Journals": ["JournalsAgree", "TextsAgree"]}, ("journals",)),
     ("fastest trees", {"fastest/Fastest": ["*"], "fastest/Formula": ["*"]}, ("fastest",)),
     ("losses", {"agreement/Losing": ["Losing"]}, ("losses",)),
@@ -28,7 +28,7 @@ CLAIMS = (
 OTHERS = {
     "agreement/Companions": ["*"], "agreement/Dispatching": ["*"], "agreement/Limits": ["*"], "agreement/Returning": ["*"], "bank/Strips": ["*"],
     "bank/Rest": ["*"], "bank/Apart": ["*"], "figure/Comparison": ["*"], "column/Trees": ["IsTree"], "column/Packets": ["occupied"],
-    "column/Frames": ["joined"], "firmware/Blocks": ["treeBytes"],
+    "column/Frames": ["joined"], "firmware/Blocks": ["tree_bytes"],
 }
 
 

@@ -19,7 +19,7 @@ def read(*parts):
 
 def crates():
     """The crates of crates.txt, each with those that it rests on; the kit's own among them have no folder."""
-    return {name: rest.split() for name, rest in re.findall(r"^(\w+):(.*)$", read("crates.txt"), re.M)}
+    return {name: rest.split() for name, rest in re.findall(r"^(\w+)(?: [^:\n]*)?:(.*)$", read("crates.txt"), re.M)}
 
 
 def examples():
@@ -27,9 +27,14 @@ def examples():
     return sorted(glob.glob(os.path.join(ROOT, "examples", "*.script")))
 
 
+def out(name, *parts):
+    """A path among what rt makes of a crate."""
+    return os.path.join(ROOT, "crates", name, "out", *parts)
+
+
 def built(name):
     """The path of a crate's program."""
-    return os.path.join(ROOT, "target", "bin", name)
+    return out(name, name)
 
 
 @contextlib.contextmanager

@@ -99,7 +99,7 @@ class JournalsRuns(commands.Journals):
         self.build()
         with open("/dev/full", "w", encoding="ascii") as full:
             self.assert_failed(self.run_command(self.file, self.other, stdout=full), "output was lost")
-        os.chmod(self.write(f"target/bin/{self.crates[-1]}", "#!/bin/sh\nkill -SEGV $$\n"), 0o755)
+        os.chmod(self.write(self.place, "#!/bin/sh\nkill -SEGV $$\n"), 0o755)
         self.assert_failed(self.run_command(self.file, self.other), "status 139")
 
     def test_a_program_that_is_missing_is_built(self):
@@ -124,10 +124,9 @@ class Together(commands.Command):
     """Two commands; the request's table goes from the one to the other."""
     def test_what_the_document_shows_of_the_fastest_tree(self):
         self.build()
-        for path in ("fastest", "target/bin/fastest_main"):
+        for path in ("fastest", "crates/fastest_main/out/fastest_main"):
+            os.makedirs(os.path.dirname(self.path(path)), exist_ok=True)
             shutil.copy(os.path.join(ROOT, path), self.path(path))
-        os.makedirs(self.path("crates", "fastest_main"))
-        self.age(self.path("crates", "fastest_main"), 1000)
         shown = BLOCK.findall(section(read("docs", "COMMANDS.md"), "The fastest tree"))
         self.assertEqual(len(shown), 4)
         for command, printed in zip(shown[::2], shown[1::2]):

@@ -87,7 +87,7 @@ class Explained:
 
     def test_a_copy_without_sources_runs_and_says_nothing(self):
         words = self.words(self.text)
-        for place in (".", "target/bin"):
+        for place in (".", f"crates/{self.crates[-1]}/out"):
             elsewhere = self.path("elsewhere", place.replace("/", "-"))
             os.makedirs(os.path.join(elsewhere, place), exist_ok=True)
             for part in (self.name, "command.sh", "explain.awk"):

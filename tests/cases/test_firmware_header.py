@@ -7,9 +7,11 @@ import tarfile
 import tempfile
 import unittest
 
-from archive import PREFIX, archive, exported, sources
+from archive import PREFIX, exported, sources
 from cases.test_firmware import REFUSALS
 from helpers import firmware
+from machines.module import archive
+from machines.table import LIBRARY
 from repository import INCLUDE, ROOT, read, version
 
 WIDTH = 100
@@ -64,7 +66,7 @@ class Header(unittest.TestCase):
     def test_no_export_answers_less_than_64_bits(self):
         exports = re.findall(r"^(\w+)\s+mudasgup_raw_\w+\([^;]*\);", self.header, re.M)
         self.assertEqual(set(exports), {"uint64_t"})
-        results = [result for text in sources() for result in re.findall(r'extern "C" fn \w+\([^)]*\)(?: -> (\w+))?', text)]
+        results = [result for text in sources(LIBRARY) for result in re.findall(r'extern "C" fn \w+\([^)]*\)(?: -> (\w+))?', text)]
         self.assertEqual((set(results), len(results)), ({"usize"}, len(exports)))
         self.assertNotIn("size_t", re.sub(r"uint64_t", "", "".join(re.findall(r"^uint64_t mudasgup_raw_\w+\([^;]*\);", self.raw, re.M))))
 

@@ -7,10 +7,10 @@ import tempfile
 import unittest
 
 from helpers import firmware
-from repository import INCLUDE, ROOT, read
+from repository import INCLUDE, ROOT, built, read
 
 BANKS = 50
-FITTER = os.path.join(ROOT, "target", "bin", "journals_main")
+FITTER = built("journals_main")
 # The sources of a bank of processes.
 BANK = re.search(r"^BANK = (.*)$", read("examples", "firmware", "Makefile"), re.M)[1].split()
 LISTED = "column={} number={} occupied={} doors={} \n"

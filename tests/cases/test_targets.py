@@ -14,7 +14,7 @@ from machines import build, kit
 from machines.module import module, neutral
 from machines.table import CONTROL, LIBRARY, MACHINES, PROGRAMS, WASM
 from replay.libraries import changed
-from repository import ROOT, examples
+from repository import ROOT, examples, out
 
 TOOL = os.path.join(ROOT, "tools", "targets")
 BENCH = os.path.join(ROOT, "bench", "machines")
@@ -43,13 +43,13 @@ class Targets(unittest.TestCase):
     def test_every_machine_has_its_archive_after_the_control(self):
         self.assertEqual((self.done.returncode, self.done.stderr), (0, ""))
         for crate in (LIBRARY, *PROGRAMS.values()):
-            self.assertIn(f"{crate}: for x86-64 as rt makes it, byte for byte\n", self.done.stdout)
+            self.assertIn(f"{crate}: for x86-64 as the kit makes it, byte for byte\n", self.done.stdout)
         self.assertEqual(set(KINDS) | {WASM.name}, set(MACHINES))
         for name, kind in KINDS.items():
             made = data(self.folder.name, name, "libmudasgup.a")
             self.assertTrue(made.startswith(ARCHIVE), name)
             self.assertEqual(made[made.index(ELF) + 18], kind, name)
-        self.assertEqual(data(self.folder.name, CONTROL.name, "libmudasgup.a"), data(ROOT, "target", "staticlib", "libfirmware.a"))
+        self.assertEqual(data(self.folder.name, CONTROL.name, "libmudasgup.a"), data(out(LIBRARY, f"lib{LIBRARY}.a")))
 
     def test_every_program_for_webassembly_prints_what_the_native_one_prints(self):
         programs = os.path.join(self.folder.name, WASM.name)
@@ -80,7 +80,7 @@ class Targets(unittest.TestCase):
         make, measured = (runpy.run_path(path)[name] for path, name in ((TOOL, "make"), (BENCH, "measured")))
         with tempfile.TemporaryDirectory() as folder, mock.patch.multiple(build, module_of=mock.DEFAULT, control=lambda *given: False):
             for refused in (lambda: make([CONTROL.name], folder), lambda: measured([CONTROL.name])):
-                with contextlib.redirect_stdout(io.StringIO()) as said, self.assertRaisesRegex(kit.Failed, f"^{LIBRARY}: for x86-64 this is not what rt makes"):
+                with contextlib.redirect_stdout(io.StringIO()) as said, self.assertRaisesRegex(kit.Failed, f"^{LIBRARY}: for x86-64 this is not what the kit makes"):
                     refused()
                 self.assertEqual(said.getvalue(), "")
             self.assertEqual(os.listdir(folder), [])

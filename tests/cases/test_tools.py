@@ -10,7 +10,7 @@ import unittest
 import unittest.mock
 
 import point_times
-from helpers.commands import below, said_of
+from helpers.commands import below, line_of, said_of
 from repository import ROOT, read, version
 
 FOLDERS = ("tools", "bench", "tests", "tests/mutants", "tests/outside_the_gate", ".ci")
@@ -48,7 +48,7 @@ class Tools(unittest.TestCase):
     def test_words_that_are_missing_or_wrong_are_reported(self):
         for path, *words in (("tools/picture.py",), ("tools/script_journals.py", "one"), ("tools/losses_picture.py",), ("tools/losses_picture.py", "p.svg", "bush"),
                              ("tools/losses_picture.py", "p.svg", "bush=missing"), ("tests/mutants/run", "nothing"), ("tests/mutants/run", "column", "nothing"), ("tests/mutants/pick", "2", "1", "nothing"),
-                             ("tests/run.py", "test_nothing"), ("tests/outside_the_gate/seeds.py",), ("tests/outside_the_gate/script_seeds.py", "one"), ("tests/outside_the_gate/script_seeds.py", "2-1"), ("tests/outside_the_gate/sanitized_banks.py", "0"), ("tools/build.sh", "check"),
+                             ("tests/run.py", "test_nothing"), ("tests/outside_the_gate/seeds.py",), ("tests/outside_the_gate/script_seeds.py", "one"), ("tests/outside_the_gate/script_seeds.py", "2-1"), ("tests/outside_the_gate/sanitized_banks.py", "0"), ("tools/build.sh", "lib"), ("tools/build.sh", "check", "column", "minutes"),
                              ("tools/point_times.py", "14")):
             done = called(path, *words)
             self.assertEqual((done.stdout, done.returncode), ("", 2), path)
@@ -66,17 +66,17 @@ class Tools(unittest.TestCase):
             for path in ("Makefile", "crates.txt", "mudasgup.pc", "tools/build.sh"):
                 os.makedirs(os.path.join(folder, os.path.dirname(path)), exist_ok=True)
                 shutil.copy(os.path.join(ROOT, path), os.path.join(folder, path))
-            for crate in ("firmware", *below("firmware")):
+            for crate in ("firmware_c", *below("firmware_c")):
                 os.makedirs(os.path.join(folder, "crates", crate))
             rt = os.path.join(folder, "rt")
             with open(rt, "w", encoding="ascii") as file:
-                file.write("#!/bin/sh\necho \"$*\" >called\necho 'rt: column proved (9 s)'\nmkdir -p target/staticlib && touch target/staticlib/libfirmware.a\n")
+                file.write(f"#!/bin/sh\necho \"$*\" >called\necho '{line_of('column').strip()}'\nmkdir -p out && touch out/libfirmware_c.a\n")
             os.chmod(rt, 0o755)
             done = subprocess.run(["make"], cwd=folder, capture_output=True, text=True, env={**os.environ, "PATH": f"{folder}:{os.environ['PATH']}"})
             self.assertEqual(done.returncode, 0, done.stderr)
             self.assertTrue(os.path.exists(os.path.join(folder, "target", "libmudasgup.a")))
-            self.assertEqual(read(os.path.join(folder, "called")), "staticlib firmware\n")
-        self.assertEqual(done.stderr, said_of("firmware", [("column", "rt: column proved (9 s)")]).replace("MINUTES", "five to six minutes"))
+            self.assertEqual(read(os.path.join(folder, "crates", "firmware_c", "called")), "lib --cpu x86-64\n")
+        self.assertEqual(done.stderr, said_of("firmware_c", ["column"]).replace("MINUTES", "five to six minutes"))
 
     def test_make_has_a_help(self):
         done = subprocess.run(["make", "help"], cwd=ROOT, capture_output=True, text=True)

@@ -10,7 +10,7 @@ import tempfile
 import unittest
 
 from helpers.programs import failing
-from repository import ROOT, crates, read
+from repository import ROOT, built, crates, read
 
 TOOLS = ("awk", "bash", "cat", "cp", "date", "dirname", "find", "grep", "head", "mkdir", "mktemp", "python3", "readlink", "rm", "sed", "sleep", "tee", "touch", "wc")
 
@@ -20,15 +20,18 @@ def below(crate):
     return [name for name in reversed(crates()[crate]) if os.path.isdir(os.path.join(ROOT, "crates", name))]
 
 
-def said_of(program, lines):
-    """What a build says: before it begins what is at work, and after each line of a crate what is at work then."""
-    left, said = [*below(program), program], []
-    for crate, line in [(None, f"build: {program} is proved and built first, which may take MINUTES; later runs answer at once"), *lines]:
-        left = [one for one in left if one != crate]
-        ready = [one for one in left if not set(below(one)) & set(left)]
-        later = " ".join(one for one in left if one not in ready)
-        said += [line, *([f"build: at work: {' '.join(ready)}{'; then: ' if later else ''}{later}"] if left else [])]
+def said_of(program, begun):
+    """What a build says: before it begins how long it may take, and of each crate that is begun which come after it."""
+    left, said = [*below(program), program], [f"build: {program} is proved and built first, which may take MINUTES; later runs answer at once"]
+    for crate in begun:
+        left.remove(crate)
+        said.append(f"build: at work: {crate}{'; then: ' if left else ''}{' '.join(left)}")
     return "".join(f"{line}\n" for line in said)
+
+
+def line_of(crate):
+    """What rt prints where it begins a crate."""
+    return f"rt: chose --jobs 2 for {crate}\n"
 
 
 def crates_of(program):
@@ -48,15 +51,15 @@ class Command(unittest.TestCase):
         self.addCleanup(temporary.cleanup)
         self.folder = os.path.join(os.path.realpath(temporary.name), "a folder")
         self.crates = crates_of(f"{self.name}_main")
-        self.program = self.path("target", "bin", self.crates[-1])
+        self.place = f"crates/{self.crates[-1]}/out/{self.crates[-1]}"
+        self.program = self.path(self.place)
         self.sources = ["crates.txt"] + [f"crates/{crate}/src/main.rt" for crate in self.crates]
-        proved = [(crate, f"rt: {crate} proved (9 s)") for crate in self.crates]
         self.minutes = re.search(r"^takes='(.*)'$", read(self.name), re.M)[1]
-        self.progress = said_of(self.crates[-1], proved).replace("MINUTES", self.minutes)
-        printed = "".join(f"{line}\n" for _, line in proved)
-        self.said = f"fn column::order: proved\n{printed}rt: {self.crates[-1]} ran, and wrote what its file 'stdout' has (0 s)\nrt: ok, 5 crates proved\n"
-        self.builds = f'cp "$here/built" "$here/target/bin/{self.crates[-1]}"'
-        for folder in ["tools", "target/bin"] + [os.path.dirname(source) for source in self.sources]:
+        self.progress = said_of(self.crates[-1], self.crates).replace("MINUTES", self.minutes)
+        printed = "".join(f"{line_of(crate)}fn {crate}::order: proved\n" for crate in self.crates)
+        self.said = f"{printed}rt: running out/{self.crates[-1]}; to give it other input, run that file yourself\n"
+        self.builds = f'cp "$here/built" "$here/{self.place}"'
+        for folder in ["tools", os.path.dirname(self.place)] + [os.path.dirname(source) for source in self.sources]:
             os.makedirs(self.path(folder), exist_ok=True)
         for tool in TOOLS:
             os.symlink(shutil.which(tool), self.path("tools", tool))
@@ -65,7 +68,7 @@ class Command(unittest.TestCase):
         self.file = self.write("given", self.text)
         for part in (self.name, "command.sh", "explain.awk", "crates.txt", "tools/build.sh"):
             shutil.copy(os.path.join(ROOT, part), self.path(part))
-        shutil.copy(os.path.join(ROOT, "target", "bin", self.crates[-1]), self.path("built"))
+        shutil.copy(built(self.crates[-1]), self.path("built"))
 
     def path(self, *parts):
         return os.path.join(self.folder, *parts)
@@ -92,7 +95,7 @@ class Command(unittest.TestCase):
         said, does = self.said if said is None else said, self.builds if does is None else does
         rt = self.write("tools/rt", f"#!/bin/sh\nhere='{self.folder}'\n(pwd; echo \"$*\"; cat) >>\"$here/calls\"\ncat <<'END'\n{said}END\n{does}\n")
         os.chmod(rt, 0o755)
-        self.called = f"{self.folder}\ncheck {self.crates[-1]}\n"
+        self.called = f"{os.path.dirname(os.path.dirname(self.program))}\nrun\n"
 
     def calls(self):
         return read(self.path("calls")) if os.path.exists(self.path("calls")) else ""
@@ -203,7 +206,7 @@ class Runs:
             self.assertNotEqual(self.run_command("--help", stdout=full).returncode, 0)
 
     def test_a_program_that_is_ended_is_reported(self):
-        os.chmod(self.write(f"target/bin/{self.crates[-1]}", "#!/bin/sh\nkill -SEGV $$\n"), 0o755)
+        os.chmod(self.write(self.place, "#!/bin/sh\nkill -SEGV $$\n"), 0o755)
         self.assert_failed(self.run_command(self.file), "status 139")
 
     def assert_help_has_the_example(self, *words):
@@ -253,14 +256,14 @@ class Builds:
             self.assert_answered(self.run_command(self.file), said=self.progress)
 
     def test_a_build_that_fails_names_its_log_and_runs_nothing(self):
-        lines = [("column", "rt: column proved (9 s)"), ("bank", "rt: bank NOT PROVED (exit 1, 3 s)")]
-        refused = "".join(f"{line}\n" for _, line in lines)
-        progress = said_of(self.crates[-1], lines).replace("MINUTES", self.minutes)
+        begun = self.crates[:2]
+        refused = "".join(map(line_of, begun))
+        progress = said_of(self.crates[-1], begun).replace("MINUTES", self.minutes)
         for built in (False, True):
             if built:
                 self.build()
                 self.age(self.path("crates.txt"), 3000)
-            self.stand_in(does="exit 1", said=f"error: not so\n{refused}rt: FAILED: bank\n")
+            self.stand_in(does="exit 1", said=f"{refused}error: not so\n")
             done = self.run_command(self.file)
             self.assert_failed(done, "the build failed")
             self.assertTrue(done.stderr.startswith(f"{progress}{self.name}: "), done.stderr)

@@ -1,9 +1,10 @@
-"""The archive of `crates/firmware` as a shared object, programs of the examples, and calls with memory lent between guards."""
+"""The archive of `crates/firmware_c` as a shared object, programs of the examples, and calls with memory lent between guards."""
 import ctypes
 import os
 import subprocess
 
-from archive import PREFIX, archive
+from archive import PREFIX
+from machines.module import archive
 from repository import INCLUDE, ROOT
 
 EXAMPLES = os.path.join(ROOT, "examples", "firmware")

@@ -4,7 +4,7 @@ answers alike, and times measured.
 
     python3 tests/outside_the_gate/page_in_browser.py [--pictures FOLDER]
 
-Needs Debian's chromium (or another of its kind) and the built programs of target/bin; where the browser is missing, it says so and the status is 1. With
+Needs Debian's chromium (or another of its kind) and the built programs; where the browser is missing, it says so and the status is 1. With
 --pictures what is seen is kept, for a person to look at: wide, a phone's width, dark, on paper, 16 columns with 200 steps. It does not run other browsers
 than that one, no screen reader, and no finger on glass."""
 import os

@@ -48,7 +48,7 @@ def archived(object_file, name):
 
 
 def control(module, folder):
-    """Whether the module compiled for x86-64 is, byte for byte, what `rt` made of the crate."""
+    """Whether the module compiled for x86-64 is, byte for byte, what the kit made of the crate."""
     made = compiled(module, CONTROL, folder)
     if is_library(module.crate):
         made = archived(made, f"lib{module.crate}.a")
@@ -60,7 +60,7 @@ def controlled(crate, folder):
     """The module of a crate, after the control; one that differs says nothing of what is proved, and is refused."""
     module = module_of(crate)
     if not control(module, folder):
-        raise kit.Failed(f"{crate}: for x86-64 this is not what rt makes, so nothing is made")
+        raise kit.Failed(f"{crate}: for x86-64 this is not what the kit makes, so nothing is made")
     return module
 
 

@@ -2,16 +2,17 @@
 import collections
 import os
 import re
-import subprocess
+import shutil
 import tempfile
 
 from machines import kit
-from machines.table import CONTROL, LIBRARY
-from repository import ROOT, alone, read
+from machines.table import CONTROL, CPU, LIBRARY
+from repository import ROOT, alone, out, read
 
 # A module's text without the words that name x86-64, and the words that the kit's clang was called with.
 Module = collections.namedtuple("Module", "crate text words")
 KEPT = os.path.join(ROOT, "target", "machines", "modules")
+FILES = ("words", "module.bc", "made")
 CLANG = """#!/bin/sh
 printf '%s\\n' "$@" >'{folder}/words'
 for word in "$@"; do case $word in *.bc) cp "$word" '{folder}/module.bc' ;; esac; done
@@ -26,17 +27,38 @@ def is_library(crate):
     return crate == LIBRARY
 
 
-def controls(crate):
-    """The file that `rt` makes of the crate for x86-64, proved and made where a source is newer."""
-    name = os.path.join("staticlib", f"lib{crate}.a") if is_library(crate) else os.path.join("obj", f"{crate}.o")
-    path = os.path.join(ROOT, "target", name)
+def crate_words(crate):
+    """What `rt` says to `rattle` of the library or of a program, for every processor of x86-64."""
+    return [*kit.crate_words(crate, "lib.rt" if is_library(crate) else "main.rt"), *(["--crate-type", "staticlib"] if is_library(crate) else []), "--cpu", CPU]
+
+
+def prove(crate):
+    """Has rt prove and build a crate and the libraries below it."""
+    kit.proved("lib" if is_library(crate) else "program", crate)
+
+
+def stands(crate):
+    """Whether every library below a crate is proved and newer than its sources, as `rt ci` leaves them too."""
+    return all(kit.is_newer(kit.library(each), each) for each in kit.below(crate))
+
+
+def archive():
+    """The library's archive that `rt` makes for x86-64, proved and made where a source is newer."""
+    path = out(LIBRARY, f"lib{LIBRARY}.a")
     with alone():
-        if not os.path.exists(path) or os.path.getmtime(path) < max(map(os.path.getmtime, kit.sources(crate))):
-            done = subprocess.run(["rt", "staticlib" if is_library(crate) else "check", crate], cwd=ROOT, capture_output=True, text=True)
-            if done.returncode:
-                raise kit.Failed(f"{crate} is not proved: {done.stdout[-500:]}{done.stderr[-500:]}")
+        if not kit.is_newer(path, LIBRARY):
+            if stands(LIBRARY):
+                os.makedirs(os.path.dirname(path), exist_ok=True)
+                kit.rattle("build", LIBRARY, *crate_words(LIBRARY), *kit.logic(), "--toolchain", kit.own("toolchain"), "-o", path)
+            else:
+                prove(LIBRARY)
             os.utime(path)
     return path
+
+
+def controls(crate):
+    """What the kit makes of the crate for x86-64: the library's archive, or the object of a program whose module is kept."""
+    return archive() if is_library(crate) else os.path.join(KEPT, crate, "made")
 
 
 def toolchain(folder):
@@ -54,28 +76,28 @@ def toolchain(folder):
 
 
 def keep(crate):
-    """Proves the crate once more, and keeps the module that is built from it."""
+    """Proves the crate once more, over the libraries below it, and keeps the module that is built from it."""
+    if not stands(crate):
+        prove(crate)
     with tempfile.TemporaryDirectory() as folder:
-        words = kit.crate_words(crate, "lib.rt" if is_library(crate) else "main.rt")
-        words += ["--toolchain", toolchain(folder), *(["--crate-type", "staticlib"] if is_library(crate) else []), "-o", os.path.join(folder, "made")]
-        done = subprocess.run([kit.own("bin", "rattle"), "build", *words], stdout=subprocess.PIPE, stderr=subprocess.STDOUT, text=True)
-        if done.returncode or "\nlogic=proved " not in done.stdout:
-            raise kit.Failed(f"{crate} is not proved: {done.stdout[-500:]}")
+        checked, made = os.path.join(folder, "checked"), os.path.join(folder, "made")
+        kit.rattle("check", crate, *crate_words(crate), *kit.logic(), "-o", checked)
+        for tools in (toolchain(folder), kit.own("toolchain")):
+            kit.rattle("build", crate, *crate_words(crate), "--crate-checked", checked, "--toolchain", tools, "-o", made)
         os.makedirs(os.path.join(KEPT, crate), exist_ok=True)
-        for name in ("words", "module.bc"):
-            os.replace(os.path.join(folder, name), os.path.join(KEPT, crate, name))
+        for name in FILES:
+            shutil.move(os.path.join(folder, name), os.path.join(KEPT, crate, name))
 
 
 def is_kept(crate):
     """Whether the module is newer than every source."""
-    paths = [os.path.join(KEPT, crate, name) for name in ("words", "module.bc")]
-    return all(map(os.path.exists, paths)) and min(map(os.path.getmtime, paths)) > max(map(os.path.getmtime, kit.sources(crate)))
+    return all(kit.is_newer(os.path.join(KEPT, crate, name), crate) for name in FILES)
 
 
 def neutral(text):
     """The text of a module without the layout, the triple and the processor of x86-64."""
     rest, cut = HEAD.subn("", text)
-    rest = rest.replace(' "target-cpu"="x86-64"', "")
+    rest = rest.replace(f' "target-cpu"="{CPU}"', "")
     bound = BOUND.search(rest)
     if cut != 2 or bound:
         raise kit.Failed(f"the module is bound to x86-64: {bound and bound[0]!r}, {cut} lines of its head")

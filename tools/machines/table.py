@@ -20,7 +20,9 @@ MACHINES = {machine.name: machine for machine in (
 )}
 CONTROL = MACHINES["x86_64"]
 WASM = MACHINES["wasm32"]
-LIBRARY = "firmware"
+# The processor that a module is made for: every one of x86-64.
+CPU = "x86-64"
+LIBRARY = "firmware_c"
 PROGRAMS = {name: f"{name}_main" for name in ("lockers", "fastest", "losses", "journals")}
 # The stack of a WebAssembly program; it lies lowest, so that to run past it is a trap.
 STACK = 1 << 20
