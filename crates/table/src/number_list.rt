@@ -3,9 +3,9 @@ ghost use Rattle.std.specs.Prelude.{◌^◌, ◌<◌, ◌≡◌};
 ghost use Rattle.text.specs.Pieces.{numbers, pieces, numerals};
 ghost use Rattle.table.specs.inner.NumberLists.{with_one, line_meant, held};
 
-use text::search::find;
 use column::tree::ASCENDING;
 use text::reading::{Number, read_numeral, starts_with};
+use text::search::find;
 
 // The numbers of a line: how many, and the first sixteen.
 #[derive(Clone, Copy)]

@@ -7,11 +7,11 @@ ghost use Rattle.table.specs.inner.HeldTables.{sequence_meant, held_from, watch_
 
 use crate::number_list::{NO_LIST, NumberList, numbers_of};
 use bank::bank::Answer;
-use text::search::find;
 use column::precedence::{earlier, refuse_if};
 use column::topology::tree_refusal;
 use column::tree::{ASCENDING, Tree};
 use text::reading::{Number, read_keyed, starts_with};
+use text::search::find;
 use text::three_lines::{LineEnds, find_three_lines};
 
 // The longest input of a program that is given a table.

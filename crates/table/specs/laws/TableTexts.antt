@@ -7,7 +7,6 @@ use Rattle.std.proofs.Math.ListN.{length-append}
 use Rattle.column.specs.laws.Cases.{truth, and_left, and_right}
 use Rattle.column.specs.Trees.{every, ascending, tree_by, IsTree}
 use Rattle.column.specs.laws.TreeLaws.{every_at, check_exact}
-use Rattle.column.specs.Refusals.{first}
 use Rattle.column.specs.declared.tree.Tree.{Tree}
 use Rattle.text.specs.Text.{columns_key, root_key, up_key, first_key, watch_key, newline, comma, decimal_in, decimal, Reading, read, unread, all_digits, value_from, leading_zero, numeral, starts_with, after_key, more_divided, divided}
 use Rattle.text.specs.laws.DividedLaws.{Columns, columns_taken}

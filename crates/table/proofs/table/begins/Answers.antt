@@ -3,18 +3,13 @@ use mathlib.Core.Path.{◌≡◌, ap, ◌∙◌}
 use native.Mathlib.Omega.{arith}
 use lib.ListN.{length, drop, length-drop}
 use lib.Seq.{take_all}
-use borrow.Author.Rules.{rules}
 use Rattle.text.specs.Text.{starts_with}
-use Rattle.table.proofs.table.begins.Statement.{statement}
-use Rattle.table.proofs.table.begins.Tie as tie
+use Rattle.table.proofs.table.begins.Goals as goal
 
 -- the rest of the input is looked at whole
-returns : tie.Need-returns
+pub returns : goal.returns
 returns c =
-    let a = c.before.before.before.before.args in
+    let a = c.args in
     let s = a.input.now in
     let n : length (drop a.at s) ≡ length s - a.at = length-drop a.at s in
     c.starts_with.ensures ∙ ap (starts_with a.key.now) (take_all (length s - a.at) (drop a.at s) (omega arith))
-
-pub begins-spec : {M : Type 1} → statement M
-begins-spec = tie.close (tie.spec (search rules) (search rules) (search rules) (search rules) returns)
