@@ -7,8 +7,8 @@ use Rattle.column.specs.declared.page.Byte.{Byte}
 use Rattle.bank.specs.Banks.{State, state, column_at, acting_refusal}
 use Rattle.bank.specs.Steps.{Result, accepted, unless, with_column}
 use Rattle.bank.specs.declared.bank.Bank.{Bank}
-use Rattle.bank.specs.declared.page.InterruptLine.{InterruptLine}
-use Rattle.bank.specs.declared.page.InterruptLine.TheVariants.{Is, Refused}
+use Rattle.bank.specs.declared.page.Line.{Line}
+use Rattle.bank.specs.declared.page.Line.TheVariants.{Is, Refused}
 
 -- ---- a byte read: "22 for an offset above 7 .., after 4"
 
@@ -34,13 +34,13 @@ write s i offset value =
 
 -- ---- the line of a column
 
--- the values of each case of `InterruptLine`
-abbrev pub line_meant : InterruptLine → Given Bool
+-- the values of each case of `Line`
+abbrev pub line_meant : Line → Given Bool
 line_meant (Is up) = given up
 line_meant (Refused n) = refused n
 
 abbrev pub line_up : State → ℕ → Given Bool
 line_up s i = given_unless (acting_refusal s i) (core.line_up (column_at s.bank i))
 
-abbrev pub TellsLine : InterruptLine → Bank → List ℕ → ℕ → Type 0
+abbrev pub TellsLine : Line → Bank → List ℕ → ℕ → Type 0
 TellsLine r b heads i = (doors : List ℕ) → line_meant r ≡ line_up (state b heads doors) i

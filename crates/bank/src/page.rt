@@ -10,7 +10,7 @@ use column::page::{Byte, writable, written};
 use column::precedence::refuse_if;
 
 #[derive(Clone, Copy)]
-pub enum InterruptLine {
+pub enum Line {
     Is(bool),
     Refused(u8),
 }
@@ -45,13 +45,13 @@ pub(crate) fn write_byte(b: Bank, i: usize, offset: usize, value: u8, heads: &Wo
 }
 
 // Whether the line of column i is up; or 2 to 4.
-pub fn line_up(b: Bank, i: usize, heads: &Words) -> InterruptLine
+pub fn line_up(b: Bank, i: usize, heads: &Words) -> Line
     ensures { TellsLine result b heads.now i }
 {
     let n = acting_refusal(b, i, heads);
     if n != 0 {
-        return InterruptLine::Refused(n);
+        return Line::Refused(n);
     }
     let up = column::page::line_up(column_at(b, i));
-    InterruptLine::Is(up)
+    Line::Is(up)
 }

@@ -1,6 +1,6 @@
 // The parts of a line.
 use bank::bank::Answer;
-use bank::page::InterruptLine;
+use bank::page::Line;
 use column::page::Byte;
 use std::io;
 
@@ -30,16 +30,16 @@ pub fn print_byte(out: io::Stdout, key: &[u8], byte: Byte) -> io::Result<()> {
     Ok(())
 }
 
-pub fn print_line(out: io::Stdout, line: InterruptLine) -> io::Result<()> {
+pub fn print_line(out: io::Stdout, line: Line) -> io::Result<()> {
     match line {
-        InterruptLine::Is(up) => {
+        Line::Is(up) => {
             if up {
                 print(out, b"line=up\n")?;
             } else {
                 print(out, b"line=down\n")?;
             }
         }
-        InterruptLine::Refused(n) => print_number(out, b"refused=", n as u64)?,
+        Line::Refused(n) => print_number(out, b"refused=", n as u64)?,
     }
     Ok(())
 }

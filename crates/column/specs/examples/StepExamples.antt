@@ -244,6 +244,10 @@ unfolding note_effect
 note_other = refl
 
 -- a halted column keeps its record, sets, those noted and goal
-halt_keeps : halt_effect (sent_by 2 (column true 5 2 1 3 true)) ≡ accepted (sent_by 2 (column false 5 2 1 3 true)) [] false
+halt_keeps : halt_effect (column true 4 2 1 4 true) ≡ accepted (column false 4 2 1 4 true) [] false
 unfolding halt_effect
 halt_keeps = refl
+
+halt_keeps_sender : halt_effect (sent_by 2 (column true 5 2 1 3 true)) ≡ accepted (sent_by 2 (column false 5 2 1 3 true)) [] false
+unfolding halt_effect
+halt_keeps_sender = refl
