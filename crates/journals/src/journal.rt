@@ -7,8 +7,8 @@ ghost use Rattle.journals.specs.inner.ReadJournals.{IsRead};
 
 use crate::line::{JOURNAL, LineAnswer, read_line};
 use crate::word::key_of;
-use text::search::find;
 use text::reading::{Number, read_keyed};
+use text::search::find;
 
 // The bytes of the shortest line, `got=1,0,0`, with its byte 10.
 const SHORTEST: usize = 10;

@@ -4,9 +4,9 @@ ghost use Rattle.text.specs.Text.{read};
 ghost use Rattle.text.specs.Pieces.{pieces};
 ghost use Rattle.journals.specs.Journals.{line_meant, line_judged, line_pieces, line_of};
 
-use text::search::find;
 use column::packet::HIGHEST;
 use text::reading::{Number, read_numeral, starts_with};
+use text::search::find;
 
 // The bytes that a journal has at most.
 pub const JOURNAL: usize = 32768;

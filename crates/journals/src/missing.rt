@@ -6,7 +6,7 @@ ghost use Rattle.journals.specs.inner.JournalKeys.{lines_limit};
 ghost use Rattle.journals.specs.inner.MissingTexts.{missed_length, text_from, Walked};
 
 use crate::index::missed_one;
-use bytes::copy;
+use text::writing::put_all;
 
 fn counted(missed: bool, n: usize) -> usize
     ensures { (result ≡ cond missed n 0) × (result ≤ n) }
@@ -46,8 +46,7 @@ fn put_piece(out: &mut [u8], at: usize, missed: bool, part: &[u8]) -> usize
     if !missed {
         return at;
     }
-    let size = copy(part, &mut out[at..]);
-    at + size
+    put_all(out, at, part)
 }
 
 // The lines of a text that a sent to b and b never got, as they are, written from a place on; answers the place after them.

@@ -3,7 +3,7 @@ use Rattle.std.specs.Prelude.{ℕ, ◌+◌, ◌≤◌, Bool, not, ◌&&◌, cond
 use Rattle.column.specs.Refusals.{Given, given, refused}
 use Rattle.journals.specs.inner.Chains.{among}
 use Rattle.journals.specs.inner.LineWords.{way_number, about_key, turned, key_of}
-use Rattle.journals.specs.Journals.{line, Entry, entries_in}
+use Rattle.journals.specs.Journals.{Entry, entries_in}
 use Rattle.journals.specs.inner.JournalKeys.{keys_of, sizes_of}
 use Rattle.journals.specs.declared.line.Way.TheVariants.{Sent, Got}
 

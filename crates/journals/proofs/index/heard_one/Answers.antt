@@ -1,0 +1,10 @@
+use mathlib.Core.Path.{sym, ap, ◌∙◌}
+use borrow.Author.Tests.{not-true, not-false}
+use Rattle.journals.specs.inner.Chains.{among}
+use Rattle.journals.proofs.index.heard_one.Goals as goal
+
+pub returns-then-not-about : goal.returns-then-not-about
+returns-then-not-about c = rw (sym c.about.ensures ∙ not-true c.about.result c.if-not-about.true-raw)
+
+pub returns : goal.returns
+returns c = rw (sym c.about.ensures ∙ not-false c.about.result c.if-not-about.false-raw) (c.has.ensures ∙ ap (among _ _) c.turn.ensures)
