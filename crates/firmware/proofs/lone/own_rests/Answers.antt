@@ -8,21 +8,14 @@ use Rattle.firmware.specs.inner.StepCalls.{acknowledges}
 use Rattle.firmware.specs.laws.LoneLaws.{rest_halted, rest_sends, rest_acknowledges, rest_root, rest_watched, rest_noted}
 use borrow.Author.Rules.{rules}
 use Rattle.firmware.proofs.lone.own_rests.Goals as goal
-use Rattle.firmware.proofs.lone.own_rests.Goals.{Else-acknowledges, Start}
+use Rattle.firmware.proofs.lone.own_rests.Goals.{Else-acknowledges}
 
 -- what is known once a column runs, is to send to nobody and acknowledges to nobody
-module _ (e : Else-acknowledges) where
-  abbrev start : Start
-  start = e.before.before.before.before.before.before
+sends_none : (e : Else-acknowledges) → eqb e.args.c.send 0 ≡ true
+sends_none e = eq-eqb e.args.c.send 0 e.if-c-ne0.false
 
-  runs : start.args.c.running ≡ true
-  runs = not-false _ e.if-not-c.left
-
-  sends_none : eqb start.args.c.send 0 ≡ true
-  sends_none = eq-eqb start.args.c.send 0 e.if-c-ne0.left
-
-  acknowledges_none : acknowledges start.args.t start.args.i start.args.c ≡ false
-  acknowledges_none = sym e.acknowledges.ensures ∙ e.if-acknowledges.left
+acknowledges_none : (e : Else-acknowledges) → acknowledges e.args.t e.args.i e.args.c ≡ false
+acknowledges_none e = sym e.acknowledges.ensures ∙ e.if-acknowledges.false
 
 pub returns-then-not-c : goal.returns-then-not-c
 returns-then-not-c c =
@@ -41,17 +34,20 @@ returns-then-acknowledges c =
 
 pub returns-then-i-t : goal.returns-then-i-t
 returns-then-i-t c =
-    let a = (start (goal.at.returns-then-i-t c).Else-acknowledges).args in
-    sym (rest_root a.t a.i a.c (runs (goal.at.returns-then-i-t c).Else-acknowledges) (sends_none (goal.at.returns-then-i-t c).Else-acknowledges) (acknowledges_none (goal.at.returns-then-i-t c).Else-acknowledges) (eq-eqb a.i a.t.root c.if-i-t.true))
+    let a = c.args in
+    let e = (goal.at.returns-then-i-t c).Else-acknowledges in
+    sym (rest_root a.t a.i a.c (not-false c.args.c.running c.if-not-c.false) (sends_none e) (acknowledges_none e) (eq-eqb a.i a.t.root c.if-i-t.true))
 
 pub returns-then-not-has : goal.returns-then-not-has
 returns-then-not-has c =
-    let a = (start (goal.at.returns-then-not-has c).Else-acknowledges).args in
+    let a = c.args in
+    let e = (goal.at.returns-then-not-has c).Else-acknowledges in
     let none : has a.c.noted (watched a.t a.c) ≡ false = rw c.watched.ensures at (sym c.has.ensures ∙ not-true _ c.if-not-has.true-raw) in
-    sym (rest_watched a.t a.i a.c (runs (goal.at.returns-then-not-has c).Else-acknowledges) (sends_none (goal.at.returns-then-not-has c).Else-acknowledges) (acknowledges_none (goal.at.returns-then-not-has c).Else-acknowledges) (ne_eqb a.i a.t.root c.if-i-t.false) none)
+    sym (rest_watched a.t a.i a.c (not-false c.args.c.running c.if-not-c.false) (sends_none e) (acknowledges_none e) (ne_eqb a.i a.t.root c.if-i-t.false) none)
 
 pub returns : goal.returns
 returns c =
-    let a = (start (goal.at.returns c).Else-acknowledges).args in
+    let a = c.args in
+    let e = (goal.at.returns c).Else-acknowledges in
     let noted : has a.c.noted (watched a.t a.c) ≡ true = rw c.watched.ensures at (sym c.has.ensures ∙ not-false _ c.if-not-has.false-raw) in
-    sym (rest_noted a.t a.i a.c (runs (goal.at.returns c).Else-acknowledges) (sends_none (goal.at.returns c).Else-acknowledges) (acknowledges_none (goal.at.returns c).Else-acknowledges) (ne_eqb a.i a.t.root c.if-i-t.false) noted)
+    sym (rest_noted a.t a.i a.c (not-false c.args.c.running c.if-not-c.false) (sends_none e) (acknowledges_none e) (ne_eqb a.i a.t.root c.if-i-t.false) noted)

@@ -11,7 +11,7 @@ use Rattle.firmware.specs.Blocks.{tree_in, own_in, column_in, are_blocks}
 use Rattle.firmware.specs.Calls.{filled_meant, list_left, list_call}
 use Rattle.firmware.specs.laws.CallLaws.{Blocks, blocks}
 use Rattle.firmware.proofs.state.mudasgup_raw_list.Goals as goal
-use Rattle.firmware.proofs.state.mudasgup_raw_list.Goals.{After-lone_list, Else-not-are_blocks, Start}
+use Rattle.firmware.proofs.state.mudasgup_raw_list.Goals.{After-lone_list, Else-not-are_blocks}
 
 -- the bytes are blocks
 fit : (e : Else-not-are_blocks) → let a = e.args in
@@ -21,17 +21,14 @@ fit e =
     blocks a.tree.now a.column.now (sym e.are_blocks.ensures ∙ not-false _ e.if-not-are_blocks.false-raw)
 
 -- what was written, of what the blocks mean
-module _ (l : After-lone_list) where
-  abbrev start : Start
-  start = l.before.before.before.before.before.before.before.before.before.before
-
-  left : listed_meant l.lone_list.result l.lone_list.last.1.1.1.0
-      ≡ lone_list (tree_in start.args.tree.now) (own_in start.args.column.now) (column_in start.args.column.now) start.args.buffer.now
-  left =
-      let a = start.args in
-      l.lone_list.ensures
-      ∙ ap₂ (λ (y : Tree) (k : ℕ). lone_list y k l.column_in.result a.buffer.now) l.tree_in.ensures l.own_in-i.ensures
-      ∙ ap (λ (y : Column). lone_list (tree_in a.tree.now) (own_in a.column.now) y a.buffer.now) l.column_in.ensures
+left : (l : After-lone_list) → let a = l.args in
+    listed_meant l.lone_list.result l.lone_list.new.buf
+    ≡ lone_list (tree_in a.tree.now) (own_in a.column.now) (column_in a.column.now) a.buffer.now
+left l =
+    let a = l.args in
+    l.lone_list.ensures
+    ∙ ap₂ (λ (y : Tree) (k : ℕ). lone_list y k l.column_in.result a.buffer.now) l.tree_in.ensures l.own_in-i.ensures
+    ∙ ap (λ (y : Column). lone_list (tree_in a.tree.now) (own_in a.column.now) y a.buffer.now) l.column_in.ensures
 
 pub returns-then-not-are_blocks : goal.returns-then-not-are_blocks
 unfolding list_call

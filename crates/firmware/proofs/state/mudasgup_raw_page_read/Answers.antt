@@ -12,7 +12,7 @@ use Rattle.firmware.specs.Calls.{byte_call}
 use Rattle.firmware.specs.laws.CallLaws.{Blocks, blocks}
 use borrow.Author.Rules.{rules}
 use Rattle.firmware.proofs.state.mudasgup_raw_page_read.Goals as goal
-use Rattle.firmware.proofs.state.mudasgup_raw_page_read.Goals.{After-read, Else-not-are_blocks, Start}
+use Rattle.firmware.proofs.state.mudasgup_raw_page_read.Goals.{After-read, Else-not-are_blocks}
 
 -- the bytes are blocks
 fit : (e : Else-not-are_blocks) → let a = e.args in
@@ -22,17 +22,13 @@ fit e =
     blocks a.tree.now a.column.now (sym e.are_blocks.ensures ∙ not-false _ e.if-not-are_blocks.false-raw)
 
 -- what was read, of what the blocks mean
-module _ (r : After-read) where
-  abbrev start : Start
-  start = r.before.before.before.before.before.before.before.before
-
-  left : byte_meant r.read.result
-      ≡ read_byte (tree_in start.args.tree.now) (own_in start.args.column.now) (column_in start.args.column.now) start.args.offset
-  left =
-      let a = start.args in
-      r.read.ensures
-      ∙ ap₂ (λ (y : Tree) (k : ℕ). read_byte y k r.column_in.result a.offset) r.tree_in.ensures r.own_in-i.ensures
-      ∙ ap (λ (y : Column). read_byte (tree_in a.tree.now) (own_in a.column.now) y a.offset) r.column_in.ensures
+left : (r : After-read) → let a = r.args in
+    byte_meant r.read.result ≡ read_byte (tree_in a.tree.now) (own_in a.column.now) (column_in a.column.now) a.offset
+left r =
+    let a = r.args in
+    r.read.ensures
+    ∙ ap₂ (λ (y : Tree) (k : ℕ). read_byte y k r.column_in.result a.offset) r.tree_in.ensures r.own_in-i.ensures
+    ∙ ap (λ (y : Column). read_byte (tree_in a.tree.now) (own_in a.column.now) y a.offset) r.column_in.ensures
 
 pub returns-then-not-are_blocks : goal.returns-then-not-are_blocks
 unfolding byte_call
@@ -53,13 +49,13 @@ column_in-requires c = (fit (goal.at.column_in-requires c).Else-not-are_blocks).
 pub returns-in-Refused : goal.returns-in-Refused
 unfolding byte_call
 returns-in-Refused c =
-    let a = (start (goal.at.returns-in-Refused c).After-read).args in
+    let a = c.args in
     let is : refused c.in-Refused.n ≡ read_byte (tree_in a.tree.now) (own_in a.column.now) (column_in a.column.now) a.offset = sym (ap (λ (x : Byte). byte_meant x) c.in-Refused.is) ∙ left (goal.at.returns-in-Refused c).After-read in
     rw ((fit (goal.at.returns-in-Refused c).Else-not-are_blocks).tested, ← is) c.refusal-in-Refused.ensures
 
 pub returns-in-Is : goal.returns-in-Is
 unfolding byte_call
 returns-in-Is c =
-    let a = (start (goal.at.returns-in-Is c).After-read).args in
+    let a = c.args in
     let is : given c.in-Is.value ≡ read_byte (tree_in a.tree.now) (own_in a.column.now) (column_in a.column.now) a.offset = sym (ap (λ (x : Byte). byte_meant x) c.in-Is.is) ∙ left (goal.at.returns-in-Is c).After-read in
     rw ((fit (goal.at.returns-in-Is c).Else-not-are_blocks).tested, ← is)
