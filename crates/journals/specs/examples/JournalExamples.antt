@@ -1,5 +1,5 @@
 -- Journals compared, computed: what is missing, and each refusal in its order; the limits, and the buffer.
-use Rattle.std.specs.Prelude.{ℕ, ◌≤◌, ◌<◌, ◌≡◌, refl, List, [], ◌∷◌, ◌++◌, length, replicate}
+use Rattle.std.specs.Prelude.{ℕ, ◌≤◌, ◌<◌, ◌≡◌, refl, List, [], ◌∷◌, length, replicate}
 use Rattle.std.proofs.Common.{lt-ltb, le-ltb}
 use Rattle.column.specs.Refusals.{Given, given, refused}
 use Rattle.text.specs.Text.{bytes, written, all_digits, value_from, leading_zero, numeral, starts_with, after_key}
@@ -85,21 +85,13 @@ pub crowded_answer : crowded ≡ refused 11 ∷ refused 21 ∷ refused 21 ∷ re
 unfolding crowded written placed all_digits value_from leading_zero numeral starts_with after_key with_first cut longer pieces numeral_in line_judged line_pieces line_in line_of with_entry cut_entries entries_in with_owner owned headed journal_of has_line once_each all_heard missing pair_compared both_compared
 crowded_answer = refl
 
--- ---- the buffer: "first journal first", "from its start", and every byte past the lines as it was; 22 bytes hold two lines, 21 don't
+-- ---- the buffer: 22 bytes hold two lines (`first_first` and `other_first` of proofs/JournalOrder), 21 don't
 
-abbrev zeroth : List ℕ
+abbrev pub zeroth : List ℕ
 zeroth = bytes "column=0\nsent=1,1,7\n"
 
-abbrev other : List ℕ
+abbrev pub other : List ℕ
 other = bytes "column=1\nsent=2,0,8\nsent=1,2,9\n"
-
-pub first_first : compared zeroth other (replicate 25 9) ≡ record { answer = given 22; buffer = bytes "sent=1,1,7\nsent=2,0,8\n" ++ replicate 3 9 }
-unfolding written placed all_digits value_from leading_zero numeral starts_with after_key with_first cut longer pieces numeral_in line_judged line_pieces line_in line_of with_entry cut_entries entries_in with_owner owned headed journal_of has_line once_each all_heard missing pair_compared both_compared
-first_first = refl
-
-pub other_first : compared other zeroth (replicate 22 9) ≡ record { answer = given 22; buffer = bytes "sent=2,0,8\nsent=1,1,7\n" }
-unfolding written placed all_digits value_from leading_zero numeral starts_with after_key with_first cut longer pieces numeral_in line_judged line_pieces line_in line_of with_entry cut_entries entries_in with_owner owned headed journal_of has_line once_each all_heard missing pair_compared both_compared
-other_first = refl
 
 pub no_room : compared zeroth other (replicate 21 9) ≡ record { answer = refused 11; buffer = replicate 21 9 }
 unfolding written placed all_digits value_from leading_zero numeral starts_with after_key with_first cut longer pieces numeral_in line_judged line_pieces line_in line_of with_entry cut_entries entries_in with_owner owned headed journal_of has_line once_each all_heard missing pair_compared both_compared

@@ -116,9 +116,11 @@ module _ (one two : List ℕ) (j k : Journal) (reads : journal_of one ≡ given 
   missing_within =
       let v = missing j.owner k.owner j.entries k.entries in
       let w = missing k.owner j.owner k.entries j.entries in
+      -- in whichever order they follow one another
       omega (
         arith,
         length-append v w,
+        length-append w v,
         missing_length j.owner k.owner j.entries k.entries,
         missing_length k.owner j.owner k.entries j.entries,
         lines_within one j reads,

@@ -1,5 +1,4 @@
-use native.Mathlib.Omega.{arith}
-use lib.ListN.{length-set}
+use Rattle.std.proofs.Common.{arith, length-set}
 use Rattle.journals.specs.laws.ChainLaws.{indexed_more}
 use Rattle.journals.proofs.index.add.Goals as goal
 

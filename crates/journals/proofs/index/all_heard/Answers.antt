@@ -1,9 +1,4 @@
-use Prim.Native.Nat.{ℕ}
-use mathlib.Core.Path.{◌≡◌, refl, sym, subst, ◌∙◌}
-use mathlib.Core.Bool.{true}
-use native.Mathlib.Omega.{arith}
-use lib.ListN.{length}
-use borrow.Author.Tests.{not-true, not-false}
+use Rattle.std.proofs.Common.{ℕ, ◌≡◌, refl, sym, subst, ◌∙◌, true, arith, length}
 use Rattle.journals.specs.inner.LineWords.{heard_keys}
 use Rattle.journals.specs.laws.KeyLaws.{heard_more, heard_fails}
 use Rattle.journals.proofs.index.all_heard.Goals as goal
@@ -16,14 +11,14 @@ pub returns-then-not-heard_one : goal.returns-then-not-heard_one
 returns-then-not-heard_one c =
     let a = c.args in
     sym (heard_fails a.a a.b a.theirs.now a.keys.now c.loop-i.i (length a.keys.now) c.loop-i-test.true
-    (sym c.heard_one.ensures ∙ not-true c.heard_one.result c.if-not-heard_one.true-raw))
+    (sym c.heard_one.ensures ∙ c.if-not-heard_one.true))
 
 pub loop-i-preserved : goal.loop-i-preserved
 loop-i-preserved c =
     let a = c.args in (
       omega arith,
       heard_more a.a a.b a.theirs.now a.keys.now c.loop-i.i
-          (sym c.heard_one.ensures ∙ not-false c.heard_one.result c.if-not-heard_one.false-raw) c.loop-i.invariant.1,
+          (sym c.heard_one.ensures ∙ c.if-not-heard_one.false) c.loop-i.invariant.1,
     )
 
 pub returns : goal.returns

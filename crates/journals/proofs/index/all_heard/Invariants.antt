@@ -1,7 +1,4 @@
-use Prim.Native.Nat.{◌-◌, ◌≤◌}
-use mathlib.Core.Path.{◌≡◌}
-use mathlib.Core.Bool.{true}
-use lib.ListN.{length}
+use Rattle.std.proofs.Common.{◌-◌, ◌≤◌, ◌≡◌, true, length}
 use Rattle.journals.specs.inner.LineWords.{heard_keys}
 use Rattle.journals.proofs.index.all_heard.Given as goal
 

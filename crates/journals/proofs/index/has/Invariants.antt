@@ -1,6 +1,4 @@
-use Prim.Native.Nat.{ℕ, suc, ◌%◌, ◌≤◌}
-use mathlib.Core.Path.{◌≡◌}
-use lib.ListN.{get_or}
+use Rattle.std.proofs.Common.{ℕ, suc, ◌%◌, ◌≤◌, ◌≡◌, get_or}
 use Rattle.journals.specs.inner.Chains.{buckets, among}
 use Rattle.journals.proofs.index.has.Given as goal
 

@@ -1,5 +1,4 @@
-use mathlib.Core.Path.{sym}
-use native.Mathlib.Omega.{arith}
+use Rattle.std.proofs.Common.{sym, arith}
 use Rattle.journals.specs.laws.FieldLaws.{kind_below, kind_above, other_above, other_owner, number_above, line_good}
 use Rattle.journals.proofs.line.judged.Goals as goal
 

@@ -1,7 +1,4 @@
-use mathlib.Core.Path.{◌≡◌, ap, ◌∙◌}
-use mathlib.Core.Bool.{Bool, cond}
-use native.Mathlib.Omega.{arith}
-use lib.ListN.{get_or}
+use Rattle.std.proofs.Common.{◌≡◌, ap, ◌∙◌, Bool, cond, arith, get_or}
 use Rattle.journals.specs.inner.MissingTexts.{missed_key}
 use Rattle.journals.specs.laws.MissingLaws.{missed_next, missed_end}
 use Rattle.journals.proofs.missing.missing_length.Goals as goal
@@ -9,11 +6,8 @@ use Rattle.journals.proofs.missing.missing_length.Goals as goal
 pub loop-i-init : goal.loop-i-init
 loop-i-init c = (omega arith, omega arith, omega arith)
 
-pub overflow_cast-size : goal.overflow_cast-size
-overflow_cast-size c = omega (arith, c.shared_slice_known-in-loop-i-1.given c.loop-i.i)
-
 pub overflow_add-count : goal.overflow_add-count
-overflow_add-count c = omega (arith, c.loop-i.invariant.1, c.counted-count.ensures.1, c.shared_slice_known-in-loop-i-1.given c.loop-i.i)
+overflow_add-count c = omega (arith, c.type_inv.sizes c.loop-i.i)
 
 pub loop-i-preserved : goal.loop-i-preserved
 loop-i-preserved c =
@@ -22,7 +16,7 @@ loop-i-preserved c =
     let size = get_or a.sizes.now c.loop-i.i 0 in
     let r : c.counted-count.result ≡ cond (missed_key a.a a.b a.theirs.now (get_or a.keys.now c.loop-i.i 0)) size 0 =
     c.counted-count.ensures.0 ∙ ap (λ (t : Bool). cond t size 0) c.missed_one.ensures in
-    (omega arith, omega (arith, c.loop-i.invariant.1, c.counted-count.ensures.1, c.shared_slice_known-in-loop-i-1.given c.loop-i.i), omega (arith, c.loop-i.invariant.2, e, r))
+    (omega arith, omega (arith, c.type_inv.sizes c.loop-i.i), omega (arith, c.loop-i.invariant.2, e, r))
 
 pub returns : goal.returns
 returns c =

@@ -1,4 +1,4 @@
-use borrow.Author.Tests.{eq-eqb, ne_eqb}
+use Rattle.std.proofs.Common.{eq-eqb, ne_eqb}
 use Rattle.journals.specs.inner.LineWords.{way_in}
 use Rattle.journals.proofs.word.about.Goals as goal
 
