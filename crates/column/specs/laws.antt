@@ -6,12 +6,10 @@ pub mod NumberLaws
 pub mod TreeLaws
 pub mod PlainTrees
 pub mod SequenceLaws
-pub mod ChoiceLaws
 pub mod ChildLaws
 pub mod Descents
 pub mod SubtreeLaws
 pub mod StateLaws
-pub mod KeptLaws
 pub mod PlainLaws
 pub mod UncheckedLaws
 pub mod PacketLaws

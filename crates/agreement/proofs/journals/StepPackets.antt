@@ -11,7 +11,7 @@ use Rattle.column.specs.Refusals.{first}
 use Rattle.column.specs.laws.RefusalLaws.{passed, earlier_none}
 use Rattle.column.specs.Sets.{has, join, insert, without, lowest}
 use Rattle.column.specs.Trees.{children, choose}
-use Rattle.column.specs.laws.ChoiceLaws.{choose_member}
+use Rattle.column.proofs.laws.ChoiceLaws.{choose_member}
 use Rattle.column.specs.Columns.{with_sets}
 use Rattle.column.specs.Packets.{receiver}
 use Rattle.column.specs.laws.StateLaws.{acceptable}

@@ -16,7 +16,7 @@ use Rattle.column.specs.Sets.{has, join, insert, without, lowest}
 use Rattle.column.specs.laws.Digits.{lowest_member}
 use Rattle.column.specs.Trees.{tree_refusal, choose, children}
 use Rattle.column.specs.laws.TreeLaws.{tree_sixteen}
-use Rattle.column.specs.laws.ChoiceLaws.{choose_member}
+use Rattle.column.proofs.laws.ChoiceLaws.{choose_member}
 use Rattle.column.specs.laws.StateLaws.{Sound, sound}
 use Rattle.column.specs.Columns.{with_sets, halt_noted, with_pending}
 use Rattle.column.specs.Steps as core

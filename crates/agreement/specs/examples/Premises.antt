@@ -9,7 +9,7 @@ use Rattle.column.specs.laws.Cases.{truth, and_left, and_right, none_and}
 use Rattle.column.specs.Sets.{has}
 use Rattle.column.specs.Trees.{tree_refusal, choose}
 use Rattle.column.specs.laws.SetLaws.{has_none, selected_has}
-use Rattle.column.specs.laws.ChoiceLaws.{choose_le}
+use Rattle.column.proofs.laws.ChoiceLaws.{choose_le}
 use Rattle.column.specs.laws.TreeLaws.{every_at}
 use Rattle.column.specs.declared.tree.Tree.{Tree}
 use Rattle.column.specs.declared.packet.Packet.{Packet}

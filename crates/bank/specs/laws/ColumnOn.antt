@@ -6,7 +6,7 @@ use Rattle.std.proofs.Math.Bool.{true, false}
 use Rattle.column.specs.laws.RefusalLaws.{earlier_none}
 use Rattle.column.specs.Packets.{receiver}
 use Rattle.column.specs.Columns.{state_refusal}
-use Rattle.column.specs.laws.KeptLaws.{Keeps, keeps_unless, order_keeps, send_keeps, take_keeps, ack_keeps, all_keeps, note_keeps}
+use Rattle.column.proofs.laws.KeptLaws.{Keeps, keeps_unless, order_keeps, send_keeps, take_keeps, ack_keeps, all_keeps, note_keeps}
 use Rattle.column.specs.Steps as core
 use Rattle.column.specs.declared.tree.Tree.{Tree}
 use Rattle.column.specs.declared.state.Column.{Column}

@@ -7,7 +7,7 @@ use Rattle.column.specs.Sets.{has, lowest, within}
 use Rattle.column.specs.laws.SetLaws.{within_lt}
 use Rattle.column.specs.laws.Digits.{lowest_member}
 use Rattle.column.specs.Trees.{tree_refusal, choose}
-use Rattle.column.specs.laws.ChoiceLaws.{choose_lt}
+use Rattle.column.proofs.laws.ChoiceLaws.{choose_lt}
 use Rattle.column.specs.Refusals.{first}
 use Rattle.column.specs.laws.RefusalLaws.{passed, earlier_none}
 use Rattle.column.specs.Columns.{state_conditions, state_refusal, validity_refusal}

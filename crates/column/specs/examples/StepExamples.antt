@@ -11,11 +11,11 @@ use Rattle.column.specs.declared.state.Column.{Column}
 use Rattle.column.specs.declared.packet.Packet.TheVariants.{Message, Acknowledgement}
 
 -- columns=3, root=0, up=0,0,1
-abbrev three : Tree
+abbrev pub three : Tree
 three = tree_of 3 0 (0 ∷ 0 ∷ 1 ∷ replicate 13 0)
 
 -- the same, the farthest served first
-abbrev farthest : Tree
+abbrev pub farthest : Tree
 farthest = tree_in_sequence 3 0 (0 ∷ 0 ∷ 1 ∷ replicate 13 0) (2 ∷ 1 ∷ 0 ∷ replicate 13 0)
 
 -- the same, and columns watch who sent their record
@@ -33,7 +33,7 @@ abbrev astray : Tree
 astray = tree_of 3 0 (0 ∷ 7 ∷ 1 ∷ replicate 13 0)
 
 -- a column by its sets to send to, awaited, owed and noted; order number 4, doors 9, mask 160; pending are bits 3 and 7, which no step sets
-abbrev column : Bool → ℕ → ℕ → ℕ → ℕ → Bool → Column
+abbrev pub column : Bool → ℕ → ℕ → ℕ → ℕ → Bool → Column
 column running s a o n whole = record { running = running; number = 4; doors = 9; send = s; awaited = a; owed = o; noted = n; whole = whole; sender = 0; mask = 160; pending = 136 }
 
 abbrev numbered : ℕ → Column → Column
@@ -162,25 +162,10 @@ order_owing : order_effect three 0 (column true 0 0 2 4 true) 77
 unfolding order_effect selected
 order_owing = refl
 
--- a column that is to send to itself has "no more" to do, though it has noted itself
-send_itself : send_effect three 1 (column true 6 0 0 2 true) ≡ accepted (column true 4 0 0 2 true) [] false
-unfolding send_effect
-send_itself = refl
-
 -- "If i has noted c, c's children join the set"
 send_noted : send_effect three 0 (column true 2 0 0 2 true) ≡ accepted (column true 4 0 0 2 true) [] false
 unfolding send_effect selected
 send_noted = refl
-
--- in ascending numbers the lowest is served, with the record
-send_lowest : send_effect three 0 (column true 6 0 0 0 true) ≡ accepted (column true 4 2 0 0 true) (Message 0 1 4 9 ∷ []) false
-unfolding send_effect
-send_lowest = refl
-
--- "Send then takes the member that stands earliest in that list, not the lowest."
-send_earliest : send_effect farthest 0 (column true 6 0 0 0 true) ≡ accepted (column true 2 4 0 0 true) (Message 0 2 4 9 ∷ []) false
-unfolding send_effect
-send_earliest = refl
 
 -- "Ack still serves the lowest owed."
 ack_lowest : ack farthest 0 (column true 0 0 6 0 true) ≡ accepted (column true 0 0 4 0 true) (Acknowledgement 0 1 4 ∷ []) false
@@ -201,11 +186,6 @@ take_equal = refl
 take_lower : message_effect three 1 (column true 4 0 1 0 false) 2 3 77 ≡ accepted (column true 4 0 1 0 false) (Acknowledgement 1 2 3 ∷ []) false
 unfolding message_effect
 take_lower = refl
-
--- a higher number while two are owed: the lowest gets the present number, and the packet is left
-take_left : message_effect three 1 (column true 4 0 5 0 false) 0 5 77 ≡ accepted (column true 4 0 4 0 false) (Acknowledgement 1 0 4 ∷ []) true
-unfolding message_effect count_trailing_zeros
-take_left = refl
 
 -- a higher number is received: those noted stay
 take_received : message_effect three 1 (column true 0 4 0 1 true) 0 5 77

@@ -6,7 +6,7 @@ use Rattle.column.specs.Trees.{tree_in_sequence, tree_of, choose, every, climbs_
 use Rattle.column.specs.declared.tree.Tree.{Tree}
 
 -- "All sixteen places are held, whatever the count"
-abbrev tree : ℕ → ℕ → List ℕ → Tree
+abbrev pub tree : ℕ → ℕ → List ℕ → Tree
 tree columns root up = tree_of columns root (up ++ replicate (16 - length up) 0)
 
 -- each column's parent is the next one
@@ -41,7 +41,7 @@ seventeen = refl
 
 -- ---- three columns in a sequence; what is past them is not looked at
 
-abbrev sequenced : List ℕ → Tree
+abbrev pub sequenced : List ℕ → Tree
 sequenced first = tree_in_sequence 3 0 (0 ∷ 0 ∷ 1 ∷ replicate 13 0) (first ++ replicate (16 - length first) 99)
 
 pub any_sequence : tree_refusal (sequenced (2 ∷ 0 ∷ 1 ∷ [])) ≡ 0
@@ -56,13 +56,6 @@ column_repeated = refl
 pub column_exceeded : tree_refusal (sequenced (2 ∷ 0 ∷ 3 ∷ [])) ≡ 3
 unfolding tree_refusal every climbs_in
 column_exceeded = refl
-
--- of columns 0 and 1 the first of the sequence is served, and in ascending numbers the lowest
-pub earliest_chosen : choose (sequenced (2 ∷ 1 ∷ 0 ∷ [])) 3 ≡ 1
-earliest_chosen = refl
-
-pub lowest_chosen : choose (tree 3 0 (0 ∷ 0 ∷ 1 ∷ [])) 6 ≡ 1
-lowest_chosen = refl
 
 pub nobody_chosen : choose (sequenced (2 ∷ 1 ∷ 0 ∷ [])) 0 ≡ 16
 nobody_chosen = refl

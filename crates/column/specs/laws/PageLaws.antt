@@ -82,21 +82,21 @@ TellsOf c (accepted d packets left) = Tells c d
 TellsOf c (refused n d) = d ≡ c
 
 -- a column with the record, those noted and the goal as they were
-abbrev Steady : Column → Column → Type 0
+abbrev pub Steady : Column → Column → Type 0
 Steady c d = (d.number ≡ c.number) × (d.noted ≡ c.noted) × (d.whole ≡ c.whole)
 
-never : (b : Bool) → (b && not b) ≡ false
+pub never : (b : Bool) → (b && not b) ≡ false
 never true = refl
 never false = refl
 
 module _ (c : Column) where
-  same : (n m : ℕ) → n ≡ m → not (eqb n m) ≡ false
+  pub same : (n m : ℕ) → n ≡ m → not (eqb n m) ≡ false
   same n m e = ap not (eq-eqb n m e)
 
-  itself : (n : ℕ) → not (eqb n n) ≡ false
+  pub itself : (n : ℕ) → not (eqb n n) ≡ false
   itself n = same n n refl
 
-  kept : (d : Column) → d.mask ≡ c.mask → d.pending ≡ c.pending → Steady c d → Tells c d
+  pub kept : (d : Column) → d.mask ≡ c.mask → d.pending ≡ c.pending → Steady c d → Tells c d
   kept d m p s = record {
     mask_same = m;
     received = told record_received (same _ _ s.0);
@@ -109,7 +109,7 @@ module _ (c : Column) where
       told k e = ap (λ (x : ℕ). has x k) p ∙ sym (ap (λ (b : Bool). has c.pending k || b) e ∙ or-false (has c.pending k))
 
   -- one bit is set, and what it says is so
-  raised : (bit : ℕ) (d : Column) → bit < 3 → d.mask ≡ c.mask → d.pending ≡ pending_with c bit
+  pub raised : (bit : ℕ) (d : Column) → bit < 3 → d.mask ≡ c.mask → d.pending ≡ pending_with c bit
       → not (eqb d.number c.number) ≡ eqb record_received bit
       → not (eqb d.noted c.noted) ≡ eqb halt_noted bit
       → (d.whole && not c.whole) ≡ eqb took_over bit → Tells c d
@@ -127,21 +127,21 @@ module _ (c : Column) where
       told : (k : ℕ) {b : Bool} → b ≡ eqb k bit → has d.pending k ≡ (has c.pending k || b)
       told k e = at k ∙ sym (ap (λ (b : Bool). has c.pending k || b) e)
 
-  tells_unless : (n : ℕ) (effect : Result) → (n ≡ 0 → TellsOf c effect) → TellsOf c (unless n c effect)
+  pub tells_unless : (n : ℕ) (effect : Result) → (n ≡ 0 → TellsOf c effect) → TellsOf c (unless n c effect)
   tells_unless n effect h = go (eqb n 0) refl
     where
       go : (b : Bool) → eqb n 0 ≡ b → TellsOf c (cond b effect (refused n c))
       go true e = h (eqb-true n 0 e)
       go false e = refl
 
-  tells_cond : (b : Bool) (r q : Result) → (b ≡ true → TellsOf c r) → (b ≡ false → TellsOf c q) → TellsOf c (cond b r q)
+  pub tells_cond : (b : Bool) (r q : Result) → (b ≡ true → TellsOf c r) → (b ≡ false → TellsOf c q) → TellsOf c (cond b r q)
   tells_cond true r q h k = h refl
   tells_cond false r q h k = k refl
 
-  steady : (s a o : ℕ) → Tells c (with_sets c s a o)
+  pub steady : (s a o : ℕ) → Tells c (with_sets c s a o)
   steady s a o = kept _ refl refl (refl, refl, refl)
 
-  unmoved : Tells c c
+  pub unmoved : Tells c c
   unmoved = kept c refl refl (refl, refl, refl)
 
 module _ (t : Tree) (i : ℕ) (c : Column) where
@@ -156,25 +156,6 @@ module _ (t : Tree) (i : ℕ) (c : Column) where
   send_tells = tells_unless c (send_refusal t i c) _ (λ e.
       let k = choose t c.send in
       tells_cond c (eqb k i) _ _ (λ _. steady c _ _ _) (λ _. tells_cond c (has c.noted k) _ _ (λ _. steady c _ _ _) (λ _. steady c _ _ _)))
-
-  -- a record is received where a higher number is, and its packet not left in its place
-  message_tells : (from number doors : ℕ) → validity_refusal t i c ≡ 0 → TellsOf c (message_effect t i c from number doors)
-  unfolding message_effect receive_effect
-  message_tells from number doors good =
-      tells_cond c (eqb number c.number) _ _ (λ _. steady c _ _ _) (λ other.
-      tells_cond c (ltb number c.number) _ _ (λ _. unmoved c) (λ _.
-      tells_cond c (eqb c.owed 0) _ _
-      (λ _. raised c record_received _ (omega arith) refl refl (ap not other) (itself c c.noted)
-      (none_and (eqb i t.root) (not c.whole) (λ root. ap not ((validity_refusal_sound t i c good).root_whole (eqb-true i t.root root)))))
-      (λ _. steady c _ _ _)))
-
-  pub take_tells : (p : Packet) → TellsOf c (take t i c p)
-  unfolding take_refusal acknowledgement_effect
-  take_tells p = tells_unless c (take_refusal t i c p) _ (λ e. go p (earlier_none (validity_refusal t i c) _ e).0)
-    where
-      go : (p : Packet) → validity_refusal t i c ≡ 0 → TellsOf c (take_effect t i c p)
-      go (Message from to number doors) good = message_tells from number doors good
-      go (Acknowledgement from to number) good = tells_cond c (eqb number c.number) _ _ (λ _. steady c _ _ _) (λ _. unmoved c)
 
   pub ack_tells : TellsOf c (ack t i c)
   unfolding ack_effect

@@ -7,10 +7,9 @@ use Rattle.column.specs.laws.Cases.{truth, and_none, none_and}
 use Rattle.column.specs.laws.RefusalLaws.{passed, passes, earlier_none}
 use Rattle.column.specs.Sets.{has, lowest, within}
 use Rattle.column.specs.laws.SetLaws.{within_lt, lt_within, member_lt, members_lt}
-use Rattle.column.specs.Trees.{tree_refusal, choose}
+use Rattle.column.specs.Trees.{tree_refusal}
 use Rattle.column.specs.laws.TreeLaws.{tree_sixteen}
 use Rattle.column.specs.laws.Digits.{lowest_lt}
-use Rattle.column.specs.laws.ChoiceLaws.{choose_lt}
 use Rattle.column.specs.Packets.{is_message, sender, receiver}
 use Rattle.column.specs.Columns.{state_conditions, state_refusal, validity_refusal}
 use Rattle.column.specs.Steps.{packet_conditions, packet_refusal, order_refusal, take_refusal, note_refusal}
@@ -173,10 +172,6 @@ module _ (t : Tree) (i : ℕ) (c : Column) (good : validity_refusal t i c ≡ 0)
   validity_refusal_send =
       let p = passed (state_conditions t i c) tt (earlier_none (tree_refusal t) (state_refusal t i c) good).1 in
       within_lt c.send t.columns (not-false (within c.send t.columns) p.1.0)
-
-  -- the one that a send serves
-  pub validity_refusal_choice : 0 < c.send → choose t c.send < 16
-  validity_refusal_choice some = omega (arith, validity_refusal_sixteen, choose_lt t validity_refusal_tree c.send validity_refusal_send some)
 
   pub validity_refusal_owed : c.owed < 2 ^ t.columns
   unfolding state_refusal

@@ -11,7 +11,7 @@ use Rattle.column.specs.Sets.{lowest}
 use Rattle.column.specs.Trees.{choose}
 use Rattle.column.specs.Packets.{sender}
 use Rattle.column.specs.Columns.{validity_refusal}
-use Rattle.column.specs.laws.StateLaws.{acceptable, validity_refusal_tree, validity_refusal_sixteen, validity_refusal_column, validity_refusal_choice, validity_refusal_lowest}
+use Rattle.column.specs.laws.StateLaws.{acceptable, validity_refusal_tree, validity_refusal_sixteen, validity_refusal_column, validity_refusal_lowest}
 use Rattle.column.specs.Steps.{Result, refused, unless, packet_refusal, order_conditions, order_refusal, order_effect, order, send_conditions, send_refusal, send_effect, send, take_conditions, take_refusal, take_effect, take, ack_conditions, ack_refusal, ack_effect, ack, all_conditions, all_refusal, all_effect, all, note_conditions, note_refusal, note_effect, note}
 use Rattle.column.specs.Unchecked.{bounded, bounds_refusal, bounded_send, bounded_take, bounded_ack, bounded_all, bounded_note, unchecked_refusal, order_unchecked, send_unchecked, take_unchecked, ack_unchecked, all_unchecked, note_unchecked}
 use Rattle.column.specs.declared.tree.Tree.{Tree}
@@ -83,20 +83,12 @@ module _ (conditions : List (ℕ × Bool)) (t : Tree) (i k : ℕ) where
   unchecked_same n c effect z h = ap (λ (m : ℕ). unless m c effect) (same h ∙ sym (ap (λ (m : ℕ). earlier m (first conditions)) z))
 
 module _ (t : Tree) (i : ℕ) (c : Column) (good : validity_refusal t i c ≡ 0) where
-  within : (k : ℕ) → k < 16 → Bounds t i k
+  pub within : (k : ℕ) → k < 16 → Bounds t i k
   within k h = record { sixteen = validity_refusal_sixteen t i c good; column = validity_refusal_column t i c good; other = h }
 
   pub order_unchecked_lem : (doors : ℕ) → order_unchecked t i c doors ≡ order t i c doors
   unfolding order_refusal
   order_unchecked_lem doors = unchecked_same (order_conditions t i c) t i i (validity_refusal t i c) c (order_effect t i c doors) good (λ e. within i (validity_refusal_column t i c good))
-
-  pub send_unchecked_lem : send_unchecked t i c ≡ send t i c
-  unfolding send_refusal
-  send_unchecked_lem =
-      unchecked_same (send_conditions t i c) t i (choose t c.send) (validity_refusal t i c) c (send_effect t i c) good
-      (λ e.
-      let p = passed (send_conditions t i c) tt e in
-      within (choose t c.send) (validity_refusal_choice t i c good (omega (arith, eqb-false c.send 0 p.1.0))))
 
   pub take_unchecked_lem : (p : Packet) → packet_refusal t p ≡ 0 → take_unchecked t i c p ≡ take t i c p
   unfolding take_refusal
@@ -130,11 +122,6 @@ module _ (t : Tree) (i : ℕ) (c : Column) (good : validity_refusal t i c ≡ 0)
       within j (omega (arith, leb-false t.columns j p.0, validity_refusal_sixteen t i c good)))
 
   -- ---- a step that is accepted is its effect
-
-  pub send_bounded : send_refusal t i c ≡ 0 → bounded_send t i c ≡ send t i c
-  unfolding send_refusal
-  send_bounded z =
-      bounds_unchecked (send_conditions t i c) t i (choose t c.send) (earlier_none (validity_refusal t i c) _ z).1 c (send_effect t i c) ∙ send_unchecked_lem
 
   pub take_bounded : (p : Packet) → first (take_conditions t i c p) ≡ 0 → bounded_take t i c p ≡ take_unchecked t i c p
   take_bounded p z = bounds_unchecked (take_conditions t i c p) t i (sender p) z c (take_effect t i c p)

@@ -16,7 +16,8 @@ use Rattle.column.specs.laws.TreeLaws.{tree_root}
 use Rattle.column.specs.Columns.{highest, validity_refusal, with_sets, with_registers}
 use Rattle.column.specs.Packets.{wide, doors_size}
 use Rattle.column.specs.laws.PacketLaws.{Fits}
-use Rattle.column.specs.laws.StateLaws.{acceptable, validity_refusal_tree, validity_refusal_sixteen, validity_refusal_column, validity_refusal_choice}
+use Rattle.column.specs.laws.StateLaws.{acceptable, validity_refusal_tree, validity_refusal_sixteen, validity_refusal_column}
+use Rattle.column.proofs.laws.ChoiceLaws.{validity_refusal_choice}
 use Rattle.column.specs.Returns.{struck}
 use Rattle.column.specs.Pages.{mask_offset, clear_offset, write_refusal, written, write}
 use Rattle.column.specs.Steps.{send_conditions, send_refusal, send_effect, ack_conditions, ack_refusal, ack_effect, acknowledge_lowest, packet_refusal, take_conditions, take_refusal, message_effect, receive_effect, acknowledgement_effect, order_conditions, order_refusal, order_effect, all_conditions, all_refusal, all_effect, note_conditions, note_refusal, note_effect, halt_refusal, halt_effect}

@@ -11,7 +11,7 @@ use Rattle.column.specs.Refusals.{first, earlier}
 use Rattle.column.specs.Sets.{has, lowest}
 use Rattle.column.specs.laws.Digits.{lowest_member}
 use Rattle.column.specs.Trees.{choose}
-use Rattle.column.specs.laws.ChoiceLaws.{choose_lt}
+use Rattle.column.proofs.laws.ChoiceLaws.{choose_lt}
 use Rattle.column.specs.Columns.{validity_refusal}
 use Rattle.column.specs.Packets.{good_ends, bytes_of, wrote, write}
 use Rattle.column.specs.laws.PacketLaws.{write_good, ends_good}

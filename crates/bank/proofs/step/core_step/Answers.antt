@@ -1,5 +1,6 @@
 use mathlib.Core.Path.{◌∙◌}
-use Rattle.column.specs.laws.UncheckedLaws.{order_unchecked_lem, send_unchecked_lem, ack_unchecked_lem, all_unchecked_lem}
+use Rattle.column.specs.laws.UncheckedLaws.{order_unchecked_lem, ack_unchecked_lem, all_unchecked_lem}
+use Rattle.column.proofs.laws.UncheckedLaws.{send_unchecked_lem}
 use Rattle.bank.proofs.step.core_step.Goals as goal
 
 pub returns-in-Order : goal.returns-in-Order

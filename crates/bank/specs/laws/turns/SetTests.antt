@@ -12,7 +12,7 @@ use Rattle.column.specs.Trees.{choose}
 use Rattle.column.specs.laws.SetLaws.{has_minus, selected_has, within_lt}
 use Rattle.column.specs.laws.Digits.{lowest_member}
 use Rattle.column.specs.laws.TreeLaws.{tree_sixteen}
-use Rattle.column.specs.laws.ChoiceLaws.{choose_lt}
+use Rattle.column.proofs.laws.ChoiceLaws.{choose_lt}
 use Rattle.column.specs.Columns.{idle, validity_refusal, state_conditions, state_refusal, watched, may_acknowledge}
 use Rattle.column.specs.laws.RefusalLaws.{passed}
 use Rattle.column.specs.laws.StateLaws.{Sound, sound}

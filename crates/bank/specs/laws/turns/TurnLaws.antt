@@ -13,7 +13,8 @@ use Rattle.column.specs.Columns.{validity_refusal}
 use Rattle.column.specs.laws.StateLaws.{acceptable}
 use Rattle.column.specs.Steps as core
 use Rattle.column.specs.Unchecked.{bounded_take}
-use Rattle.column.specs.laws.UncheckedLaws.{send_bounded, take_bounded, ack_bounded, all_bounded, note_bounded}
+use Rattle.column.specs.laws.UncheckedLaws.{take_bounded, ack_bounded, all_bounded, note_bounded}
+use Rattle.column.proofs.laws.UncheckedLaws.{send_bounded}
 use Rattle.column.specs.declared.tree.Tree.{Tree}
 use Rattle.column.specs.declared.state.Column.{Column}
 use Rattle.column.specs.declared.outcome.Outcome as core-outcome

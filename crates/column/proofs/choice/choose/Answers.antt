@@ -3,7 +3,7 @@ use Prim.Native.Nat.{◌-◌}
 use mathlib.Core.Path.{◌≡◌, sym, ap, ◌∙◌}
 use native.Mathlib.Omega.{arith}
 use Rattle.column.specs.Trees.{earliest_from}
-use Rattle.column.specs.laws.ChoiceLaws.{from_here, from_next}
+use Rattle.column.proofs.laws.ChoiceLaws.{from_here, from_next}
 use Rattle.column.proofs.choice.choose.Goals as goal
 
 pub loop-at-init : goal.loop-at-init

@@ -1,7 +1,8 @@
 use mathlib.Core.Path.{◌≡◌, sym, ◌∙◌}
 use Rattle.column.specs.Columns.{validity_refusal}
 use Rattle.column.specs.Steps.{send_refusal}
-use Rattle.column.specs.laws.UncheckedLaws.{validity_refusal_refused, send_unchecked_lem}
+use Rattle.column.specs.laws.UncheckedLaws.{validity_refusal_refused}
+use Rattle.column.proofs.laws.UncheckedLaws.{send_unchecked_lem}
 use Rattle.column.proofs.step.send.Goals as goal
 use Rattle.column.proofs.step.send.Goals.{After-earlier-n}
 

@@ -14,7 +14,7 @@ use Rattle.column.specs.Packets.{sender, receiver}
 use Rattle.column.specs.Trees.{tree_refusal, choose, children}
 use Rattle.column.specs.laws.TreeLaws.{check_exact}
 use Rattle.column.specs.laws.ChildLaws.{children_lt}
-use Rattle.column.specs.laws.ChoiceLaws.{choose_lt}
+use Rattle.column.proofs.laws.ChoiceLaws.{choose_lt}
 use Rattle.column.specs.Columns.{state_conditions, state_refusal, validity_refusal, with_sets}
 use Rattle.column.specs.laws.StateLaws.{acceptable, validity_refusal_tree, validity_refusal_sixteen}
 use Rattle.column.specs.Steps.{Result, accepted, refused, unless, packet_refusal, order_refusal, order_effect, send_conditions, send_refusal, send_effect, take_conditions, take_refusal, acknowledgement_effect, acknowledge_lowest, receive_effect, message_effect, take_effect, ack_conditions, ack_refusal, ack_effect, all_refusal, all_effect, note_conditions, note_refusal, note_effect}

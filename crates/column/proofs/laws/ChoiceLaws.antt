@@ -10,7 +10,10 @@ use Rattle.column.specs.laws.Digits.{lowest_lt, lowest_member, lowest_none}
 use Rattle.column.specs.Trees.{ascending, listed_at, IsTree, earliest_from, places, choose, tree_refusal}
 use Rattle.column.specs.laws.TreeLaws.{check_exact}
 use Rattle.column.specs.laws.SequenceLaws.{ascending_at}
+use Rattle.column.specs.Columns.{validity_refusal}
+use Rattle.column.specs.laws.StateLaws.{validity_refusal_tree, validity_refusal_sixteen, validity_refusal_send}
 use Rattle.column.specs.declared.tree.Tree.{Tree}
+use Rattle.column.specs.declared.state.Column.{Column}
 
 -- "the member that stands earliest in that list"
 pub record Earliest (t : Tree) (m c : ℕ) : Type 0 where
@@ -118,3 +121,11 @@ module _ (t : Tree) (ok : tree_refusal t ≡ 0) where
           let small : suc m < 2 ^ 16 = lt_of_lt_of_le h (pow_mono tree.sixteen) in
           let k : low < c.place = omega (arith, l, c.valid, p) in
           absurd (true≢false (sym (lowest_member 16 (suc m) small (omega arith)) ∙ ap (has (suc m)) (sym (at low (omega (arith, k, c.counts, tree.sixteen)))) ∙ c.none_earlier low k))
+
+-- ---- the choice of a column's state that passes
+
+module _ (t : Tree) (i : ℕ) (c : Column) (good : validity_refusal t i c ≡ 0) where
+  -- the one that a send serves
+  pub validity_refusal_choice : 0 < c.send → choose t c.send < 16
+  validity_refusal_choice some =
+      omega (arith, validity_refusal_sixteen t i c good, choose_lt t (validity_refusal_tree t i c good) c.send (validity_refusal_send t i c good) some)

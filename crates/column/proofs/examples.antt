@@ -1,0 +1,2 @@
+mod StepExamples
+mod TreeExamples

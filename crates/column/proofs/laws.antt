@@ -1,0 +1,4 @@
+pub mod ChoiceLaws
+pub mod UncheckedLaws
+pub mod KeptLaws
+pub mod PageLaws
