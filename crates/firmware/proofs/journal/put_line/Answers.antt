@@ -1,4 +1,3 @@
-use mathlib.Core.Path.{◌≡◌}
 use mathlib.Core.Bool.{true, false}
 use borrow.Author.Rules.{rules}
 use Rattle.text.specs.Text.{next_text}
@@ -7,7 +6,7 @@ use Rattle.firmware.specs.inner.JournalTexts.{from_kind, from_other, from_number
 use Rattle.firmware.proofs.journal.put_line.Goals as goal
 
 pub shape_of-out : goal.shape_of-out
-shape_of-out c = search (rules, c.put_field.auto.0, c.put_next-last.auto.0, c.put_next-column.auto.0, c.put_all-value.auto.0)
+shape_of-out c = search (rules, c.put_field.auto.out, c.put_next-last.auto.out, c.put_next-column.auto.out, c.put_all-value.auto.out)
 
 pub returns : goal.returns
 returns c =
