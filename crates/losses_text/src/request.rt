@@ -5,11 +5,11 @@ ghost use Rattle.losses_text.specs.LossTexts.{step_count, counts_text, asked_tex
 ghost use Rattle.losses_text.specs.inner.LossAnswers.{longest_counts};
 
 use bank::bank::Answer;
-use text::search::find;
 use column::tree::Tree;
 use losses::count::{Losses, count_losses, losses_refusal};
 use table::table::{LIMIT, read_table};
 use text::reading::{Number, read_keyed};
+use text::search::find;
 use text::writing::put_field;
 
 // Room for three lines of the longest number that is counted, 256.

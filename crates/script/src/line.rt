@@ -8,8 +8,8 @@ ghost use Rattle.script.specs.inner.ScriptLines.{asked};
 
 use crate::hexadecimal::{Doors, read_doors};
 use bank::bank::Step;
-use text::search::find;
 use text::reading::{Number, read_keyed, read_numeral, starts_with};
+use text::search::find;
 
 // The set of column 16, which no bank has.
 const SIXTEEN: u32 = 65536;

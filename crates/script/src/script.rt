@@ -14,10 +14,10 @@ use crate::whole_line::{by_place, whole_line};
 use bank::bank::{Answer, Bank, NO_COLUMN, Words, fresh};
 use bank::rest::at_rest;
 use bank::unchecked_for_script::{acting, step_on, test_bank, untested};
-use text::search::find;
 use column::tree::{ASCENDING, Tree};
 use list::list::LONGEST;
 use table::table::{LIMIT, read_table};
+use text::search::find;
 use text::writing::put_all;
 
 // What a run is lent for its texts.

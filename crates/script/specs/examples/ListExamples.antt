@@ -3,7 +3,6 @@
 use Rattle.std.specs.Prelude.{ℕ, ◌≡◌, refl, List, [], ◌∷◌, ◌++◌, map, replicate}
 use Rattle.std.specs.Int.Count.{ones}
 use Rattle.column.specs.Refusals.{Given, given, refused}
-use Rattle.column.specs.Sets.{selected}
 use Rattle.column.specs.Trees.{tree_of, every, climbs_in, tree_refusal}
 use Rattle.column.specs.Columns.{state_refusal}
 use Rattle.column.specs.declared.tree.Tree.{Tree}

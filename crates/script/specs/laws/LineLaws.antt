@@ -11,7 +11,7 @@ use Rattle.text.specs.Pieces.{pieces, with_number, numerals, numeral_in, keyed}
 use Rattle.text.specs.laws.ReadingLaws.{starts_length, rest_of}
 use Rattle.text.specs.laws.Cutting.{Found, pieces_next, pieces_from, pieces_end, piece_from, comma_numeral}
 use Rattle.bank.specs.Strips.{among}
-use Rattle.bank.specs.declared.bank.Step.TheVariants.{Send, Take, Ack, All, Halt, Back}
+use Rattle.bank.specs.declared.bank.Step.TheVariants.{Halt}
 use Rattle.text.specs.Search.{index_of, slice}
 use Rattle.script.specs.Lines.{Command, perform, asking, doors_in, note_of, note_of_pieces, note_in, member_of, with_members, halt_after, halt_in, or_else, command_of}
 use Rattle.script.specs.inner.ScriptLines.{asked}
