@@ -7,7 +7,6 @@ use Rattle.column.specs.Packets.{low_first, high_first}
 use Rattle.column.specs.laws.NumberLaws.{length_high, length_low}
 use Rattle.column.specs.declared.state.Column.{Column}
 use Rattle.firmware.specs.laws.FillLaws.{Begun, begun, byte_more, more, begun_length, all_filled}
-use borrow.Author.Rules.{rules}
 use Rattle.firmware.proofs.block.put_column.Goals as goal
 use Rattle.firmware.proofs.block.put_column.Goals.{After-put_bytes, After-put_doors, After-put_number, After-put_number-2, After-put_number-3, After-put_number-4, After-put_number-5}
 
