@@ -7,9 +7,8 @@ use Rattle.column.specs.Packets.{low_first, high_first}
 use Rattle.column.specs.laws.NumberLaws.{length_high, length_low}
 use Rattle.column.specs.declared.state.Column.{Column}
 use Rattle.firmware.specs.laws.FillLaws.{Begun, begun, byte_more, more, begun_length, all_filled}
-use borrow.Author.Rules.{rules}
 use Rattle.firmware.proofs.block.put_column.Goals as goal
-use Rattle.firmware.proofs.block.put_column.Goals.{After-put_bytes, After-put_doors, After-put_number, After-put_number-2, After-put_number-3, After-put_number-4, After-put_number-5, Start}
+use Rattle.firmware.proofs.block.put_column.Goals.{After-put_bytes, After-put_doors, After-put_number, After-put_number-2, After-put_number-3, After-put_number-4, After-put_number-5}
 
 -- the bytes up to each field
 abbrev to_doors : Column → ℕ → List ℕ
@@ -53,12 +52,9 @@ noted d = more (high_first 2 d.args.c.noted) 2 (owed d.before.before.before.befo
 abbrev laid : Column → ℕ → ℕ → List ℕ
 laid x own status = to_noted x own ++ (status ∷ x.mask ∷ x.pending ∷ [])
 
-abbrev start : After-put_bytes → Start
-start z = z.before.before.before.before.before.before.before.before.before.before.before.before.before.before.before.before.before.before.before.before.before.before.before.before.before.before.before.before.before.before.before.before.before.before
-
-status_of : (z : After-put_bytes) → Begun z.put_bytes.new.frame (laid (start z).args.c (start z).args.own z.status_of.result) 25 (start z).args.out.now
+status_of : (z : After-put_bytes) → Begun z.put_bytes.new.out (laid z.args.c z.args.own z.status_of.result) 25 z.args.out.now
 status_of z =
-    let x = (start z).args.c in
+    let x = z.args.c in
     more (z.status_of.result ∷ x.mask ∷ x.pending ∷ []) 3 (noted z.before.before.before.before.before) z.put_bytes.ensures refl
 
 pub put_doors-requires : goal.put_doors-requires
@@ -95,8 +91,8 @@ put_bytes-requires c =
     omega (arith, begun_length (noted (goal.at.put_bytes-requires c).After-put_number-5) (omega (arith, l)), l)
 
 pub shape_of-out : goal.shape_of-out
-shape_of-out c = begun_length (status_of (goal.at.shape_of-out c).After-put_bytes) (omega (arith, (start (goal.at.shape_of-out c).After-put_bytes).requires))
+shape_of-out c = begun_length (status_of (goal.at.shape_of-out c).After-put_bytes) (omega (arith, c.requires))
 
 pub returns : goal.returns
 unfolding low_first
-returns c = all_filled (status_of (goal.at.returns c).After-put_bytes) (start (goal.at.returns c).After-put_bytes).requires ∙ ap (λ (k : ℕ). laid (start (goal.at.returns c).After-put_bytes).args.c (start (goal.at.returns c).After-put_bytes).args.own k) c.status_of.ensures
+returns c = all_filled (status_of (goal.at.returns c).After-put_bytes) c.requires ∙ ap (λ (k : ℕ). laid c.args.c c.args.own k) c.status_of.ensures
