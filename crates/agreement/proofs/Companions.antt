@@ -16,8 +16,8 @@ use Rattle.bank.specs.Steps.{Result, accepted, refused, after}
 use Rattle.bank.specs.Performs.{perform}
 use Rattle.bank.specs.Rest.{Running, AtRest}
 use Rattle.bank.specs.laws.ValidityLaws.{Valid}
-use Rattle.bank.specs.laws.RestLaws.{halted_rests}
-use Rattle.bank.specs.laws.Places.{tree_kept}
+use Rattle.bank.proofs.laws.RestLaws.{halted_rests}
+use Rattle.bank.proofs.laws.Places.{tree_kept}
 use Rattle.bank.specs.declared.bank.Step.{Step}
 use Rattle.bank.specs.declared.bank.Step.TheVariants.{Order}
 use Rattle.agreement.specs.History.{World, root_of, told, run, Command, steps_of, follow}

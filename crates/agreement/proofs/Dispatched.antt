@@ -15,9 +15,9 @@ use Rattle.bank.specs.Banks.{State, runs, places}
 use Rattle.bank.specs.Steps.{Result, accepted, refused}
 use Rattle.bank.specs.Performs.{perform}
 use Rattle.bank.specs.Rest.{is_refused, AtRest}
-use Rattle.bank.specs.laws.RestLaws.{rest_exact}
+use Rattle.bank.proofs.laws.RestLaws.{rest_exact}
 use Rattle.bank.specs.Dispatch.{offers, offered, first_accepted, turn, onward, dispatched, dispatch}
-use Rattle.bank.specs.laws.DispatchLaws.{stops_rest, stops_taken, take_accepted}
+use Rattle.bank.proofs.laws.DispatchLaws.{stops_rest, stops_taken, take_accepted}
 use Rattle.bank.specs.declared.bank.Step.{Step}
 use Rattle.bank.specs.declared.bank.Step.TheVariants.{Order, Send, Take, Ack, All, Note, Halt, Back, Write}
 use Rattle.agreement.specs.History.{World, columns_of, orders_after, told, run, follow}

@@ -25,7 +25,7 @@ use Rattle.bank.specs.Steps.{refused, accepted, after, halt_conditions}
 use Rattle.bank.specs.Performs.{perform}
 use Rattle.bank.specs.Returns.{back_conditions}
 use Rattle.bank.specs.Exact.{own_refusal, raised, overfull, refusal_of}
-use Rattle.bank.specs.laws.ExactLaws.{exact}
+use Rattle.bank.proofs.laws.ExactLaws.{exact}
 use Rattle.bank.specs.declared.bank.Step.{Step}
 use Rattle.bank.specs.declared.bank.Step.TheVariants.{Order, Send, Take, Ack, All, Note, Halt, Back, Write}
 use Rattle.agreement.specs.History.{World, columns_of}

@@ -22,8 +22,8 @@ use Rattle.bank.specs.Steps.{Result, accepted, halted}
 use Rattle.bank.specs.Performs.{perform}
 use Rattle.bank.specs.Rest.{Running, AtRest}
 use Rattle.bank.specs.Returns.{back_refusal, returned}
-use Rattle.bank.specs.laws.ReturnLaws.{Returning, returning, place_mine, place_struck}
-use Rattle.bank.specs.laws.RestLaws.{rest_exact, broken_rests}
+use Rattle.bank.proofs.laws.ReturnLaws.{Returning, returning, place_mine, place_struck}
+use Rattle.bank.proofs.laws.RestLaws.{rest_exact, broken_rests}
 use Rattle.bank.specs.laws.strips.StripStates.{column_at_lem}
 use Rattle.bank.specs.Strips.{among, Distinct}
 use Rattle.bank.specs.declared.bank.Bank.{Bank}

@@ -12,8 +12,8 @@ use Rattle.bank.specs.Performs.{perform}
 use Rattle.bank.specs.Dispatch.{dispatched, dispatch, dispatch_outcome}
 use Rattle.bank.specs.laws.Kinds.{by_no_column}
 use Rattle.bank.specs.inner.Moves.{acts}
-use Rattle.bank.specs.laws.ValidityOn.{runs_on}
-use Rattle.bank.specs.laws.RestSteps.{unchanged}
+use Rattle.bank.proofs.laws.ValidityOn.{runs_on}
+use Rattle.bank.proofs.laws.RestSteps.{unchanged}
 use Rattle.bank.specs.declared.bank.Step.{Step}
 use Rattle.bank.specs.declared.bank.Step.TheVariants.{Order, Send, Take, Ack, All, Note, Halt, Back, Write}
 use Rattle.agreement.specs.History.{World, orders_after, told, run}

@@ -20,7 +20,7 @@ use Rattle.column.specs.declared.state.Column.{Column}
 use Rattle.bank.specs.Banks.{State, column_at, runs, bank_refusal}
 use Rattle.bank.specs.laws.NetworkLaws.{packets_meant}
 use Rattle.bank.specs.Rest.{Running, AtRest}
-use Rattle.bank.specs.laws.RestSteps.{refuses, send_refused, ack_refused, all_refused, note_refused}
+use Rattle.bank.proofs.laws.RestSteps.{refuses, send_refused, ack_refused, all_refused, note_refused}
 use Rattle.bank.specs.laws.ValidityLaws.{valid}
 use Rattle.agreement.proofs.relation.Model.{Empty, Runs}
 use Rattle.agreement.proofs.relation.Members.{absent}

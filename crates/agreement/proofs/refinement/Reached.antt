@@ -26,7 +26,7 @@ use Rattle.bank.specs.Steps.{Result, accepted, refused, halt_refusal, halt}
 use Rattle.bank.specs.Performs.{perform}
 use Rattle.bank.specs.Strips.{halt_one, and_then, singles}
 use Rattle.bank.specs.laws.strips.StripLaws.{singly, listed, distinct_listed, members_listed}
-use Rattle.bank.specs.laws.RestSteps.{unchanged}
+use Rattle.bank.proofs.laws.RestSteps.{unchanged}
 use Rattle.bank.specs.declared.bank.Step.{Step}
 use Rattle.bank.specs.declared.bank.Step.TheVariants.{Order, Send, Take, Ack, All, Note, Halt, Back, Write}
 use Rattle.agreement.specs.History.{World, root_of, received_after, awaits_after, told, run, Command, steps_of, follow}

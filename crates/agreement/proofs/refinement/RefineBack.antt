@@ -19,7 +19,7 @@ use Rattle.bank.specs.Banks.{State, state, column_at, runs, running_of, halted_o
 use Rattle.bank.specs.laws.ValidityLaws.{valid_passes}
 use Rattle.bank.specs.Steps.{accepted}
 use Rattle.bank.specs.Returns.{lowest_running, remaining, back_refusal, returned, back}
-use Rattle.bank.specs.laws.ReturnLaws.{Returning, returning, returned_length, place_mine, place_struck, place_unused}
+use Rattle.bank.proofs.laws.ReturnLaws.{Returning, returning, returned_length, place_mine, place_struck, place_unused}
 use Rattle.bank.specs.Performs.{perform}
 use Rattle.bank.specs.declared.bank.Bank.{Bank}
 use Rattle.bank.specs.declared.bank.Step.{Step}

@@ -18,15 +18,15 @@ use Rattle.column.specs.declared.tree.Tree.{Tree}
 use Rattle.column.specs.declared.state.Column.{Column}
 use Rattle.bank.specs.Banks.{State, column_at, runs, bank_refusal}
 use Rattle.bank.specs.Rest.{Refused, Running, AtRest, is_refused}
-use Rattle.bank.specs.laws.RestSteps.{refuses, send_refused, ack_refused, all_refused, note_refused, any_note_refused}
+use Rattle.bank.proofs.laws.RestSteps.{refuses, send_refused, ack_refused, all_refused, note_refused, any_note_refused}
 use Rattle.bank.specs.Steps.{note}
 use Rattle.bank.specs.laws.ValidityLaws.{Valid, valid}
 use Rattle.bank.specs.Exact.{own_refusal, refusal_of}
-use Rattle.bank.specs.laws.ExactLaws.{exact}
+use Rattle.bank.proofs.laws.ExactLaws.{exact}
 use Rattle.bank.specs.laws.Kinds.{of_halted}
 use Rattle.bank.specs.Performs.{perform}
 use Rattle.bank.specs.inner.Moves.{acts}
-use Rattle.bank.specs.laws.Places.{acting_is}
+use Rattle.bank.proofs.laws.Places.{acting_is}
 use Rattle.bank.specs.declared.bank.Step.{Step}
 use Rattle.bank.specs.declared.bank.Step.TheVariants.{Order, Send, Take, Ack, All, Note, Halt, Back, Write}
 use Rattle.agreement.specs.Dispatching.{is_settling}

@@ -19,10 +19,10 @@ use Rattle.bank.specs.laws.ValidityLaws.{Valid, valid, places_at}
 use Rattle.bank.specs.Steps as steps
 use Rattle.bank.specs.Steps.{Result, accepted, refused}
 use Rattle.bank.specs.Performs.{perform}
-use Rattle.bank.specs.laws.Places.{tree_kept}
+use Rattle.bank.proofs.laws.Places.{tree_kept}
 use Rattle.bank.specs.Rest.{Running, AtRest}
-use Rattle.bank.specs.laws.RestLaws.{rest_exact}
-use Rattle.bank.specs.laws.RestSteps.{unchanged}
+use Rattle.bank.proofs.laws.RestLaws.{rest_exact}
+use Rattle.bank.proofs.laws.RestSteps.{unchanged}
 use Rattle.bank.specs.declared.bank.Step.{Step}
 use Rattle.bank.specs.declared.bank.Step.TheVariants.{Order, Send, Take, Ack, All, Note, Halt, Back, Write}
 use Rattle.agreement.specs.History.{World, changed, root_of, acknowledged, awaits_after, told, run, step, follow}

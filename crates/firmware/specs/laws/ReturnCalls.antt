@@ -21,9 +21,9 @@ use Rattle.column.specs.declared.tree.Tree.{Tree}
 use Rattle.column.specs.declared.state.Column.{Column}
 use Rattle.bank.specs.Banks.{State, column_at, runs, running_of, halted_of, bank_refusal}
 use Rattle.bank.specs.Returns.{back_refusal, lowest_running, remaining, returned}
-use Rattle.bank.specs.laws.ReturnLaws.{Returning, returning, place_mine, place_struck}
+use Rattle.bank.proofs.laws.ReturnLaws.{Returning, returning, place_mine, place_struck}
 use Rattle.bank.specs.laws.ValidityLaws.{valid_passes}
-use Rattle.bank.specs.laws.RestSteps.{refuses, send_refused, ack_refused, all_refused}
+use Rattle.bank.proofs.laws.RestSteps.{refuses, send_refused, ack_refused, all_refused}
 use Rattle.bank.specs.declared.bank.Bank.{Bank}
 use Rattle.firmware.specs.LoneSteps.{is_refused, rests, running_others, rejoin_conditions, rejoin_refusal, rejoin_effect, rejoin, strike_refusal, strike}
 

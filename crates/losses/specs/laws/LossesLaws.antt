@@ -15,11 +15,11 @@ use Rattle.column.specs.declared.state.Column.{Column}
 use Rattle.bank.specs.Banks.{State, state, column_at, capacity, fresh_bank, bank_refusal}
 use Rattle.bank.specs.Networks.{puts}
 use Rattle.bank.specs.laws.ValidityLaws.{fresh_at, fresh_valid, acting_passes}
-use Rattle.bank.specs.laws.ChangeLaws.{valid_at}
+use Rattle.bank.proofs.laws.ChangeLaws.{valid_at}
 use Rattle.bank.specs.Steps.{Result, accepted, refused, after, answered, outcome_meant, unless, fresh, fitting, settled, acted, order, halt}
 use Rattle.bank.specs.Performs.{perform}
 use Rattle.bank.specs.Dispatch.{turn, onward, dispatch, dispatch_outcome, Dispatches}
-use Rattle.bank.specs.laws.Places.{tree_kept}
+use Rattle.bank.proofs.laws.Places.{tree_kept}
 use Rattle.bank.specs.declared.bank.Answer.{Answer}
 use Rattle.bank.specs.declared.bank.Answer.TheVariants.{Done, Refused}
 use Rattle.bank.specs.declared.bank.Outcome.{Outcome}

@@ -18,7 +18,7 @@ use Rattle.bank.specs.Steps as bank
 use Rattle.bank.specs.Steps.{Result, accepted, after, with_column, fitting, acted, delivered}
 use Rattle.bank.specs.Performs.{perform}
 use Rattle.bank.specs.Rest.{AtRest}
-use Rattle.bank.specs.laws.RestLaws.{fresh_rests}
+use Rattle.bank.proofs.laws.RestLaws.{fresh_rests}
 use Rattle.bank.specs.declared.bank.Step.TheVariants.{Order, Take}
 use Rattle.table.specs.Tables.{listed_line, sequence_in, sequence_line, watch_line, with_watch, further_in, joined, table_in, table_refusal, placed_at, no_tree, judged, read_table}
 

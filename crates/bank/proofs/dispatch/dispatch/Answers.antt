@@ -3,7 +3,7 @@ use mathlib.Core.Path.{◌≡◌, sym, ap, ◌∙◌}
 use borrow.Author.Tests.{eq-eqb, ne_eqb}
 use Rattle.bank.specs.Banks.{State, state, bank_refusal}
 use Rattle.bank.specs.Steps.{refused}
-use Rattle.bank.specs.laws.turns.TurnsTaken.{broken}
+use Rattle.bank.proofs.laws.turns.TurnsTaken.{broken}
 use Rattle.bank.proofs.dispatch.dispatch.Goals as goal
 use Rattle.bank.proofs.dispatch.dispatch.Goals.{After-survey-v}
 

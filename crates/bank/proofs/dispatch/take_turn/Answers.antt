@@ -1,7 +1,7 @@
 use mathlib.Core.Path.{◌≡◌, sym, ap, ◌∙◌}
 use native.Mathlib.Omega.{arith}
 use Rattle.column.specs.Unchecked.{bounded_take}
-use Rattle.bank.specs.laws.turns.TurnLaws.{turn_own, turn_taken}
+use Rattle.bank.proofs.laws.turns.TurnLaws.{turn_own, turn_taken}
 use Rattle.bank.proofs.dispatch.take_turn.Goals as goal
 
 pub settle_taken-requires : goal.settle_taken-requires

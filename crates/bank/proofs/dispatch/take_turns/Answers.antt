@@ -15,13 +15,13 @@ use Rattle.bank.specs.laws.SurveyLaws.{others_halted}
 use Rattle.bank.specs.Banks.{State, state, halted_of, bank_refusal}
 use Rattle.bank.specs.Performs.{perform}
 use Rattle.bank.specs.inner.Changes.{stored, changed, RunningIs}
-use Rattle.bank.specs.laws.ChangeLaws.{changed_refused, changed_done, running_is_of, running_is_on, halted_on}
+use Rattle.bank.proofs.laws.ChangeLaws.{changed_refused, changed_done, running_is_of, running_is_on, halted_on}
 use Rattle.bank.specs.StepKinds.{is_take}
 use Rattle.bank.specs.inner.Turning.{ready_of, quick_turn}
 use Rattle.bank.specs.laws.turns.LowestReady.{ready_some, ready_turn}
-use Rattle.bank.specs.laws.turns.ReadyAfter.{ready_kept}
-use Rattle.bank.specs.laws.turns.TurnLaws.{turn_below}
-use Rattle.bank.specs.laws.turns.TurnsTaken.{Going, over, going_start, going_over, going_broken, going_stops, Turned, turned as turn_taken}
+use Rattle.bank.proofs.laws.turns.ReadyAfter.{ready_kept}
+use Rattle.bank.proofs.laws.turns.TurnLaws.{turn_below}
+use Rattle.bank.proofs.laws.turns.TurnsTaken.{Going, over, going_start, going_over, going_broken, going_stops, Turned, turned as turn_taken}
 use Rattle.bank.proofs.dispatch.take_turns.Goals as goal
 use Rattle.bank.proofs.dispatch.take_turns.Goals.{After-acting-i, After-halted-halted_columns, After-newest_valid, After-step_of-x, After-take_turn-r, Else-is_refusal, Else-not-newest_valid}
 

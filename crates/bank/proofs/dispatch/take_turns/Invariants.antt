@@ -4,7 +4,7 @@ use mathlib.Core.Path.{◌≡◌}
 use Rattle.bank.specs.Banks.{state, halted_of, bank_refusal}
 use Rattle.bank.specs.inner.Changes.{RunningIs}
 use Rattle.bank.specs.inner.Turning.{ready_of}
-use Rattle.bank.specs.laws.turns.TurnsTaken.{Going}
+use Rattle.bank.proofs.laws.turns.TurnsTaken.{Going}
 use Rattle.bank.proofs.dispatch.take_turns.Given as goal
 
 abbrev pub invariant-loop-steps : goal.invariant-loop-steps

@@ -3,7 +3,7 @@ use Prim.Native.Nat.{ℕ}
 use mathlib.Core.List.{[], ◌∷◌}
 use lib.Dec.{leb}
 use Rattle.column.specs.Refusals.{first, earlier}
-use Rattle.bank.specs.laws.MoveLaws.{opening_take, opening_own}
+use Rattle.bank.proofs.laws.MoveLaws.{opening_take, opening_own}
 use Rattle.bank.proofs.opening.opening.Goals as goal
 
 pub returns-then-is_take : goal.returns-then-is_take

@@ -1,7 +1,7 @@
 use mathlib.Core.Path.{sym, ◌∙◌}
 use borrow.Author.Tests.{le-leb}
 use Rattle.bank.specs.Parts.{receiver_at}
-use Rattle.bank.specs.laws.MoveLaws.{receiver_at_lem}
+use Rattle.bank.proofs.laws.MoveLaws.{receiver_at_lem}
 use Rattle.bank.proofs.opening.receiver_at.Goals as goal
 
 pub returns-then-place-ge-CAPACITY : goal.returns-then-place-ge-CAPACITY

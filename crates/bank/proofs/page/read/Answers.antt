@@ -4,7 +4,7 @@ use Rattle.column.specs.Refusals.{refused}
 use Rattle.column.specs.Pages as core
 use Rattle.column.specs.declared.state.Column.{Column}
 use Rattle.bank.specs.Banks.{state}
-use Rattle.bank.specs.laws.PageLaws.{page_read}
+use Rattle.bank.proofs.laws.PageLaws.{page_read}
 use Rattle.bank.proofs.page.read.Goals as goal
 
 pub returns-then-n-ne0 : goal.returns-then-n-ne0

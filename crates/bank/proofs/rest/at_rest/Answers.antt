@@ -4,7 +4,7 @@ use Rattle.column.specs.laws.TreeLaws.{tree_sixteen}
 use Rattle.bank.specs.Banks.{State, state, bank_refusal}
 use Rattle.bank.specs.Rest.{is_at_rest}
 use Rattle.bank.specs.laws.ValidityLaws.{valid}
-use Rattle.bank.specs.laws.RestLaws.{broken_rests, rest_columns}
+use Rattle.bank.proofs.laws.RestLaws.{broken_rests, rest_columns}
 use Rattle.bank.proofs.rest.at_rest.Goals as goal
 use Rattle.bank.proofs.rest.at_rest.Goals.{After-survey-v, Else-v-ne0}
 

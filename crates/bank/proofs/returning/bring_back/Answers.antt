@@ -14,7 +14,7 @@ use Rattle.bank.specs.laws.StepLaws.{unless_refused, unless_goes, accepted_words
 use Rattle.bank.specs.Steps.{accepted, with_place}
 use Rattle.bank.specs.Returns.{back_refusal, with_struck, returned}
 use Rattle.bank.specs.inner.Returning.{rejoining}
-use Rattle.bank.specs.laws.ReturnLaws.{Returning, returning, returning_refusal_lem, rejoining_struck}
+use Rattle.bank.proofs.laws.ReturnLaws.{Returning, returning, returning_refusal_lem, rejoining_struck}
 use Rattle.bank.specs.declared.bank.Bank.{Bank}
 use Rattle.bank.proofs.returning.bring_back.Goals as goal
 use Rattle.bank.proofs.returning.bring_back.Goals.{After-back_refusal-n, After-lowest-l, Else-n-ne0, Start}

@@ -5,7 +5,7 @@ use borrow.Author.Tests.{not-true, not-false}
 use Rattle.column.specs.Sets.{has}
 use Rattle.column.specs.Packets.{receiver}
 use Rattle.bank.specs.laws.SettledLaws.{comes}
-use Rattle.bank.specs.laws.ChangeLaws.{delivered_halted, delivered_full, delivered_put}
+use Rattle.bank.proofs.laws.ChangeLaws.{delivered_halted, delivered_full, delivered_put}
 use Rattle.bank.proofs.settling.deliver.Goals as goal
 use Rattle.bank.proofs.settling.deliver.Goals.{After-has}
 

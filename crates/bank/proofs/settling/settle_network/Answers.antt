@@ -1,5 +1,5 @@
 use Rattle.bank.specs.laws.SettledLaws.{comes}
-use Rattle.bank.specs.laws.ChangeLaws.{settled_none, refused_at, settled_put}
+use Rattle.bank.proofs.laws.ChangeLaws.{settled_none, refused_at, settled_put}
 use Rattle.bank.proofs.settling.settle_network.Goals as goal
 
 pub returns-in-Done : goal.returns-in-Done

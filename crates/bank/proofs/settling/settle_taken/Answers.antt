@@ -5,7 +5,7 @@ use native.Mathlib.Omega.{arith}
 use Rattle.bank.specs.Banks.{state, State}
 use Rattle.bank.specs.Networks.{removed, counting}
 use Rattle.bank.specs.laws.StepLaws.{settled_stays}
-use Rattle.bank.specs.laws.ChangeLaws.{changed_off, removed_words}
+use Rattle.bank.proofs.laws.ChangeLaws.{changed_off, removed_words}
 use Prim.Native.Nat.{◌-◌, ℕ, ◌<◌}
 use Rattle.column.specs.Steps.{outcome_meant}
 use Rattle.bank.specs.Steps.{settled}

@@ -8,9 +8,9 @@ use Rattle.bank.specs.Banks.{State, state, running_of, RefusesBank}
 use Rattle.bank.specs.laws.ValidityLaws.{valid_passes}
 use Rattle.bank.specs.laws.SurveyLaws.{passing_start, passing_on, passing_tells}
 use Rattle.bank.specs.inner.Changes.{changed}
-use Rattle.bank.specs.laws.ChangeLaws.{running_is_of, changed_refused, changed_done}
+use Rattle.bank.proofs.laws.ChangeLaws.{running_is_of, changed_refused, changed_done}
 use Rattle.bank.specs.inner.Moves.{opening_refusal}
-use Rattle.bank.specs.laws.MoveLaws.{opening, Opened, opened, opening_refused}
+use Rattle.bank.proofs.laws.MoveLaws.{opening, Opened, opened, opening_refused}
 use Rattle.bank.specs.Performs.{perform}
 use Rattle.bank.specs.declared.bank.Answer.TheVariants.{Refused}
 use Rattle.bank.proofs.step.act.Goals as goal

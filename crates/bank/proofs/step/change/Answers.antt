@@ -8,8 +8,8 @@ use Rattle.bank.specs.Banks.{state, packet_at, joined}
 use Rattle.bank.specs.laws.ValidityLaws.{valid}
 use Rattle.bank.specs.Steps.{delivered}
 use Rattle.bank.specs.inner.Changes.{core_step}
-use Rattle.bank.specs.laws.ChangeLaws.{valid_at, own_done}
-use Rattle.bank.specs.laws.MoveLaws.{own_is, take_acts, take_performs}
+use Rattle.bank.proofs.laws.ChangeLaws.{valid_at, own_done}
+use Rattle.bank.proofs.laws.MoveLaws.{own_is, take_acts, take_performs}
 use Rattle.bank.proofs.step.change.Goals as goal
 
 pub taken-requires : goal.taken-requires

@@ -3,7 +3,7 @@ use borrow.Author.Tests.{eq-eqb}
 use Rattle.bank.specs.Banks.{state}
 use Rattle.bank.specs.Performs.{perform}
 use Rattle.bank.specs.StepKinds.{is_move}
-use Rattle.bank.specs.laws.MoveLaws.{taker}
+use Rattle.bank.proofs.laws.MoveLaws.{taker}
 use mathlib.Core.Bool.{true}
 use Rattle.bank.specs.inner.Moves.{acts}
 use Rattle.bank.specs.declared.bank.Step.{Step}

@@ -1,5 +1,5 @@
 use Rattle.bank.specs.Banks.{state}
-use Rattle.bank.specs.laws.MoveLaws.{taker}
+use Rattle.bank.proofs.laws.MoveLaws.{taker}
 use Rattle.bank.specs.Performs.{perform}
 use Rattle.bank.proofs.step.take.Goals as goal
 

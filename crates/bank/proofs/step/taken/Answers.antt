@@ -6,7 +6,7 @@ use Rattle.column.specs.declared.tree.Tree.{Tree}
 use Rattle.column.specs.declared.state.Column.{Column}
 use Rattle.bank.specs.Banks.{state, column_at}
 use Rattle.bank.specs.laws.ValidityLaws.{valid}
-use Rattle.bank.specs.laws.ChangeLaws.{taken_done}
+use Rattle.bank.proofs.laws.ChangeLaws.{taken_done}
 use Rattle.bank.proofs.step.taken.Goals as goal
 
 pub returns : goal.returns

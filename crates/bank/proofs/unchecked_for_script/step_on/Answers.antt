@@ -12,7 +12,7 @@ use Rattle.bank.specs.Performs.{perform}
 use Rattle.bank.specs.Parts.{Tells, actor_of}
 use Rattle.bank.specs.StepKinds.{is_move}
 use Rattle.bank.specs.inner.Moves.{opening_refusal}
-use Rattle.bank.specs.laws.PartLaws.{opening_there, part_closed, part_opened, stood, who_runs, place_is, part_refused, part_accepted}
+use Rattle.bank.proofs.laws.PartLaws.{opening_there, part_closed, part_opened, stood, who_runs, place_is, part_refused, part_accepted}
 use Rattle.bank.proofs.unchecked_for_script.step_on.Goals as goal
 use Rattle.bank.proofs.unchecked_for_script.step_on.Goals.{After-change-r, Else-n-ne0, Start}
 

@@ -25,7 +25,7 @@ use Rattle.bank.specs.laws.ValidityLaws.{Valid, valid_passes}
 use Rattle.bank.specs.Steps.{send, ack, all, note}
 use Rattle.bank.specs.Performs.{perform}
 use Rattle.bank.specs.Rest.{is_refused}
-use Rattle.bank.specs.laws.RestSteps.{refuses, refused_exactly, then_refuses}
+use Rattle.bank.proofs.laws.RestSteps.{refuses, refused_exactly, then_refuses}
 use Rattle.bank.specs.Exact.{own_refusal, raises, raised, overfull}
 use Rattle.bank.specs.declared.bank.Step.{Step}
 use Rattle.bank.specs.declared.bank.Step.TheVariants.{Send, Ack, All, Note}

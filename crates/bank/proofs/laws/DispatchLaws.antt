@@ -21,7 +21,7 @@ use Rattle.bank.specs.laws.ValidityLaws.{Valid, valid_passes}
 use Rattle.bank.specs.Steps.{take_refusal, take, send, ack, all, note}
 use Rattle.bank.specs.Performs.{perform}
 use Rattle.bank.specs.Rest.{is_refused, quiet, is_at_rest}
-use Rattle.bank.specs.laws.RestSteps.{refused_exactly}
+use Rattle.bank.proofs.laws.RestSteps.{refused_exactly}
 use Rattle.bank.specs.Exact.{raised, overfull}
 use Rattle.bank.specs.Dispatch.{offers, offered, first_accepted, turn}
 use Rattle.bank.specs.StepKinds.{is_take}

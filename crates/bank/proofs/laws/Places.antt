@@ -22,11 +22,11 @@ use Rattle.bank.specs.Networks.{with_packet, put, puts, removed, vanished}
 use Rattle.bank.specs.Steps.{Result, accepted, refused, after, unless, fitting, with_column, settled, acted, delivered, take_refusal, halted, halt_conditions, halt_refusal}
 use Rattle.bank.specs.Returns.{back_conditions, back_refusal, come_back, returned}
 use Rattle.bank.specs.Pages.{write_refusal}
-use Rattle.bank.specs.laws.ReturnLaws.{returning, place_mine, place_struck, place_unused}
+use Rattle.bank.proofs.laws.ReturnLaws.{returning, place_mine, place_struck, place_unused}
 use Rattle.bank.specs.Performs.{perform}
 use Rattle.bank.specs.Exact.{own_refusal, refusal_of}
 use Rattle.bank.specs.laws.Kinds.{of_halted, by_no_column}
-use Rattle.bank.specs.laws.ExactLaws.{exact}
+use Rattle.bank.proofs.laws.ExactLaws.{exact}
 use Rattle.bank.specs.laws.strips.StripStates.{column_at_lem}
 use Rattle.bank.specs.laws.strips.StripLaws.{halts}
 use Rattle.bank.specs.Rest.{Running}

@@ -12,7 +12,7 @@ use Rattle.bank.specs.Banks.{State, column_at, acting_refusal}
 use Rattle.bank.specs.Steps as step
 use Rattle.bank.specs.Pages.{read_byte, write_refusal, write, line_up}
 use Rattle.bank.specs.laws.ValidityLaws.{acting}
-use Rattle.bank.specs.laws.ChangeLaws.{valid_at}
+use Rattle.bank.proofs.laws.ChangeLaws.{valid_at}
 
 module _ (s : State) (i : ℕ) (good : acting_refusal s i ≡ 0) where
   abbrev here : Column

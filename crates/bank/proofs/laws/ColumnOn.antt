@@ -14,10 +14,10 @@ use Rattle.bank.specs.Banks.{State, column_at, runs, packet_at, no_column, capac
 use Rattle.bank.specs.Networks.{removed}
 use Rattle.bank.specs.Steps.{Result, accepted, refused, unless, fitting, with_column, settled, acted, delivered, note_refusal, take_refusal}
 use Rattle.bank.specs.Performs.{perform}
-use Rattle.bank.specs.laws.ChangeLaws.{placed}
+use Rattle.bank.proofs.laws.ChangeLaws.{placed}
 use Rattle.bank.specs.laws.Kinds.{by_no_column}
 use Rattle.bank.specs.inner.Moves.{acts}
-use Rattle.bank.specs.laws.Places.{puts_kept}
+use Rattle.bank.proofs.laws.Places.{puts_kept}
 use Rattle.bank.specs.declared.bank.Step.{Step}
 use Rattle.bank.specs.declared.bank.Step.TheVariants.{Order, Send, Take, Ack, All, Note, Halt, Back, Write}
 

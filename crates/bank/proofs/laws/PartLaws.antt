@@ -10,17 +10,17 @@ use Rattle.column.specs.laws.TreeLaws.{tree_sixteen}
 use Rattle.column.specs.declared.state.Column.{Column}
 use Rattle.bank.specs.Banks.{State, state, column_at, runs, no_column, running_of, bank_refusal, columns_valid, packets_valid, capacity, joined}
 use Rattle.bank.specs.laws.ValidityLaws.{valid_passes}
-use Rattle.bank.specs.laws.ValidityOn.{room_on, runs_on, valid_on}
+use Rattle.bank.proofs.laws.ValidityOn.{room_on, runs_on, valid_on}
 use Rattle.bank.specs.Steps.{accepted, answered}
 use Rattle.bank.specs.Performs.{perform}
-use Rattle.bank.specs.laws.RestSteps.{unchanged}
+use Rattle.bank.proofs.laws.RestSteps.{unchanged}
 use Rattle.bank.specs.laws.Kinds.{by_no_column}
 use Rattle.bank.specs.Parts.{Tells, actor_of, with_part, PartOf}
 use Rattle.bank.specs.StepKinds.{is_take, is_move}
 use Rattle.bank.specs.inner.Changes.{is_refusal, stored, changed, RunningIs}
-use Rattle.bank.specs.laws.ChangeLaws.{changed_refused, changed_done, running_is_of, running_is_on}
+use Rattle.bank.proofs.laws.ChangeLaws.{changed_refused, changed_done, running_is_of, running_is_on}
 use Rattle.bank.specs.inner.Moves.{place_in, Moving, opening_refusal, PartIs, RefusesAfter}
-use Rattle.bank.specs.laws.MoveLaws.{opening, opening_take, opening_refused, Opened, opened, taker}
+use Rattle.bank.proofs.laws.MoveLaws.{opening, opening_take, opening_refused, Opened, opened, taker}
 use Rattle.bank.specs.declared.bank.Bank.{Bank}
 use Rattle.bank.specs.declared.bank.Answer.{Answer}
 use Rattle.bank.specs.declared.bank.Answer.TheVariants.{Done, Refused}

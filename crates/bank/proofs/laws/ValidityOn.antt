@@ -22,16 +22,16 @@ use Rattle.bank.specs.Networks.{closed_up, with_packet, put, puts, removed}
 use Rattle.bank.specs.laws.ListLaws.{closed_up_before, closed_up_after, set_keeps}
 use Rattle.bank.specs.Banks.{State, column_at, runs, packet_at, packet_valid, capacity, no_column, bank_refusal, acting_refusal}
 use Rattle.bank.specs.inner.Surveys.{newest_valid}
-use Rattle.bank.specs.laws.ColumnOn.{column_on}
+use Rattle.bank.proofs.laws.ColumnOn.{column_on}
 use Rattle.bank.specs.laws.ValidityLaws.{Valid, valid, valid_passes}
 use Rattle.bank.specs.Steps.{Result, accepted, refused, after, unless, with_column, fitting, settled, acted, delivered, note_refusal, take_refusal}
 use Rattle.bank.specs.Performs.{perform}
 use Rattle.bank.specs.Exact.{refusal_of}
 use Rattle.bank.specs.Rest.{is_refused}
-use Rattle.bank.specs.laws.RestSteps.{refused_exactly}
+use Rattle.bank.proofs.laws.RestSteps.{refused_exactly}
 use Rattle.bank.specs.laws.Kinds.{is_halt, of_halted, by_no_column}
 use Rattle.bank.specs.inner.Moves.{acts}
-use Rattle.bank.specs.laws.Places.{one_acts, tree_kept, others_kept, acting_is}
+use Rattle.bank.proofs.laws.Places.{one_acts, tree_kept, others_kept, acting_is}
 use Rattle.bank.specs.declared.bank.Step.{Step}
 use Rattle.bank.specs.declared.bank.Step.TheVariants.{Order, Send, Take, Ack, All, Note, Halt, Back, Write}
 

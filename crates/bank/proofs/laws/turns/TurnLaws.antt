@@ -27,12 +27,12 @@ use Rattle.bank.specs.laws.StepLaws.{note_halted}
 use Rattle.bank.specs.Performs.{perform}
 use Rattle.bank.specs.inner.Changes.{Steady, Aimed, RunningIs, Handed, core_step}
 use Rattle.bank.specs.StepKinds.{is_own, is_take}
-use Rattle.bank.specs.laws.ChangeLaws.{valid_at, own_done, taken_done}
+use Rattle.bank.proofs.laws.ChangeLaws.{valid_at, own_done, taken_done}
 use Rattle.bank.specs.Rest.{is_refused}
-use Rattle.bank.specs.laws.RestSteps.{refused_exactly}
+use Rattle.bank.proofs.laws.RestSteps.{refused_exactly}
 use Rattle.bank.specs.Exact.{own_refusal, refusal_of}
-use Rattle.bank.specs.laws.DispatchLaws.{turn_accepted, core_takes}
-use Rattle.bank.specs.laws.turns.FirstAccepted.{quick_turn_lem}
+use Rattle.bank.proofs.laws.DispatchLaws.{turn_accepted, core_takes}
+use Rattle.bank.proofs.laws.turns.FirstAccepted.{quick_turn_lem}
 use Rattle.bank.specs.inner.Turning.{turn_effect, can_send, can_ack, can_take_over, step_of, step_from, quick_turn, acting_in}
 use Rattle.bank.specs.laws.Kinds.{is_order, by_no_column}
 use Rattle.bank.specs.inner.Moves.{acts}

@@ -29,7 +29,7 @@ use Rattle.bank.specs.inner.Turning.{can_send, can_ack, can_take_over, step_of, 
 use Rattle.bank.specs.declared.bank.Bank.{Bank}
 use Rattle.bank.specs.declared.bank.Step.{Step}
 use Rattle.bank.specs.declared.bank.Step.TheVariants.{Send, Take, Ack, All, Note}
-use Rattle.bank.specs.laws.turns.SetTests.{send_exact, ack_exact, all_exact, note_exact}
+use Rattle.bank.proofs.laws.turns.SetTests.{send_exact, ack_exact, all_exact, note_exact}
 
 -- ---- the first accepted of a list
 

@@ -19,10 +19,10 @@ use Rattle.bank.specs.Steps.{send, ack, all, note}
 use Rattle.bank.specs.Performs.{perform}
 use Rattle.bank.specs.laws.ValidityLaws.{valid, valid_passes, fresh_at, fresh_valid}
 use Rattle.bank.specs.Rest.{is_refused, Refused, Running, AtRest, quiet, is_at_rest}
-use Rattle.bank.specs.laws.RestSteps.{refuses, met, broken_refused, send_refused, ack_refused, all_refused, note_refused, any_note_refused}
-use Rattle.bank.specs.laws.DispatchLaws.{take_rests}
+use Rattle.bank.proofs.laws.RestSteps.{refuses, met, broken_refused, send_refused, ack_refused, all_refused, note_refused, any_note_refused}
+use Rattle.bank.proofs.laws.DispatchLaws.{take_rests}
 use Rattle.bank.specs.StepKinds.{is_take}
-use Rattle.bank.specs.laws.turns.FirstAccepted.{quick_turn_lem}
+use Rattle.bank.proofs.laws.turns.FirstAccepted.{quick_turn_lem}
 use Rattle.bank.specs.laws.turns.LowestReady.{ready_none}
 use Rattle.bank.specs.inner.Returning.{columns_rest}
 use Rattle.bank.specs.declared.bank.Step.TheVariants.{Send, Ack, All, Note}

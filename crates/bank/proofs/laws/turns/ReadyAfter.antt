@@ -10,7 +10,7 @@ use Rattle.column.specs.declared.tree.Tree.{Tree}
 use Rattle.column.specs.declared.state.Column.{Column}
 use Rattle.bank.specs.Banks.{no_column, column_at, runs, halted_of}
 use Rattle.bank.specs.inner.Changes.{stored}
-use Rattle.bank.specs.laws.ChangeLaws.{stored_at, halted_on}
+use Rattle.bank.proofs.laws.ChangeLaws.{stored_at, halted_on}
 use Rattle.bank.specs.inner.Turning.{is_full, is_ready, ready_of}
 use Rattle.bank.specs.laws.turns.LowestReady.{ready, ready_has}
 use Rattle.bank.specs.declared.bank.Bank.{Bank}

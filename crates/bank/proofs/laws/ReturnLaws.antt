@@ -19,7 +19,7 @@ use Rattle.bank.specs.laws.SurveyLaws.{others_halted}
 use Rattle.bank.specs.laws.strips.Rewriting.{rewriting_at, rewriting_length}
 use Rattle.bank.specs.Rest.{AtRest, is_at_rest}
 use Rattle.bank.specs.inner.Returning.{columns_rest, returning_conditions, returning_refusal, rejoining}
-use Rattle.bank.specs.laws.RestLaws.{rest_columns, rest_exact}
+use Rattle.bank.proofs.laws.RestLaws.{rest_columns, rest_exact}
 use Rattle.bank.specs.Returns.{back_conditions, back_refusal, lowest_running, come_back, with_struck, returned}
 use Rattle.bank.specs.declared.bank.Bank.{Bank}
 

@@ -9,19 +9,19 @@ use Rattle.column.specs.declared.tree.Tree.{Tree}
 use Rattle.bank.specs.Banks.{State, state, column_at, runs, running_of, bank_refusal}
 use Rattle.bank.specs.inner.Surveys.{newest_valid}
 use Rattle.bank.specs.laws.ValidityLaws.{valid}
-use Rattle.bank.specs.laws.ValidityOn.{room_on, tree_on, runs_on, actor_on, valid_on}
+use Rattle.bank.proofs.laws.ValidityOn.{room_on, tree_on, runs_on, actor_on, valid_on}
 use Rattle.bank.specs.Steps.{Result, accepted, refused, answered}
 use Rattle.bank.specs.Performs.{perform}
-use Rattle.bank.specs.laws.RestSteps.{unchanged, broken_refused}
+use Rattle.bank.proofs.laws.RestSteps.{unchanged, broken_refused}
 use Rattle.bank.specs.Rest.{is_refused}
 use Rattle.bank.specs.inner.Changes.{Handed, is_refusal}
-use Rattle.bank.specs.laws.ChangeLaws.{running_is_of}
+use Rattle.bank.proofs.laws.ChangeLaws.{running_is_of}
 use Rattle.bank.specs.inner.Moves.{acts}
 use Rattle.bank.specs.Dispatch.{turn, dispatched, dispatch, Dispatches}
 use Rattle.bank.specs.inner.Turning.{ready_of, quick_turn, acting_in, Ended}
-use Rattle.bank.specs.laws.turns.FirstAccepted.{quick_turn_lem}
+use Rattle.bank.proofs.laws.turns.FirstAccepted.{quick_turn_lem}
 use Rattle.bank.specs.laws.turns.LowestReady.{ready_none}
-use Rattle.bank.specs.laws.turns.TurnLaws.{Turning, turning, turn_none}
+use Rattle.bank.proofs.laws.turns.TurnLaws.{Turning, turning, turn_none}
 use Rattle.bank.specs.declared.bank.Bank.{Bank}
 use Rattle.bank.specs.declared.bank.Answer.{Answer}
 use Rattle.bank.specs.declared.bank.Answer.TheVariants.{Done, Refused}

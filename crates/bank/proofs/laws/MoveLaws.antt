@@ -18,7 +18,7 @@ use Rattle.bank.specs.laws.Kinds.{take_is}
 use Rattle.bank.specs.inner.Moves.{acts, opening_refusal, Moving, place_in}
 use Rattle.bank.specs.Parts.{receiver_at}
 use Rattle.bank.specs.StepKinds.{is_take, is_own, is_move}
-use Rattle.bank.specs.laws.ChangeLaws.{own_refused}
+use Rattle.bank.proofs.laws.ChangeLaws.{own_refused}
 use Rattle.bank.specs.declared.bank.Outcome.{Outcome}
 use Rattle.bank.specs.declared.bank.Step.{Step}
 use Rattle.bank.specs.declared.bank.Step.TheVariants.{Take}

@@ -15,7 +15,7 @@ use Rattle.bank.specs.Banks.{State, column_at, runs, capacity, bank_refusal}
 use Rattle.bank.specs.Steps.{accepted, refused, after, send, ack, all, note}
 use Rattle.bank.specs.Performs.{perform}
 use Rattle.bank.specs.Exact.{own_refusal, raised, overfull, refusal_of}
-use Rattle.bank.specs.laws.ExactLaws.{exact}
+use Rattle.bank.proofs.laws.ExactLaws.{exact}
 use Rattle.bank.specs.Rest.{is_refused, Refused}
 use Rattle.bank.specs.declared.bank.Step.{Step}
 use Rattle.bank.specs.declared.bank.Step.TheVariants.{Send, Ack, All, Note}

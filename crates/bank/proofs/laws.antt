@@ -1,0 +1,14 @@
+pub mod ChangeLaws
+pub mod MoveLaws
+pub mod Places
+pub mod ColumnOn
+pub mod ValidityOn
+pub mod RestSteps
+pub mod RestLaws
+pub mod ReturnLaws
+pub mod PageLaws
+pub mod ApartLaws
+pub mod ExactLaws
+pub mod DispatchLaws
+pub mod PartLaws
+pub mod turns

@@ -1,0 +1,5 @@
+pub mod SetTests
+pub mod FirstAccepted
+pub mod ReadyAfter
+pub mod TurnLaws
+pub mod TurnsTaken
