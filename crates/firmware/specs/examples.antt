@@ -1,3 +1,2 @@
 pub mod BlockExamples
 pub mod LoneExamples
-pub mod CallExamples

@@ -1,10 +1,5 @@
-pub mod BlockLaws
 pub mod CallLaws
-pub mod PutLaws
-pub mod AnswerLaws
-pub mod KeptLaws
 pub mod FillLaws
-pub mod FitLaws
 pub mod LoneLaws
 pub mod JournalTextLaws
 pub mod PacketCopies

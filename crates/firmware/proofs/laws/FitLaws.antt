@@ -30,11 +30,11 @@ use Rattle.firmware.specs.declared.lone.QuietStep.{QuietStep}
 use Rattle.firmware.specs.declared.lone.QuietStep.TheVariants.{Order, All, Note, Halt, Write, Rejoin, Strike}
 use Rattle.firmware.specs.declared.lone.PuttingStep.{PuttingStep}
 use Rattle.firmware.specs.declared.lone.PuttingStep.TheVariants.{Send, Take, Ack, Next}
-use Rattle.firmware.specs.laws.BlockLaws.{ColumnFits}
+use Rattle.firmware.proofs.laws.BlockLaws.{ColumnFits}
 use Rattle.firmware.specs.LoneSteps.{or_else, next, running_others, rejoin_conditions, rejoin_refusal, rejoin_effect, rejoin, strike_conditions, strike_refusal, strike}
 use Rattle.firmware.specs.laws.LoneLaws.{rejoin_halted}
 use Rattle.firmware.specs.inner.StepCalls.{quiet_of, putting_of}
-use Rattle.firmware.specs.laws.PutLaws.{some_of}
+use Rattle.firmware.proofs.laws.PutLaws.{some_of}
 
 -- the column after a step; one that is refused leaves it
 abbrev pub after : Column → core.Result → Column

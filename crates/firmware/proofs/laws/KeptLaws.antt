@@ -13,12 +13,12 @@ use Rattle.firmware.specs.declared.lone.QuietStep.TheVariants.{Order, Rejoin}
 use Rattle.firmware.specs.declared.lone.PuttingStep.{PuttingStep}
 use Rattle.firmware.specs.declared.lone.PuttingStep.TheVariants.{Take}
 use Rattle.firmware.specs.Blocks.{tree_in, is_column, own_in, column_in, column_bytes}
-use Rattle.firmware.specs.laws.BlockLaws.{ColumnFits, column_read_back, column_block, block_column_fits}
+use Rattle.firmware.proofs.laws.BlockLaws.{ColumnFits, column_read_back, column_block, block_column_fits}
 use Rattle.firmware.specs.LoneSteps.{rejoin}
 use Rattle.firmware.specs.Calls.{quiet_left, quiet_call, doors_over, order_call, rejoin_call, step_left, step_call, take_call}
 use Rattle.firmware.specs.inner.StepCalls.{quiet_of, putting_of}
 use Rattle.firmware.specs.laws.CallLaws.{Blocks, StepBlocks, take_one, column_of}
-use Rattle.firmware.specs.laws.FitLaws.{after, QuietFits, quiet_fits, PuttingFits, putting_fits}
+use Rattle.firmware.proofs.laws.FitLaws.{after, QuietFits, quiet_fits, PuttingFits, putting_fits}
 
 -- a block of column `own` that means c
 pub record Means (s : List ℕ) (own : ℕ) (c : Column) : Type 0 where

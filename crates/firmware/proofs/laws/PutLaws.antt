@@ -30,7 +30,7 @@ use Rattle.firmware.specs.declared.lone.QuietStep.TheVariants.{Order, All, Note,
 use Rattle.firmware.specs.declared.lone.PuttingStep.{PuttingStep}
 use Rattle.firmware.specs.declared.lone.PuttingStep.TheVariants.{Send, Take, Ack, Next}
 use Rattle.firmware.specs.Blocks.{column_in}
-use Rattle.firmware.specs.laws.BlockLaws.{block_column_fits}
+use Rattle.firmware.proofs.laws.BlockLaws.{block_column_fits}
 use Rattle.firmware.specs.LoneSteps.{or_else, next, rejoin_refusal, rejoin_effect, strike_refusal}
 use Rattle.firmware.specs.inner.StepCalls.{quiet_of, putting_of}
 

@@ -28,7 +28,7 @@ use Rattle.journals.specs.Journals.{sent_key, got_key}
 use Rattle.journals.specs.PacketLines.{kind_of, sent_line, got_line, owner_bytes, line_bytes}
 use Rattle.journals.specs.declared.line.Line.{Line}
 use Rattle.firmware.specs.Blocks.{is_tree, tree_in, is_column, own_in, column_in, are_blocks, column_size, tree_size}
-use Rattle.firmware.specs.laws.BlockLaws.{block_column_fits}
+use Rattle.firmware.proofs.laws.BlockLaws.{block_column_fits}
 use Rattle.firmware.specs.laws.JournalTextLaws.{owner_length, sent_text, got_text, kind_below, packet_length}
 use Rattle.firmware.specs.laws.TableLength.{table_length}
 use Rattle.firmware.specs.Calls.{refused_by, other_block, left_in_place, no_room, not_its_own, Filled, filled_meant, unfilled, filled_over, table_left, table_call, fresh_left, fresh_call, packet_size, size_left, packet_call, doors_call, packet_count, joined_at, join_left, join_call, list_left, list_call, owner_call, line_left, sent_left, sent_call, got_left, got_call, quiet_left, quiet_call, doors_over, Called, uncalled, step_left, step_blocks, step_call, take_left, take_call}

@@ -1,0 +1,5 @@
+pub mod AnswerLaws
+pub mod BlockLaws
+pub mod FitLaws
+pub mod KeptLaws
+pub mod PutLaws
