@@ -71,10 +71,8 @@ fn filled(b: Bank, root: usize, packets: u64, heads: &mut Words, doors: &mut Wor
     requires { root < 8 }
 {
     let mut d = b;
-    let mut k: u64 = 0;
-    while k < packets {
+    for k in 0..packets {
         d = sent(d, root, k, heads, doors);
-        k += 1;
     }
     d
 }
@@ -84,13 +82,11 @@ fn notes(b: Bank, root: usize, laps: u64, heads: &mut Words, doors: &mut Words) 
 {
     let mut d = b;
     let mut sum: u64 = 0;
-    let mut lap: u64 = 0;
-    while lap < laps {
+    for lap in 0..laps {
         d.columns[root] = awaiting(d.columns[root]);
         let r = note(d, root, root + 2, heads, doors);
         d = r.bank;
         sum = folded(sum, d, root, doors[0]);
-        lap += 1;
     }
     sum
 }
@@ -100,11 +96,9 @@ fn turns(b: Bank, root: usize, laps: u64, heads: &mut Words, doors: &mut Words) 
 {
     let mut d = b;
     let mut sum: u64 = 0;
-    let mut lap: u64 = 0;
-    while lap < laps {
+    for lap in 0..laps {
         d = turned(d, root, lap, heads, doors);
         sum = folded(sum, d, root, doors[0]);
-        lap += 1;
     }
     sum
 }
@@ -114,15 +108,13 @@ fn halts(b: Bank, root: usize, set: u32, laps: u64, heads: &mut Words, doors: &m
     requires { root < 8 }
 {
     let mut sum: u64 = 0;
-    let mut lap: u64 = 0;
-    while lap < laps {
+    for lap in 0..laps {
         let mut d = b;
         let mut c = d.columns[root];
         c.doors = lap;
         d.columns[root] = c;
         let r = halt(d, set, heads, doors);
         sum = folded(sum, r.bank, root, doors[0]);
-        lap += 1;
     }
     sum
 }

@@ -131,12 +131,10 @@ fn laps_of(letter: u8, trees: [Tree; TREES], root: usize, laps: u64) -> u64
     requires { root < 8 }
 {
     let mut sum: u64 = 0;
-    let mut lap: u64 = 0;
-    while lap < laps {
+    for lap in 0..laps {
         let t = trees[lap as usize % TREES];
         let o = step(letter, t, root, lap);
         sum = folded(sum, o.column);
-        lap += 1;
     }
     sum
 }

@@ -14,10 +14,8 @@ const DOORS: usize = 7;
 
 fn messages() -> [u8; FRAME_SIZE] {
     let mut frame = [0u8; FRAME_SIZE];
-    let mut i = 0;
-    while i < FRAME_SIZE {
+    for i in 0..FRAME_SIZE {
         frame[i] = MESSAGE[i % MESSAGE_SIZE];
-        i += 1;
     }
     frame
 }
@@ -40,8 +38,7 @@ fn doors_of(packet: Packet) -> u64 {
 pub fn run(laps: u64) -> u64 {
     let mut frame = messages();
     let mut sum: u64 = 0;
-    let mut lap: u64 = 0;
-    while lap < laps {
+    for lap in 0..laps {
         let place = lap as usize % CAPACITY;
         frame[place * MESSAGE_SIZE + DOORS] = (lap % 256) as u8;
         let read = read_frame(&frame);
@@ -49,7 +46,6 @@ pub fn run(laps: u64) -> u64 {
         let slot = read.packets[place];
         let packet = slot.packet;
         sum = fold(fold(sum, count_of(count)), doors_of(packet));
-        lap += 1;
     }
     sum
 }

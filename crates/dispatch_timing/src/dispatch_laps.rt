@@ -30,11 +30,9 @@ fn star(columns: usize, read: u8) -> Tree {
 // Column i sends as often as it can: to the root's children in place of the root, itself among them.
 fn send_all(b: Bank, i: usize, heads: &mut Words, doors: &mut Words) -> Bank {
     let mut d = b;
-    let mut k: usize = 0;
-    while k <= MOST {
+    for _ in 0..MOST + 1 {
         let r = send(d, i, heads, doors);
         d = r.bank;
-        k += 1;
     }
     d
 }
@@ -55,11 +53,9 @@ fn taken_over(b: Bank, first: bool, columns: usize, heads: &mut Words, doors: &m
     requires { columns ≤ 16 }
 {
     let mut d = b;
-    let mut i: usize = 1;
-    while i < columns {
+    for i in 1..columns {
         let r = all(prepared(d, first, i, heads, doors), i, heads, doors);
         d = send_all(r.bank, i, heads, doors);
-        i += 1;
     }
     d
 }
@@ -112,10 +108,8 @@ fn laps_of(b: Bank, last: usize, laps: u64, heads: &Words, doors: &Words) -> u64
     requires { last < 16 }
 {
     let mut sum: u64 = 0;
-    let mut lap: u64 = 0;
-    while lap < laps {
+    for lap in 0..laps {
         sum = fold(sum, lap_of(b, last, lap, heads, doors));
-        lap += 1;
     }
     sum
 }

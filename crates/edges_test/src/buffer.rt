@@ -7,15 +7,7 @@ pub const FILLED: u8 = 170;
 
 // How many bytes are not as they were filled.
 fn changed(bytes: &[u8]) -> usize {
-    let mut count: usize = 0;
-    let mut i: usize = 0;
-    while i < bytes.len() {
-        if bytes[i] != FILLED {
-            count += 1;
-        }
-        i += 1;
-    }
-    count
+    bytes.iter().filter(|b| **b != FILLED).count()
 }
 
 // The text that was written from `at` on, and how much else was.

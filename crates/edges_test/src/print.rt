@@ -21,14 +21,12 @@ pub fn print_answer(out: io::Stdout, a: Answer) -> io::Result<()> {
 
 // A text of several lines as one, a bar for each line's end.
 pub fn print_text(out: io::Stdout, text: &[u8]) -> io::Result<()> {
-    let mut i: usize = 0;
-    while i < text.len() {
+    for i in 0..text.len() {
         if text[i] == 10 {
             print(out, b"|")?;
         } else {
             print(out, &text[i..i + 1])?;
         }
-        i += 1;
     }
     Ok(())
 }

@@ -56,10 +56,8 @@ fn filled(kind: u8) -> [u8; LONGEST]
     ensures { length result ≡ 7696 }
 {
     let mut frame = [0u8; LONGEST];
-    let mut i = 0;
-    while i < LONGEST {
+    for i in 0..LONGEST {
         frame[i] = byte(kind, i);
-        i += 1;
     }
     frame
 }

@@ -16,12 +16,8 @@ fn show_frame(out: io::Stdout, bytes: &[u8]) -> io::Result<()> {
         return Ok(());
     };
     let packets = frame.packets;
-    let mut k = 0;
-    while k < n {
-        let slot = packets[k];
-        let packet = slot.packet;
-        print_packet(out, b" ", packet)?;
-        k += 1;
+    for slot in &packets[..n] {
+        print_packet(out, b" ", slot.packet)?;
     }
     Ok(())
 }

@@ -16,11 +16,8 @@ pub fn print_number(out: io::Stdout, key: &[u8], n: u64) -> io::Result<()> {
 
 pub fn print_bytes(out: io::Stdout, key: &[u8], bytes: &[u8]) -> io::Result<()> {
     print(out, key)?;
-    let mut i = 0;
-    while i < bytes.len() {
-        let byte = bytes[i];
+    for byte in bytes {
         print!(out; "{byte:02x}")?;
-        i += 1;
     }
     print(out, b"\n")
 }

@@ -70,10 +70,8 @@ pub fn print_set(out: io::Stdout, key: &[u8], set: u32) -> io::Result<()> {
     print(out, key)?;
     print(out, b"{")?;
     let mut comma = false;
-    let mut i: usize = 0;
-    while i < 32 {
+    for i in 0..32usize {
         comma = print_member(out, set, i, comma)?;
-        i += 1;
     }
     print(out, b"}")
 }

@@ -22,32 +22,26 @@ fn same_column(a: Column, b: Column) -> bool {
 // The set of places, of all sixteen, at which the columns differ.
 pub fn rewritten(a: Bank, b: Bank) -> u16 {
     let mut set: u16 = 0;
-    let mut i: usize = 0;
-    while i < 16 {
+    for i in 0..16usize {
         if !same_column(a.columns[i], b.columns[i]) {
             set |= 1u16 << i;
         }
-        i += 1;
     }
     set
 }
 
 fn same_tree(a: Tree, b: Tree) -> bool {
     let mut same = (a.columns == b.columns) & (a.root == b.root) & (a.watch == b.watch);
-    let mut i: usize = 0;
-    while i < 16 {
+    for i in 0..16usize {
         same = same & (a.up[i] == b.up[i]) & (a.first[i] == b.first[i]);
-        i += 1;
     }
     same
 }
 
 fn same_words(a: &Words, b: &Words, first: usize) -> bool {
     let mut same = true;
-    let mut k = first;
-    while k < CAPACITY {
+    for k in first..CAPACITY {
         same = same & (a[k] == b[k]);
-        k += 1;
     }
     same
 }

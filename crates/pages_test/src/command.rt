@@ -46,10 +46,8 @@ fn step(c: Command) -> Step {
 
 // The whole page, a byte to a line.
 fn show_page(out: io::Stdout, b: Bank, i: usize, heads: &Words) -> io::Result<()> {
-    let mut offset = 0;
-    while offset < PAGE_SIZE {
+    for offset in 0..PAGE_SIZE {
         print_byte(out, b"byte=", read(b, i, offset, heads))?;
-        offset += 1;
     }
     print_line(out, line_up(b, i, heads))
 }

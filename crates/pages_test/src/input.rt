@@ -26,10 +26,8 @@ fn byte(input: &[u8], at: usize) -> u8 {
 
 fn tree(input: &[u8]) -> Tree {
     let mut up = [0u8; 16];
-    let mut i = 0;
-    while i < 16 {
+    for i in 0..16 {
         up[i] = byte(input, PARENTS + i);
-        i += 1;
     }
     Tree {
         columns: byte(input, 0) as usize,

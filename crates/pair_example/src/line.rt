@@ -23,12 +23,9 @@ fn put_bytes(frame: &mut [u8], at: usize, bytes: &[u8]) -> usize
     if frame.len() - at < bytes.len() {
         return at;
     }
-    let mut i = 0;
-    while i < bytes.len() {
-        frame[at + i] = bytes[i];
-        i += 1;
-    }
-    at + i
+    let end = at + bytes.len();
+    frame[at..end].copy_from_slice(bytes);
+    end
 }
 
 fn put_packet(out: io::Stdout, frame: &mut [u8], at: usize, p: Packet) -> io::Result<usize>
@@ -97,12 +94,8 @@ pub fn received(out: io::Stdout, t: Tree, i: usize, c: Column, frame: &[u8]) -> 
     };
     let packets = read.packets;
     let mut d = c;
-    let mut k = 0;
-    while k < n {
-        let slot = packets[k];
-        let p = slot.packet;
-        d = taken(t, i, d, p);
-        k += 1;
+    for slot in &packets[..n] {
+        d = taken(t, i, d, slot.packet);
     }
     Ok(d)
 }

@@ -18,11 +18,8 @@ pub fn print_line(out: io::Stdout, key: &[u8], n: u64) -> io::Result<()> {
 
 pub fn print_bytes(out: io::Stdout, key: &[u8], bytes: &[u8]) -> io::Result<()> {
     print(out, key)?;
-    let mut i = 0;
-    while i < bytes.len() {
-        let byte = bytes[i];
+    for byte in bytes {
         print!(out; "{byte:02x}")?;
-        i += 1;
     }
     print(out, b"\n")
 }
@@ -35,11 +32,9 @@ pub fn wide(byte: u8) -> u64 {
 pub fn print_doors(out: io::Stdout, doors: u64) -> io::Result<()> {
     let mut bytes = [0u8; 8];
     let mut rest = doors;
-    let mut i = 0;
-    while i < 8 {
+    for i in 0..8 {
         bytes[i] = (rest % 256) as u8;
         rest = rest / 256;
-        i += 1;
     }
     print_bytes(out, b"doors=", &bytes)
 }
@@ -56,13 +51,11 @@ fn print_member(out: io::Stdout, first: bool, n: u64) -> io::Result<()> {
 pub fn print_set(out: io::Stdout, key: &[u8], set: u16) -> io::Result<()> {
     print(out, key)?;
     let mut first = true;
-    let mut i: u64 = 0;
-    while i < 16 {
+    for i in 0..16u64 {
         if (set >> i) % 2 == 1 {
             print_member(out, first, i)?;
             first = false;
         }
-        i += 1;
     }
     Ok(())
 }
