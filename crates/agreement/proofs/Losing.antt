@@ -30,7 +30,7 @@ use Rattle.bank.specs.declared.bank.Step.TheVariants.{Order, Halt}
 use Rattle.losses.specs.Losses.{most_columns, losses_refusal, ordered, begun, to_rest, ended, nobody_runs, all_hold, ends_with, one_if, counted_to, losses_of}
 use Rattle.losses.specs.laws.LossesLaws.{begun_tree, ended_tree, Counting, counting, order_accepted}
 use Rattle.losses.specs.declared.count.Losses.{Losses}
-use Rattle.agreement.specs.History.{given, World, told, run, follow}
+use Rattle.agreement.specs.History.{given, World, told, follow}
 use Rattle.agreement.specs.Agreement.{begin}
 use Rattle.agreement.specs.Dispatching.{steps_within}
 use Rattle.agreement.specs.Losing.{Ends, Counts, Losing}

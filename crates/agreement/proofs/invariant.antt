@@ -9,6 +9,7 @@ pub mod Taking
 pub mod RecordMoves
 pub mod Still
 pub mod Back
+pub mod BackKept
 pub mod InvariantKept
 pub mod Rest
 pub mod Validity

@@ -11,7 +11,7 @@ use Rattle.agreement.proofs.invariant.Invariant.{Invariant}
 use Rattle.agreement.proofs.invariant.Serving.{keep_send_self, keep_send_noted, keep_send_message, keep_note_awaited, keep_note_other}
 use Rattle.agreement.proofs.invariant.Taking.{keep_take_acknowledgement, keep_take_stale, keep_take_equal, keep_take_lower, keep_take_left, keep_acknowledge, keep_widen}
 use Rattle.agreement.proofs.invariant.RecordMoves.{keep_order, keep_take_higher, keep_halt}
-use Rattle.agreement.proofs.invariant.Back.{back_invariant}
+use Rattle.agreement.proofs.invariant.BackKept.{back_invariant}
 
 pub kept : {t : Tree} {s s' : State} {e : Event} → IsTree t → Invariant t s → Move t s s' e → Invariant t s'
 kept {t} tree inv (order d r idle free b) = keep_order t tree d inv r idle free b

@@ -36,8 +36,6 @@ use Rattle.agreement.specs.Journals.{got_in, sent_in, answered_with, to_running}
 use Rattle.agreement.proofs.relation.Model.{State}
 use Rattle.agreement.proofs.relation.Move.{takes}
 use Rattle.agreement.proofs.relation.Conditions.{widths, send_in, ack_in}
-use Rattle.agreement.proofs.invariant.Invariant.{number}
-use Rattle.agreement.proofs.refinement.ReceivedByMoves.{leaves}
 use Rattle.agreement.proofs.relation.View.{model_of, OneMove, event}
 use Rattle.agreement.proofs.refinement.RefineOwn.{column_sound, lowest_in}
 use Rattle.agreement.proofs.refinement.Told.{left_is}

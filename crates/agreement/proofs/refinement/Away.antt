@@ -18,7 +18,7 @@ use Rattle.column.specs.Columns.{validity_refusal}
 use Rattle.column.specs.Returns.{struck}
 use Rattle.column.specs.Steps as core
 use Rattle.column.specs.declared.state.Column.{Column}
-use Rattle.bank.specs.Banks.{State, state, no_column, column_at, runs, bank_refusal}
+use Rattle.bank.specs.Banks.{State, no_column, column_at, runs, bank_refusal}
 use Rattle.bank.specs.Networks.{puts}
 use Rattle.bank.specs.laws.ValidityLaws.{valid, acting_passes}
 use Rattle.bank.specs.laws.StepLaws.{fits}

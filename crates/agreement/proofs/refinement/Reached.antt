@@ -18,7 +18,7 @@ use Rattle.column.specs.Packets.{receiver}
 use Rattle.column.specs.laws.StateLaws.{acceptable_passes}
 use Rattle.column.specs.declared.tree.Tree.{Tree}
 use Rattle.column.specs.declared.state.Column.{Column}
-use Rattle.bank.specs.Banks.{State, state, column_at, runs, packet_at, fresh_bank, capacity, bank_refusal}
+use Rattle.bank.specs.Banks.{State, state, column_at, packet_at, fresh_bank, capacity, bank_refusal}
 use Rattle.bank.specs.laws.ValidityLaws.{fresh_at, fresh_unused, fresh_length}
 use Rattle.bank.specs.laws.NetworkLaws.{packets_meant, packets_of, packets_length, packet_at_lem}
 use Rattle.bank.specs.laws.ValidityLaws as bank
@@ -29,7 +29,7 @@ use Rattle.bank.specs.laws.strips.StripLaws.{singly, listed, distinct_listed, me
 use Rattle.bank.proofs.laws.RestSteps.{unchanged}
 use Rattle.bank.specs.declared.bank.Step.{Step}
 use Rattle.bank.specs.declared.bank.Step.TheVariants.{Order, Send, Take, Ack, All, Note, Halt, Back, Write}
-use Rattle.agreement.specs.History.{World, root_of, received_after, awaits_after, told, run, Command, steps_of, follow}
+use Rattle.agreement.specs.History.{World, root_of, told, run, Command, steps_of, follow}
 use Rattle.agreement.specs.Agreement.{begin, AfterEveryList}
 use Rattle.agreement.specs.Returning.{Formed}
 use Rattle.agreement.proofs.relation.Model as model
@@ -37,7 +37,7 @@ use Rattle.agreement.proofs.relation.Model.{Holds, taken_held}
 use Rattle.agreement.proofs.invariant.Invariant.{Invariant, Fresh, fresh_invariant}
 use Rattle.agreement.proofs.invariant.Still.{below_cases}
 use Rattle.agreement.proofs.invariant.InvariantKept.{kept}
-use Rattle.agreement.proofs.invariant.Validity.{Valid, Deliverable, Validity, fresh_validity, validity_kept, valid_passes}
+use Rattle.agreement.proofs.invariant.Validity.{Deliverable, Validity, fresh_validity, validity_kept, valid_passes}
 use Rattle.agreement.proofs.relation.Move.{Event, halts}
 use Rattle.agreement.proofs.refinement.ReceivedByMoves as moves
 use Rattle.agreement.proofs.bounds.Bounded.{Bounded}
