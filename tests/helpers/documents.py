@@ -74,4 +74,4 @@ class Citations(unittest.TestCase):
     def assert_cited(self, document, name, path):
         self.assertTrue(os.path.exists(os.path.join(ROOT, path)), f"{document}: {path}")
         if name:
-            self.assertRegex(read(path), r"(?<![\w\-·])" + re.escape(name) + r"(?![\w\-])", f"{document}: {name} in {path}")
+            self.assertRegex(read(path), r"(?<![\w'·])" + re.escape(name) + r"(?![\w'])", f"{document}: {name} in {path}")
