@@ -67,7 +67,7 @@ class Documents(Citations):
     def test_the_layers_are_the_crates_and_their_modules(self):
         layers = section(read("docs", "PROOFS.md"), "Layers")
         self.assertEqual(set(re.findall(r"crates/(\w+)", layers)), set(crates()))
-        libraries = ("column", "fastest", "bank", "losses", "text", "list", "table", "script", "fastest_text", "losses_text", "journals", "firmware")
+        libraries = ("column", "fastest", "bank", "losses", "text", "list", "table", "script", "fastest_text", "losses_text", "journals", "firmware", "firmware_c")
         modules = {os.path.relpath(path, ROOT) for crate in libraries for path in glob.glob(os.path.join(ROOT, "crates", crate, "src", "*.rt"))}
         named = {file_of(word) for word in spans(layers)} - {None}
         self.assertEqual(named, {path for path in modules if not path.endswith("lib.rt")})
