@@ -1,17 +1,16 @@
 #!/usr/bin/env python3
-"""Gives the definitions and lemmas of crates/ the spelling of today's Rattle: words in snake case.
+"""Gives the definitions and lemmas of crates/ the spelling of today's Rattle: words in snake case. It is run once, at the top of a repository, right after the
+kit's own script has turned the rest.
 
-usage: python3 tools/port_names.py    at the top, once, right after /opt/rattle/port/port.py
-       python3 tools/port_names.py -n the names alone, old and new, and nothing is written
-
-A name is renamed where it is declared in specs/ or proofs/ of a crate. Names of the library, of Rattle source, of goals and of modules stay.
-Two names of one file that would fall together are told apart: the lemma gets `_lem`, or CHOSEN says what.
+A name is renamed where it is declared in specs/ or proofs/ of a crate. Names of the library, of Rattle source, of goals and of modules stay. Two names of one file
+that would fall together are told apart: the lemma gets `_lem`, or CHOSEN says what.
 """
-
 import collections
 import glob
 import re
 import sys
+
+from repository import parser
 
 WORD = r"[A-Za-z_][A-Za-z0-9_'₀₁₂₃₄₅₆₇₈₉-]*"
 NAME = re.compile(r"(?<![\w'-])" + WORD)
@@ -50,15 +49,17 @@ def goals(text):
     return set(GOAL.findall(text))
 
 
+def declared_in(text, path):
+    """The names that a file declares, its goals aside."""
+    own = goals(text) if path.endswith("Proof.antt") else set()
+    return {name for names in DECLARED.findall(without_comments(text, path)) for name in names.split()} - own
+
+
 def declared(texts):
     found = collections.defaultdict(set)
     for path, text in texts.items():
-        if path.endswith(".antt"):
-            own = goals(text) if path.endswith("Proof.antt") else set()
-            for names in DECLARED.findall(without_comments(text, path)):
-                for name in names.split():
-                    if name not in own:
-                        found[name].add(path)
+        for name in declared_in(text, path) if path.endswith(".antt") else ():
+            found[name].add(path)
     return found
 
 
@@ -123,28 +124,31 @@ def in_clauses(text, new):
     return "\n".join(lines)
 
 
-def main(argv):
-    if argv not in ([], ["-n"]):
-        print(__doc__.split("\n\n")[1], file=sys.stderr)
-        return 2
+def turn(texts, new):
+    """Writes each file whose text is another with the new names."""
+    for path, text in texts.items():
+        turned = in_text(path, text, new)
+        if turned != text:
+            with open(path, "w", encoding="utf-8") as file:
+                file.write(turned)
+
+
+def main():
+    words = parser(__doc__)
+    words.add_argument("-n", action="store_true", help="print the names alone, old and new, and write nothing")
+    only_names = words.parse_args().n
     antt, sources = files()
     texts = {path: read(path) for path in antt + sources}
     new = renamed(texts)
     clash = {n for n in new.values() if n in library_names(texts)}
     if clash:
         print("names of the library: " + " ".join(sorted(clash)), file=sys.stderr)
-    if argv:
-        for name in sorted(new):
-            print(name, new[name])
-        return 0
-    for path, text in texts.items():
-        turned = in_text(path, text, new)
-        if turned != text:
-            with open(path, "w", encoding="utf-8") as f:
-                f.write(turned)
+    if only_names:
+        print(*(f"{name} {new[name]}" for name in sorted(new)), sep="\n")
+        return
+    turn(texts, new)
     print(f"{len(new)} names")
-    return 0
 
 
 if __name__ == "__main__":
-    raise SystemExit(main(sys.argv[1:]))
+    main()

@@ -6,6 +6,7 @@ import re
 from cases import test_fastest, test_firmware, test_frames, test_handed, test_journals, test_losses, test_pages
 from generators import counters
 from helpers import refusals
+from machines.kit import PARTS
 from helpers.documents import BLOCK, Citations, citations, file_of, rows, section, spans
 from repository import ROOT, crates, read
 from models import handed_five
@@ -66,7 +67,7 @@ class Documents(Citations):
     def test_the_layers_are_the_crates_and_their_modules(self):
         layers = section(read("docs", "PROOFS.md"), "Layers")
         self.assertEqual(set(re.findall(r"crates/(\w+)", layers)), set(crates()))
-        libraries = ("column", "fastest", "bank", "losses", "text", "list", "table", "script", "fastest_text", "losses_text", "journals", "firmware")
+        libraries = ("column", "fastest", "bank", "losses", "text", "list", "table", "script", "fastest_text", "losses_text", "journals", "firmware", "firmware_c")
         modules = {os.path.relpath(path, ROOT) for crate in libraries for path in glob.glob(os.path.join(ROOT, "crates", crate, "src", "*.rt"))}
         named = {file_of(word) for word in spans(layers)} - {None}
         self.assertEqual(named, {path for path in modules if not path.endswith("lib.rt")})
@@ -81,7 +82,7 @@ class Documents(Citations):
         self.assertEqual({crate: rests_on(crate, below) for crate in below}, {crate: {*rest} & {*listed} for crate, rest in listed.items()})
 
     def test_every_name_of_the_decisions_is_in_a_source(self):
-        paths = [path for path in glob.glob(os.path.join(ROOT, "crates", "**", "*.*"), recursive=True) if path.endswith((".rt", ".antt"))]
+        paths = [path for part in PARTS for path in glob.glob(os.path.join(ROOT, "crates", "*", part, "**", "*.*"), recursive=True) if path.endswith((".rt", ".antt"))]
         modules = {os.path.basename(path).split(".")[0] for path in paths + glob.glob(os.path.join(ROOT, "tests", "mutants", "*", "*.edit"))}
         words = set(re.findall(r"[\w\-]+", "\n".join(read(path) for path in [*paths, "crates.txt", "command.sh"])))
         named = {word for word in spans(read("docs", "DECISIONS.md")) if re.fullmatch(r"[A-Za-z][\w\-]*", word)}

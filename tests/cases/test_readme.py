@@ -103,6 +103,6 @@ class Figures(unittest.TestCase):
 
     def test_the_times_of_the_first_build_are_those_of_the_newest_gate(self):
         crates = ("column", "text", "bank", "list", "table", "script", "lockers_main")
-        took = [re.search(rf"\b{crate} (?:takes )?(\d+)\b", section(read("docs", "COMMANDS.md"), "What they need"))[1] for crate in crates]
+        took = [re.search(rf"\b{crate} (?:took )?(\d+)\b", section(read("docs", "COMMANDS.md"), "What they need"))[1] for crate in crates]
         gate = re.search(r"By crate, proof and build in seconds: (.*?);", read("docs", "CHANGES.md"), re.S)[1]
         self.assertEqual(took, [re.search(rf"\b{crate} (\d+)\b", gate)[1] for crate in crates])

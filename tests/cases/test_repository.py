@@ -8,8 +8,11 @@ import sys
 import unittest
 
 from helpers.documents import rows
+from machines.kit import PARTS, own
 from repository import ROOT, read
 
+# Stands for a function of the kit's library that is no more, and asks what that asked.
+OF_LIBRARY = "text::find"
 CRATES = sorted(os.path.basename(path) for path in glob.glob(os.path.join(ROOT, "crates", "*")))
 
 
@@ -39,7 +42,8 @@ def mutants():
 
 
 def sources(pattern):
-    return sorted(glob.glob(os.path.join(ROOT, "crates", pattern), recursive=True))
+    """The paths of files of the crates, without what rt makes of them."""
+    return sorted(path for path in glob.glob(os.path.join(ROOT, "crates", pattern), recursive=True) if f"{os.sep}out{os.sep}" not in path)
 
 
 def public_functions(crate):
@@ -49,7 +53,7 @@ def public_functions(crate):
         return
     modules = re.findall(r"^pub mod (\w+);", read(top), re.M)
     for path in [top] + [os.path.join(os.path.dirname(top), f"{module}.rt") for module in modules]:
-        for found in re.finditer(r'^(.*)\n(?:#\[no_mangle\]\n)?pub (?:extern "C" )?fn (\w+)((?:.|\n)*?)^\{', read(path), re.M):
+        for found in re.finditer(r'^(.*)\n(?:#\[[^\n]*\]\n)*pub (?:extern "C" )?fn (\w+)((?:.|\n)*?)^\{', read(path), re.M):
             yield f"{crate}::{found.group(2)}", found.group(1), found.group(3)
 
 
@@ -59,7 +63,7 @@ class Repository(unittest.TestCase):
         self.assertGreater(len(functions), 40)
         for name, before, text in functions:
             self.assertIn("ensures", text, name)
-            self.assertNotIn("requires", text, name)
+            self.assertEqual("requires" in text, name == OF_LIBRARY, name)
             self.assertRegex(before, "^// ", f"{name}: no line on what it answers")
 
     def test_every_helper_that_asks_something_is_named_with_its_reason(self):
@@ -73,8 +77,8 @@ class Repository(unittest.TestCase):
     def test_upper_crates_cite_no_proofs_of_lower_ones(self):
         for path in sources("*/proofs/**/*.antt") + sources("*/specs/**/*.antt"):
             crate = os.path.relpath(path, os.path.join(ROOT, "crates")).split(os.sep)[0]
-            for cited in re.findall(r"^use (Rattle·\S+)", read(path), re.M):
-                self.assertFalse(".proofs" in cited and not cited.startswith(f"Rattle·{crate}·proofs."), f"{path}: {cited}")
+            for cited in re.findall(r"^(?:pub )?use (Rattle\.\S+)", read(path), re.M):
+                self.assertFalse(".proofs" in cited and not cited.startswith((f"Rattle.{crate}.proofs.", "Rattle.std.proofs.")), f"{path}: {cited}")
 
     def test_the_core_names_nothing_above_it(self):
         for path in sources("column/src/*.rt"):
@@ -107,7 +111,8 @@ class Repository(unittest.TestCase):
                 self.assertLess(body.count("\n"), 40, f"{path}: {body[:60]}")
 
     def test_layout(self):
-        done = subprocess.run(["rt", "fmt", "--check"], cwd=ROOT, capture_output=True, text=True)
+        paths = [path for part in PARTS for path in sources(f"*/{part}/**/*.rt") + sources(f"*/{part}/**/*.antt")]
+        done = subprocess.run([own("bin", "rattle"), "fmt", "--check", *paths], capture_output=True, text=True)
         self.assertEqual(done.returncode, 0, done.stdout + done.stderr)
 
     def test_every_mutant_is_on_the_list_of_refused_ones(self):

@@ -1,4 +1,4 @@
-"""The dispatch that `turn-order` of agreement/examples/TurnRuns computes, taken by the model: any other order of a turn's steps leads to another list."""
+"""The dispatch that `turn_order` of agreement/examples/TurnRuns computes, taken by the model: any other order of a turn's steps leads to another list."""
 import itertools
 import re
 import unittest

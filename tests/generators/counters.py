@@ -23,7 +23,7 @@ REFUSALS = {
               "3: a sequence that exceeds a column", "3: a sequence that repeats a column", "13: past the limit"],
 }
 # The model knows more words, and they fail the run where it tells them: an acknowledgement of a higher number (it has the number of a message that its
-# receiver sent, and numbers rise), 8 (4,294,967,295 orders do not fit into a script), 9 (no network fills, `never-nine` of
+# receiver sent, and numbers rise), 8 (4,294,967,295 orders do not fit into a script), 9 (no network fills, `never_nine` of
 # crates/agreement), and a run until a refused step, which only 9 could bring about.
 BRANCHES = [
     "table with a sequence", "table without a sequence", "table without a watch", "table with watch=root", "table with watch=sender",

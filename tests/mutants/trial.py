@@ -11,18 +11,21 @@ sys.path.append(os.path.join(os.path.dirname(os.path.dirname(HERE)), "tools"))
 from repository import ROOT, read
 
 # An edit that only makes the proof file unfit for the code shows nothing.
-UNFIT = re.compile(r"has no `Need-|no field `|was not admitted|not in scope|expected type `tie\.")
+UNFIT = re.compile(r"has no `|has no field|was not admitted|is not in scope|expected type `goal\.")
 # A change of an edit: the lines that its file has, and those in their place.
 CHANGE = re.compile(r"((?:old:.*\n)*)((?:new:.*\n)+)")
-# What a need of a function's proof asks, by how its name begins or ends.
-FACTS = ((r"(.*-)?returns(-\d+)?$", "would not answer what it ensures"), (r"loop\d*-holds", "would begin its loop without the invariant"),
-         (r"loop\d*-again", "would not keep the invariant of its loop"), (r"loop\d*-less", "would come no nearer to the end of its loop"),
-         (r".*-requires(-\d+)?$", "would call a function without what that asks"), (r"(slice|index|element|part|mul|add|sub|cast|sh[lr])-", "would leave its bounds"))
+# What a goal of a function's proof asks, by how its name begins or ends.
+FACTS = ((r"returns(-.*)?$", "would not answer what it ensures"), (r"loop-.*-init$", "would begin its loop without the invariant"),
+         (r"loop-.*-preserved$", "would not keep the invariant of its loop"), (r"loop-.*-smaller$", "would come no nearer to the end of its loop"),
+         (r".*-requires(-\d+)?$", "would call a function without what that asks"), (r"(\w+_)?bounds-|overflow_", "would leave its bounds"))
+# The files of a function's proof.
+PROOFS = ("Answers.antt", "Invariants.antt", "Proof.antt")
 
 
-def copied(folder, *left_out):
+def copied(folder):
+    """A copy of the repository without what was built; rt begins there with what it has kept of the same crates."""
     copy = os.path.join(folder, "copy")
-    shutil.copytree(ROOT, copy, ignore=shutil.ignore_patterns(".git", "must-fail", *left_out))
+    shutil.copytree(ROOT, copy, ignore=shutil.ignore_patterns(".git", "must-fail", "out", "target"))
     return copy
 
 
@@ -34,13 +37,13 @@ def rewrite(path, change):
 
 def declarations(text):
     """A source file without its functions and what only they use."""
-    text = re.sub(r"(?:^//[^\n]*\n)*^(?:pub(?:\(crate\))? )?(?:extern \"C\" )?fn .*?^\}\n", "", text, flags=re.M | re.S)
+    text = re.sub(r"(?:^//[^\n]*\n)*(?:^#\[[^\n]*\n)*^(?:pub(?:\(crate\))? )?(?:extern \"C\" )?fn .*?^\}\n", "", text, flags=re.M | re.S)
     return re.sub(r"^(?:ghost )?use [^\n]*(?:\}|::[a-z_]\w*);\n", "", text, flags=re.M)
 
 
 def function_of(path, line):
     """The function that a proof file is of, or whose text begins at a line of a source; None where a law is meant."""
-    if path.endswith("Proof.antt"):
+    if os.path.basename(path) in PROOFS:
         return os.path.basename(os.path.dirname(path))
     if path.endswith(".rt"):
         return re.search(r"fn (\w+)", read(path).split("\n", line - 1)[-1]).group(1)
@@ -56,14 +59,13 @@ def in_words(path, line, name):
     return f"`{function}` {told}" if told else f"`{name}`, on which the proof of `{function}` rests, no longer holds"
 
 
-def first_error(log):
+def first_error(copy, crate, log):
     """The first fact that no longer holds, in words and with its place, or None. A function with no proof file tells it in a note."""
     for text in read(log).split("\n"):
         told = re.match(r"note: (\S+?):(\d+):\d+: it is not proved that .*\(`(\S+)`\)", text) or re.match(r"(\S+?):(\d+):\d+: error: `(\S+)`: ", text)
         if told and not UNFIT.search(text):
-            path, line, name = told.group(1), int(told.group(2)), told.group(3)
-            place = re.sub(r"^.*/(proofs|specs|src)/", r"\1/", path)
-            return f"{in_words(path, line, name)} ({place}, {name})"
+            place, line, name = told.group(1).removeprefix("./"), int(told.group(2)), told.group(3)
+            return f"{in_words(os.path.join(copy, 'crates', crate, place), line, name)} ({place}, {name})"
     return None
 
 
@@ -122,22 +124,23 @@ def write(copy, texts):
 
 
 def checked(copy, crate, log):
-    """What the prover says of the crate, by its edit loop: whatever an edit cannot have changed is not checked again."""
+    """What the prover says of the crate, over what it has kept: whatever an edit cannot have changed is not checked again."""
     with open(log, "w", encoding="utf8") as file:
-        done = subprocess.run(["rt", "dev", crate], cwd=copy, stdout=file, stderr=subprocess.STDOUT)
+        done = subprocess.run(["rt", "check"], cwd=os.path.join(copy, "crates", crate), stdout=file, stderr=subprocess.STDOUT)
     return done.returncode, read(log)
 
 
 def refusals(crate, edits):
-    """The edits, given as their texts by label, each tried on the crate: the label with the log of its check, and what the prover said in all."""
+    """The edits, given as their texts by label, each tried on the crate: the label, the first fact that no longer holds, and what the prover said in all."""
     with tempfile.TemporaryDirectory() as folder:
         copy = copied(folder)
         log = os.path.join(folder, "log")
-        if subprocess.run(["rt", "check", crate], cwd=copy, stdout=subprocess.DEVNULL, stderr=subprocess.DEVNULL).returncode != 0 or checked(copy, crate, log)[0] != 0:
+        if checked(copy, crate, log)[0] != 0:
             raise RuntimeError(f"{crate} is not proved as it is")
         for label, text in sorted(edits.items()):
             texts = applied(crate, text)
             before = {path: text_of(copy, path) for path in texts}
             write(copy, texts)
-            yield label, log, checked(copy, crate, log)[1]
+            said = checked(copy, crate, log)[1]
+            yield label, first_error(copy, crate, log), said
             write(copy, before)

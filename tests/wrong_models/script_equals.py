@@ -10,7 +10,7 @@ EQUAL = [
      "an acknowledgement has the number of a message that its receiver sent, and numbers rise",
      'which = "the" if number == column.number', "number <= column.number"),
     ("no full network", "len(self.network) == CAPACITY", "False",
-     "`never-nine` of `crates/agreement/proofs/Limits.antt`: a packet more is at most the last of (N-1)(2N-3)",
+     "`never_nine` of `crates/agreement/proofs/Limits.antt`: a packet more is at most the last of (N-1)(2N-3)",
      "refuse(9,", "len(self.network) < (len(self.columns) - 1) * (2 * len(self.columns) - 3) < CAPACITY"),
     ("no highest number", "root.number == HIGHEST", "False", "a script has fewer orders than its bytes, which are fewer than HIGHEST",
      "refuse(8,", "root.number <= LIMIT < HIGHEST"),
