@@ -5,7 +5,7 @@ import unittest
 
 from repository import ROOT, read
 
-SHORT = re.compile(r"^(column|fastest|bank|losses|figure|agreement|text|list|table|script|fastest_text|losses_text|journals|firmware|firmware_c|streams|edges_test|handed_test)/((?:proofs|inner|laws|examples)/(?:[a-z]+/)?)?([A-Za-z_]+)(\.rt)?$")
+SHORT = re.compile(r"^(column|fastest|bank|losses|figure|agreement|text|list|table|script|fastest_text|losses_text|journals|firmware|firmware_c|streams|edges_test|handed_test)/((?:proofs|inner|laws|examples)/(?:[a-z]+/)*)?([A-Za-z_]+)(\.rt)?$")
 WHOLE = re.compile(r"^(crates/.+|tests/.+|tools/.+|docs/.+|examples/.+|include/.+|crates\.txt|README\.md|CONTRIBUTING\.md)$")
 BLOCK = re.compile(r"```c?\n(.*?)```", re.S)
 QUOTED = re.compile(r'"(?:[^"]|"(?:send|await|exactly)")*"')

@@ -9,6 +9,7 @@ mod fine;
 mod five;
 mod full;
 mod halting;
+mod later_overlaps;
 mod members;
 mod overlaps;
 mod packets;
@@ -29,6 +30,7 @@ fn main(rt: HostRuntime) -> io::Result<()> {
     packets::cases(out)?;
     fine::cases(out)?;
     overlaps::cases(out)?;
+    later_overlaps::cases(out)?;
     full::cases(out)?;
     halting::cases(out)?;
     resting::cases(out)?;

@@ -1,4 +1,4 @@
--- Where a byte is first in a part of a text.
+-- Where a byte is first in a part of a text. No paper has this: it stands for what the library said of its own search.
 use Rattle.std.specs.Prelude.{ℕ, suc, Bool, true, false, List, [], ◌∷◌, eqb, take, drop}
 
 -- the bytes from one place on and before another
