@@ -12,10 +12,10 @@ returns-in_default-2 c =
 
 pub loop-i-preserved : goal.loop-i-preserved
 loop-i-preserved c = (
-      omega arith,
-      c.loop-i.invariant.1
-          ∙ number_next c.args.text.now c.loop-i.i c.loop-i.n c.loop-i-test.true (omega (arith, c.in-48-to-57)) (omega (arith, c.in-48-to-57)),
-    )
+  omega arith,
+  c.loop-i.invariant.1
+      ∙ number_next c.args.text.now c.loop-i.i c.loop-i.n c.loop-i-test.true (omega (arith, c.in-48-to-57)) (omega (arith, c.in-48-to-57)),
+)
 
 pub returns : goal.returns
 returns c = sym (c.loop-i.invariant.1 ∙ number_done c.args.text.now c.loop-i.i c.loop-i.n c.loop-i-test.false)
