@@ -1,26 +1,18 @@
 -- What a packet taken leaves pending.
-use Rattle.std.specs.Prelude.{ℕ, ◌+◌, ◌^◌, ◌≤◌, ◌<◌, ◌≡◌, Bool, ◌&&◌, cond, eqb, ltb}
-use Rattle.std.proofs.Math.Path.{refl, ap, ap₂}
-use Rattle.std.proofs.Common.{sym, ◌∙◌, arith, eq-eqb, ne_eqb, eqb-true}
-use Rattle.std.proofs.Math.Bool.{true, false, not, ◌||◌, or-false, true≢false}
-use Rattle.std.specs.Int.Bits.{bit_and}
-use Rattle.std.proofs.lemmas.Nat.{and_le_l}
-use Rattle.std.proofs.lemmas.Bool.{eqb-false, not-true}
-use Rattle.column.specs.laws.Cases.{and_left, and_right, none_and}
-use Rattle.column.specs.laws.RefusalLaws.{passed, earlier_none}
-use Rattle.column.specs.Sets.{has, insert, minus, lowest_in}
-use Rattle.column.specs.laws.SetLaws.{has_and, has_insert, has_minus, member_pos}
-use Rattle.column.specs.laws.Digits.{lowest_member}
-use Rattle.column.specs.Columns.{validity_refusal, record_received, halt_noted, took_over, pending_with, with_sets, with_registers, plain}
+use Rattle.std.specs.Prelude.{ℕ, ◌≡◌, eqb, ltb}
+use Rattle.std.proofs.Math.Path.{refl, ap}
+use Rattle.std.proofs.Common.{arith, eqb-true}
+use Rattle.std.proofs.Math.Bool.{not}
+use Rattle.column.specs.laws.Cases.{none_and}
+use Rattle.column.specs.laws.RefusalLaws.{earlier_none}
+use Rattle.column.specs.Columns.{validity_refusal, record_received}
 use Rattle.column.specs.laws.StateLaws.{validity_refusal_sound}
-use Rattle.column.specs.Trees.{choose}
-use Rattle.column.specs.Steps.{Result, accepted, refused, unless, order_refusal, order_effect, order, send_refusal, send_effect, send, take_refusal, acknowledgement_effect, receive_effect, message_effect, take_effect, take, ack_refusal, ack_effect, ack, all_conditions, all_refusal, all_effect, all, note_conditions, note_refusal, note_effect, note, halt_refusal, halt_effect, halt}
-use Rattle.column.specs.Pages.{mask_offset, clear_offset, written, line_up}
+use Rattle.column.specs.Steps.{take_refusal, acknowledgement_effect, receive_effect, message_effect, take_effect, take}
 use Rattle.column.specs.declared.tree.Tree.{Tree}
 use Rattle.column.specs.declared.state.Column.{Column}
 use Rattle.column.specs.declared.packet.Packet.{Packet}
 use Rattle.column.specs.declared.packet.Packet.TheVariants.{Message, Acknowledgement}
-use Rattle.column.specs.laws.PageLaws.{TellsOf, never, itself, raised, tells_unless, tells_cond, steady, unmoved}
+use Rattle.column.specs.laws.PageLaws.{TellsOf, itself, raised, tells_unless, tells_cond, steady, unmoved}
 
 module _ (t : Tree) (i : ℕ) (c : Column) where
   -- a record is received where a higher number is, and its packet not left in its place

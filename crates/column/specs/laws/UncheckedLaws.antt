@@ -8,12 +8,11 @@ use Rattle.column.specs.Refusals.{first, earlier}
 use Rattle.column.specs.laws.RefusalLaws.{passed, earlier_none}
 use Rattle.column.specs.laws.TreeLaws.{tree_root}
 use Rattle.column.specs.Sets.{lowest}
-use Rattle.column.specs.Trees.{choose}
 use Rattle.column.specs.Packets.{sender}
 use Rattle.column.specs.Columns.{validity_refusal}
 use Rattle.column.specs.laws.StateLaws.{acceptable, validity_refusal_tree, validity_refusal_sixteen, validity_refusal_column, validity_refusal_lowest}
-use Rattle.column.specs.Steps.{Result, refused, unless, packet_refusal, order_conditions, order_refusal, order_effect, order, send_conditions, send_refusal, send_effect, send, take_conditions, take_refusal, take_effect, take, ack_conditions, ack_refusal, ack_effect, ack, all_conditions, all_refusal, all_effect, all, note_conditions, note_refusal, note_effect, note}
-use Rattle.column.specs.Unchecked.{bounded, bounds_refusal, bounded_send, bounded_take, bounded_ack, bounded_all, bounded_note, unchecked_refusal, order_unchecked, send_unchecked, take_unchecked, ack_unchecked, all_unchecked, note_unchecked}
+use Rattle.column.specs.Steps.{Result, refused, unless, packet_refusal, order_conditions, order_refusal, order_effect, order, take_conditions, take_refusal, take_effect, take, ack_conditions, ack_refusal, ack_effect, ack, all_conditions, all_refusal, all_effect, all, note_conditions, note_refusal, note_effect, note}
+use Rattle.column.specs.Unchecked.{bounded, bounds_refusal, bounded_take, bounded_ack, bounded_all, bounded_note, unchecked_refusal, order_unchecked, take_unchecked, ack_unchecked, all_unchecked, note_unchecked}
 use Rattle.column.specs.declared.tree.Tree.{Tree}
 use Rattle.column.specs.declared.state.Column.{Column}
 use Rattle.column.specs.declared.packet.Packet.{Packet}

@@ -1,7 +1,6 @@
 -- Worked examples of the calls from C: what each answers, accepted and refused by each of its numbers, and every byte that an accepted one leaves. Assumes nothing.
-use Rattle.std.specs.Prelude.{ℕ, ◌≡◌, refl, Bool, true, false, cond, List, [], ◌∷◌, ◌++◌, map, replicate}
+use Rattle.std.specs.Prelude.{ℕ, ◌≡◌, refl, Bool, true, false, List, [], ◌∷◌, ◌++◌, map, replicate}
 use Rattle.std.specs.Int.Count.{ones, ones_in, count_trailing_zeros}
-use Rattle.column.specs.Refusals.{given, refused}
 use Rattle.column.specs.Sets.{selected}
 use Rattle.column.specs.Trees.{tree_of, every, climbs_in, tree_refusal}
 use Rattle.column.specs.Columns.{state_refusal}
@@ -12,7 +11,6 @@ use Rattle.column.specs.Steps as core
 use Rattle.column.specs.Steps.{order_refusal, order_effect, send_refusal, send_effect, ack_refusal, all_refusal, packet_refusal, take_refusal, receive_effect, message_effect, acknowledgement_effect}
 use Rattle.column.specs.declared.tree.Tree.{Tree}
 use Rattle.column.specs.declared.state.Column.{Column}
-use Rattle.column.specs.declared.packet.Packet.{Packet}
 use Rattle.column.specs.declared.packet.Packet.TheVariants.{Message, Acknowledgement}
 use Rattle.text.specs.Text.{bytes, decimal_in, all_digits, value_from, leading_zero, numeral, starts_with, after_key, divided, more_divided}
 use Rattle.text.specs.Text as text
@@ -22,7 +20,7 @@ use Rattle.table.specs.Tables.{listed_line, sequence_in, sequence_line, watch_li
 use Rattle.journals.specs.Journals.{line_text}
 use Rattle.firmware.specs.Blocks.{tree_bytes, column_bytes}
 use Rattle.firmware.specs.LoneSteps.{is_refused, rejoin_refusal, rejoin_effect}
-use Rattle.firmware.specs.Calls.{answer_of, Filled, filled_meant, tree_call, table_call, fresh_call, packet_call, rewritten, doors_call, packet_count, joined_at, join_call, list_call, owner_call, line_left, sent_call, got_call, byte_call, line_up_call, idle_call, quiet_call, doors_over, order_call, write_call, rejoin_call, Called, called_meant, step_call, take_call}
+use Rattle.firmware.specs.Calls.{answer_of, filled_meant, tree_call, table_call, fresh_call, packet_call, rewritten, doors_call, packet_count, joined_at, join_call, list_call, owner_call, line_left, sent_call, got_call, byte_call, line_up_call, idle_call, quiet_call, doors_over, order_call, write_call, rejoin_call, called_meant, step_call, take_call}
 
 -- columns=3, root=0, up=0,0,1
 abbrev three : Tree

@@ -2,7 +2,6 @@
 -- alone and against its neighbours in document 02's order. Assumes nothing.
 use Rattle.std.specs.Prelude.{ℕ, ◌≡◌, refl, Bool, true, false, List, [], ◌∷◌, map, replicate}
 use Rattle.std.specs.Int.Count.{count_trailing_zeros}
-use Rattle.column.specs.Sets.{selected}
 use Rattle.column.specs.Trees.{ascending, tree_by, tree_of, every, climbs_in, tree_refusal}
 use Rattle.column.specs.Columns.{state_refusal}
 use Rattle.column.specs.Steps.{Result, accepted, refused, send, send_refusal, send_effect, ack, ack_refusal, ack_effect, all, all_refusal, all_effect}

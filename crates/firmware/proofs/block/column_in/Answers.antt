@@ -2,7 +2,6 @@ use native.Mathlib.Omega.{arith}
 use lib.ListN.{take, drop, length-take}
 use Rattle.column.specs.Packets.{low_value}
 use Rattle.column.specs.laws.NumberLaws.{word_is}
-use borrow.Author.Rules.{rules}
 use Rattle.firmware.proofs.block.column_in.Goals as goal
 
 pub overflow_cast-sender : goal.overflow_cast-sender

@@ -1,11 +1,9 @@
-use Prim.Native.Nat.{◌-◌, ◌≤◌}
 use mathlib.Core.Path.{◌≡◌, sym, ap, ◌∙◌}
 use mathlib.Core.List.{[], ◌∷◌, ◌++◌}
 use native.Mathlib.Numerals.{add-one}
 use native.Mathlib.Omega.{arith}
-use lib.ListN.{length, get_or, take, length-set}
+use lib.ListN.{length, get_or, length-set}
 use lib.Seq.{take-suc, take-suc-set, take_all}
-use borrow.Author.Rules.{rules}
 use Rattle.firmware.proofs.block.fill.Goals as goal
 
 pub loop-i-preserved : goal.loop-i-preserved

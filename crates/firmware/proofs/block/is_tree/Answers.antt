@@ -1,6 +1,5 @@
 use lib.ListN.{length}
 use borrow.Author.Tests.{eq-eqb, ne_eqb}
-use borrow.Author.Rules.{rules}
 use Rattle.firmware.proofs.block.is_tree.Goals as goal
 
 pub returns-then-s-ne-TREE_SIZE : goal.returns-then-s-ne-TREE_SIZE

@@ -7,7 +7,6 @@ use lib.Seq.{length-take-le}
 use Rattle.column.specs.Packets.{low_first}
 use Rattle.column.specs.laws.NumberLaws.{length_low}
 use Rattle.firmware.specs.laws.FillLaws.{part_written}
-use borrow.Author.Rules.{rules}
 use Rattle.firmware.proofs.block.put_doors.Goals as goal
 
 pub returns : goal.returns

@@ -7,7 +7,6 @@ use lib.Seq.{length-take-le}
 use Rattle.column.specs.Packets.{high_first}
 use Rattle.column.specs.laws.NumberLaws.{length_high}
 use Rattle.firmware.specs.laws.FillLaws.{part_written}
-use borrow.Author.Rules.{rules}
 use Rattle.firmware.proofs.block.put_number.Goals as goal
 
 pub returns : goal.returns

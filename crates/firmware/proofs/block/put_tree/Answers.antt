@@ -3,7 +3,6 @@ use mathlib.Core.Path.{◌≡◌, ap, ◌∙◌}
 use mathlib.Core.List.{◌∷◌, ◌++◌}
 use native.Mathlib.Omega.{arith}
 use lib.ListN.{length, length-set}
-use Rattle.column.specs.declared.tree.Tree.{Tree}
 use Rattle.firmware.specs.laws.FillLaws.{Begun, begun, byte_more, more, begun_length, all_filled}
 use borrow.Author.Rules.{rules}
 use Rattle.firmware.proofs.block.put_tree.Goals as goal

@@ -2,7 +2,6 @@ use mathlib.Core.Path.{◌≡◌, ◌∙◌}
 use native.Mathlib.Omega.{arith}
 use Rattle.column.specs.Packets.{high_value}
 use Rattle.column.specs.laws.NumberLaws.{high_value_lt, word_is}
-use borrow.Author.Rules.{rules}
 use Rattle.firmware.proofs.block.set_in.Goals as goal
 use Rattle.firmware.proofs.block.set_in.Goals.{After-high_value-set}
 

@@ -1,5 +1,4 @@
 use native.Mathlib.Omega.{arith}
-use borrow.Author.Rules.{rules}
 use Rattle.firmware.proofs.block.tree_in.Goals as goal
 
 pub overflow_cast-root : goal.overflow_cast-root

@@ -5,7 +5,6 @@ use native.Mathlib.Omega.{arith}
 use lib.ListN.{take}
 use lib.Seq.{take_all}
 use Rattle.firmware.specs.Calls.{packet_count}
-use borrow.Author.Rules.{rules}
 use Rattle.firmware.proofs.frames.count_before.Goals as goal
 
 pub returns-then-s-at : goal.returns-then-s-at

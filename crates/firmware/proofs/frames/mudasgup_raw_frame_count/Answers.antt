@@ -1,7 +1,6 @@
 use mathlib.Core.Path.{◌≡◌}
 use Rattle.column.specs.Refusals.{given, refused}
 use Rattle.firmware.specs.Calls.{packet_count}
-use borrow.Author.Rules.{rules}
 use Rattle.firmware.proofs.frames.mudasgup_raw_frame_count.Goals as goal
 
 pub returns-in-Refused : goal.returns-in-Refused

@@ -1,6 +1,5 @@
 use mathlib.Core.Path.{sym, ◌∙◌}
 use Rattle.firmware.specs.laws.JournalTextLaws.{kind_message, kind_acknowledgement}
-use borrow.Author.Rules.{rules}
 use Rattle.firmware.proofs.journal.kind_of.Goals as goal
 
 pub returns-then-is_message : goal.returns-then-is_message

@@ -4,7 +4,6 @@ use mathlib.Core.List.{List}
 use native.Mathlib.Omega.{arith}
 use lib.ListN.{length}
 use borrow.Author.Tests.{le-leb, lt-leb}
-use borrow.Author.Rules.{rules}
 use Rattle.list.specs.Closing.{placed}
 use Rattle.firmware.specs.Calls.{filled_meant}
 use Rattle.firmware.proofs.journal.leave_text.Goals as goal

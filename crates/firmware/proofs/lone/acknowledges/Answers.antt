@@ -2,7 +2,6 @@ use mathlib.Core.Path.{ap}
 use mathlib.Core.Bool.{Bool, not, ◌&&◌}
 use lib.Dec.{eqb}
 use Rattle.firmware.specs.inner.StepCalls.{acknowledges}
-use borrow.Author.Rules.{rules}
 use Rattle.firmware.proofs.lone.acknowledges.Goals as goal
 
 pub returns : goal.returns

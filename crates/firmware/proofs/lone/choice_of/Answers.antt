@@ -1,4 +1,3 @@
-use borrow.Author.Rules.{rules}
 use Rattle.firmware.proofs.lone.choice_of.Goals as goal
 
 pub returns-in-Send : goal.returns-in-Send

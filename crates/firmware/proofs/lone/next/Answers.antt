@@ -1,7 +1,6 @@
 use mathlib.Core.Path.{sym, ◌∙◌}
 use borrow.Author.Tests.{eq-eqb, ne_eqb}
 use Rattle.firmware.specs.laws.LoneLaws.{next_sends, next_acknowledges, next_takes_over}
-use borrow.Author.Rules.{rules}
 use Rattle.firmware.proofs.lone.next.Goals as goal
 
 pub returns-then-c-ne0 : goal.returns-then-c-ne0

@@ -6,7 +6,6 @@ use Rattle.column.specs.Columns.{watched}
 use borrow.Author.Tests.{eq-eqb, ne_eqb, not-true, not-false}
 use Rattle.firmware.specs.inner.StepCalls.{acknowledges}
 use Rattle.firmware.specs.laws.LoneLaws.{rest_halted, rest_sends, rest_acknowledges, rest_root, rest_watched, rest_noted}
-use borrow.Author.Rules.{rules}
 use Rattle.firmware.proofs.lone.own_rests.Goals as goal
 use Rattle.firmware.proofs.lone.own_rests.Goals.{Else-acknowledges}
 

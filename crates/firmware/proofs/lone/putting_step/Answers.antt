@@ -1,7 +1,6 @@
 use mathlib.Core.Path.{sym, ap, ◌∙◌}
 use Rattle.firmware.specs.declared.lone.Chosen.{Chosen}
 use Rattle.firmware.specs.inner.StepCalls.{chosen_of}
-use borrow.Author.Rules.{rules}
 use Rattle.firmware.proofs.lone.putting_step.Goals as goal
 
 pub returns-in-Send : goal.returns-in-Send

@@ -1,4 +1,3 @@
-use borrow.Author.Rules.{rules}
 use Rattle.firmware.proofs.lone.quiet_step.Goals as goal
 
 pub returns-in-Order : goal.returns-in-Order

@@ -9,7 +9,6 @@ use Rattle.column.specs.Returns.{rejoined}
 use Rattle.column.specs.declared.state.Column.{Column}
 use Rattle.firmware.specs.LoneSteps.{with_record, rejoin_refusal, rejoin_effect}
 use Rattle.firmware.specs.laws.LoneLaws.{rejoin_halted}
-use borrow.Author.Rules.{rules}
 use Rattle.firmware.proofs.lone.rejoin_step.Goals as goal
 
 pub returns-then-n-ne0 : goal.returns-then-n-ne0

@@ -3,7 +3,6 @@ use mathlib.Core.Path.{◌≡◌}
 use native.Mathlib.Nat.{mod-eq_of_lt}
 use native.Mathlib.Omega.{arith}
 use lib.Pow.{pow-lt, pow_pos, pow_mono}
-use borrow.Author.Rules.{rules}
 use Rattle.firmware.proofs.lone.running_others.Goals as goal
 use Rattle.firmware.proofs.lone.running_others.Goals.{Start}
 

@@ -11,7 +11,6 @@ use Rattle.column.specs.declared.state.Column.{Column}
 use Rattle.firmware.specs.LoneSteps.{strike_refusal}
 use Rattle.firmware.specs.inner.StepCalls.{own_rests}
 use Rattle.firmware.specs.laws.LoneLaws.{strike_by}
-use borrow.Author.Rules.{rules}
 use Rattle.firmware.proofs.lone.strike_step.Goals as goal
 use Rattle.firmware.proofs.lone.strike_step.Goals.{After-refuse_if-n-3}
 

@@ -1,4 +1,3 @@
-use borrow.Author.Rules.{rules}
 use Rattle.firmware.proofs.packet_block.good_ends.Goals as goal
 
 pub returns : goal.returns

@@ -6,7 +6,6 @@ use lib.ListN.{length}
 use borrow.Author.Tests.{eq-eqb, ne_eqb, not-true, not-false}
 use Rattle.column.specs.Packets.{good_ends, write}
 use Rattle.firmware.specs.Calls.{filled_meant, packet_call}
-use borrow.Author.Rules.{rules}
 use Rattle.firmware.proofs.packet_block.leave_packet.Goals as goal
 
 pub returns-then-packet-ne-MESSAGE_SIZE : goal.returns-then-packet-ne-MESSAGE_SIZE

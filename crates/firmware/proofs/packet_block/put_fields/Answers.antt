@@ -4,7 +4,6 @@ use lib.ListN.{length-set}
 use Rattle.column.specs.Packets.{low_first, high_first}
 use Rattle.column.specs.laws.NumberLaws.{length_high, length_low}
 use Rattle.firmware.specs.laws.FillLaws.{Begun, begun, byte_more, more, begun_length, all_filled}
-use borrow.Author.Rules.{rules}
 use Rattle.firmware.proofs.packet_block.put_fields.Goals as goal
 use Rattle.firmware.proofs.packet_block.put_fields.Goals.{After-put_doors, After-put_number}
 

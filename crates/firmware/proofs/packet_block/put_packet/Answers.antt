@@ -1,6 +1,5 @@
 use mathlib.Core.Path.{refl}
 use Rattle.column.specs.Packets.{low_first, bytes_in}
-use borrow.Author.Rules.{rules}
 use Rattle.firmware.proofs.packet_block.put_packet.Goals as goal
 
 pub returns-in-Message : goal.returns-in-Message

@@ -7,7 +7,6 @@ use Rattle.column.specs.Packets.{low_value, write}
 use Rattle.column.specs.laws.NumberLaws.{word_is}
 use Rattle.column.specs.declared.packet.Packet.TheVariants.{Message}
 use Rattle.firmware.specs.Calls.{filled_meant, packet_call, doors_call}
-use borrow.Author.Rules.{rules}
 use Rattle.firmware.proofs.packets.mudasgup_raw_message.Goals as goal
 
 pub returns-then-doors-ne-DOORS_SIZE : goal.returns-then-doors-ne-DOORS_SIZE

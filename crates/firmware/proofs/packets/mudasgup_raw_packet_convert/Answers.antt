@@ -1,7 +1,6 @@
 use mathlib.Core.Path.{ap, ◌∙◌}
 use Rattle.column.specs.Packets.{Wrote}
 use Rattle.firmware.specs.Calls.{packet_call}
-use borrow.Author.Rules.{rules}
 use Rattle.firmware.proofs.packets.mudasgup_raw_packet_convert.Goals as goal
 
 pub returns : goal.returns

@@ -6,12 +6,10 @@ use Rattle.column.specs.Columns.{validity_refusal}
 use Rattle.column.specs.declared.tree.Tree.{Tree}
 use Rattle.column.specs.declared.state.Column.{Column}
 use Rattle.firmware.specs.Blocks.{tree_in, own_in, column_in, are_blocks}
-use Rattle.firmware.specs.LoneSteps.{rests}
 use Rattle.firmware.specs.inner.StepCalls.{own_rests}
 use Rattle.firmware.specs.laws.LoneLaws.{rests_by}
 use Rattle.firmware.specs.Calls.{idle_call}
 use Rattle.firmware.specs.laws.CallLaws.{Blocks, blocks}
-use borrow.Author.Rules.{rules}
 use Rattle.firmware.proofs.state.mudasgup_raw_idle.Goals as goal
 use Rattle.firmware.proofs.state.mudasgup_raw_idle.Goals.{After-column_in-c, Else-not-are_blocks}
 

@@ -10,7 +10,6 @@ use Rattle.column.specs.declared.state.Column.{Column}
 use Rattle.firmware.specs.Blocks.{tree_in, own_in, column_in, are_blocks}
 use Rattle.firmware.specs.Calls.{byte_call}
 use Rattle.firmware.specs.laws.CallLaws.{Blocks, blocks}
-use borrow.Author.Rules.{rules}
 use Rattle.firmware.proofs.state.mudasgup_raw_page_read.Goals as goal
 use Rattle.firmware.proofs.state.mudasgup_raw_page_read.Goals.{After-read, Else-not-are_blocks}
 

@@ -6,7 +6,6 @@ use Rattle.column.specs.declared.tree.Tree.{Tree}
 use Rattle.firmware.specs.Blocks.{is_tree, tree_in}
 use Rattle.firmware.specs.Calls.{tree_call}
 use Rattle.firmware.specs.laws.CallLaws.{tree_size_lem}
-use borrow.Author.Rules.{rules}
 use Rattle.firmware.proofs.state.mudasgup_raw_tree_check.Goals as goal
 use Rattle.firmware.proofs.state.mudasgup_raw_tree_check.Goals.{After-tree_refusal-n, Else-not-is_tree}
 

@@ -3,7 +3,6 @@ use mathlib.Core.Path.{◌≡◌, ap}
 use mathlib.Core.List.{List}
 use lib.ListN.{length}
 use borrow.Author.Tests.{eq-eqb, ne_eqb}
-use borrow.Author.Rules.{rules}
 use Rattle.bank.specs.Steps.{accepted, refused}
 use Rattle.table.specs.Tables.{placed_at, read_table}
 use Rattle.firmware.specs.Calls.{filled_meant, table_call}

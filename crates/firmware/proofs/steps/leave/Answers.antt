@@ -8,7 +8,6 @@ use lib.ListN.{length}
 use Rattle.column.specs.declared.packet.Packet.{Packet}
 use Rattle.firmware.specs.Blocks.{column_bytes}
 use Rattle.firmware.specs.Calls.{called_meant}
-use borrow.Author.Rules.{rules}
 use Rattle.firmware.proofs.steps.leave.Goals as goal
 
 -- the packet's size

@@ -2,7 +2,6 @@ use Prim.Native.Nat.{ℕ}
 use mathlib.Core.Path.{ap}
 use mathlib.Core.List.{List}
 use Rattle.firmware.specs.Calls.{filled_meant}
-use borrow.Author.Rules.{rules}
 use Rattle.firmware.proofs.steps.leave_quietly.Goals as goal
 
 pub returns-in-Refused : goal.returns-in-Refused

@@ -8,7 +8,6 @@ use Rattle.column.specs.laws.NumberLaws.{word_is}
 use Rattle.firmware.specs.declared.lone.QuietStep.TheVariants.{Order}
 use Rattle.firmware.specs.Calls.{filled_meant, quiet_call, doors_over}
 use Rattle.firmware.specs.inner.StepCalls.{quiet_of}
-use borrow.Author.Rules.{rules}
 use Rattle.firmware.proofs.steps.mudasgup_raw_order.Goals as goal
 
 pub returns-then-doors-ne-DOORS_SIZE : goal.returns-then-doors-ne-DOORS_SIZE

@@ -5,7 +5,6 @@ use Rattle.column.specs.Refusals.{given, refused}
 use Rattle.column.specs.Packets.{part, read}
 use Rattle.firmware.specs.Calls.{called_meant}
 use Rattle.firmware.specs.laws.CallLaws.{take_unfit, take_none, take_one}
-use borrow.Author.Rules.{rules}
 use Rattle.firmware.proofs.steps.mudasgup_raw_take.Goals as goal
 
 pub returns-then-not-step_blocks : goal.returns-then-not-step_blocks

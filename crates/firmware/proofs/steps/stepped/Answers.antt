@@ -4,7 +4,6 @@ use borrow.Author.Tests.{not-true, not-false}
 use Rattle.firmware.specs.Calls.{called_meant}
 use Rattle.firmware.specs.inner.StepCalls.{putting_of}
 use Rattle.firmware.specs.laws.CallLaws.{StepBlocks, step_blocks_lem, step_unfit, step_fit}
-use borrow.Author.Rules.{rules}
 use Rattle.firmware.proofs.steps.stepped.Goals as goal
 use Rattle.firmware.proofs.steps.stepped.Goals.{Else-not-step_blocks}
 
