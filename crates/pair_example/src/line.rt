@@ -1,5 +1,5 @@
 // The line between the two ends: what steps put goes over it as the bytes of one frame, and each column takes from these what is for it.
-ghost use Rattle.std.specs.Prelude.{IfOk, ◌≤◌, length};
+ghost use Rattle.std.specs.Prelude.{IfOk, OnErr, ◌≡◌, ◌≤◌, length};
 
 use crate::print::{print_bytes, print_line, wide};
 use column::codec::{Size, write};
@@ -30,7 +30,8 @@ fn put_bytes(frame: &mut [u8], at: usize, bytes: &[u8]) -> usize
 
 fn put_packet(out: io::Stdout, frame: &mut [u8], at: usize, p: Packet) -> io::Result<usize>
     requires { at ≤ length frame.old }
-    ensures { IfOk result (λ n. n ≤ length frame.new) }
+    ensures within { IfOk result (λ n. n ≤ length frame.new) }
+    ensures failed { OnErr result (length frame.new ≡ length frame.old) }
 {
     let written = write(p);
     let size = written.size;
@@ -47,7 +48,8 @@ fn put_packet(out: io::Stdout, frame: &mut [u8], at: usize, p: Packet) -> io::Re
 // The packet that a step puts; a step that puts none leaves the frame as it is.
 fn put(out: io::Stdout, frame: &mut [u8], at: usize, answer: Answer) -> io::Result<usize>
     requires { at ≤ length frame.old }
-    ensures { IfOk result (λ n. n ≤ length frame.new) }
+    ensures within { IfOk result (λ n. n ≤ length frame.new) }
+    ensures failed { OnErr result (length frame.new ≡ length frame.old) }
 {
     match answer {
         Answer::Put(p) => put_packet(out, frame, at, p),
@@ -67,7 +69,8 @@ pub fn over_the_line(
     first: Answer,
     second: Answer,
 ) -> io::Result<usize>
-    ensures { IfOk result (λ n. n ≤ length frame.new) }
+    ensures within { IfOk result (λ n. n ≤ length frame.new) }
+    ensures failed { OnErr result (length frame.new ≡ length frame.old) }
 {
     let middle = put(out, frame, 0, first)?;
     let end = put(out, frame, middle, second)?;
