@@ -6,8 +6,8 @@ and at the one before it, each in a clean clone. Prints a table for docs/CHANGES
     tools/point_times.py --results ../point-times.json 1 4      Points 1 and 4
     tools/point_times.py --list                                 the commits, and which of them have the same sources
 
-What is measured is kept in the results file, commit by commit; a run that was stopped goes on where it ended. Keep it outside of target, which `rt ci` removes. Commits that have the same crates are measured once.
-Nothing else should run on the machine."""
+What is measured is kept in the results file, commit by commit; a run that was stopped goes on where it ended. Commits that have the same crates are measured once. The `rt` that is found
+has to be that of the kit which those commits were written for: today's knows no `rt prove`, and not their language. Nothing else should run on the machine."""
 import json
 import os
 import resource

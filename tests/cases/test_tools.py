@@ -84,6 +84,31 @@ class Tools(unittest.TestCase):
         self.assertIn("make install PREFIX=DIR", done.stdout)
 
 
+class Gate(unittest.TestCase):
+    """.ci/run with a stand-in for rt and for the tests: what it counts, and what fails it."""
+    ok = "rt: ok; handles allowed: none; must-fail edits: 2 refused; every proof and must-fail edit was done in this run\n3 passed, 0 failed\n"
+
+    def ran(self, said, status=0, tests="4 passed, 0 failed\n"):
+        """How the gate ends: with its last line, its status and what rt was called with."""
+        with tempfile.TemporaryDirectory() as folder:
+            for path, text in ((".ci/run", read(".ci/run")), ("rt", f"#!/bin/sh\necho \"$* $RT_JOBS\" >called\ncat <<'END'\n{said}END\nexit {status}\n"), ("tests/run.py", f"print({tests!r}, end='')\n")):
+                os.makedirs(os.path.dirname(os.path.join(folder, path)), exist_ok=True)
+                with open(os.path.join(folder, path), "w", encoding="ascii") as file:
+                    file.write(text)
+                os.chmod(os.path.join(folder, path), 0o755)
+            done = subprocess.run([os.path.join(folder, ".ci", "run")], capture_output=True, text=True, env={**os.environ, "PATH": f"{folder}:{os.environ['PATH']}"})
+            return done.stdout.splitlines()[-1], done.returncode, read(os.path.join(folder, "called"))
+
+    def test_it_is_a_plain_run_of_rt_and_of_the_tests(self):
+        self.assertEqual(self.ran(self.ok), ("7 passed, 0 failed", 0, "ci \n"))
+
+    def test_whatever_fails_there_fails_it(self):
+        for said, status, tests in ((self.ok.replace("2 refused;", "1 refused, 1 bad;"), 0, "4 passed, 0 failed\n"), (self.ok, 1, "4 passed, 0 failed\n"),
+                                    (self.ok.replace("0 failed", "1 failed"), 1, "4 passed, 0 failed\n"), ("Traceback\n", 0, "4 passed, 0 failed\n"),
+                                    (self.ok, 0, "3 passed, 1 failed\n"), (self.ok, 0, "Traceback\n")):
+            self.assertEqual(self.ran(said, status, tests)[1], 1, (said, status, tests))
+
+
 class PointTimes(unittest.TestCase):
     def test_every_point_has_the_commit_of_its_landing_and_the_one_before(self):
         self.assertEqual(list(point_times.POINTS), list(range(1, 14)))
