@@ -47,7 +47,7 @@ pub record IsTree (t : Tree) : Type 0 where
   pub sixteen : t.columns ≤ 16
   -- row 3: "root or parent not below columns .. root not its own parent"
   pub root_below : t.root < t.columns
-  pub parent_below_lem : (i : ℕ) → i < t.columns → parent t i < t.columns
+  pub parent_below : (i : ℕ) → i < t.columns → parent t i < t.columns
   pub root_own : parent t t.root ≡ t.root
   -- "Every climb by parents must end at the root", however long it is
   pub climbs : (i : ℕ) → i < t.columns → (k : ℕ) × (climb t k i ≡ t.root)

@@ -34,7 +34,7 @@ module _ (t : Tree) (tree : IsTree t) where
   above_child y x {q} h m u =
       let up = child_parent t x q m.holds in
       let w = (subtree_climb t tree y q h).0 u in
-      go w.1.0 w.1.1 up (subst (λ (z : ℕ). z < t.columns) up (tree.parent_below_lem q w.0))
+      go w.1.0 w.1.1 up (subst (λ (z : ℕ). z < t.columns) up (tree.parent_below q w.0))
     where
       go : (k : ℕ) → climb t k q ≡ y → parent t q ≡ x → x < t.columns → (q ≡ y) ⊎ Under t y x
       go zero e up l = inl e

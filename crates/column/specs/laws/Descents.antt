@@ -73,7 +73,7 @@ module _ (t : Tree) (tree : IsTree t) where
   pub climb_nearer : (k p : ℕ) → p < t.columns → (climb t k p ≡ p) ⊎ (depth t (climb t k p) < depth t p)
   unfolding climb
   climb_nearer zero p h = inl refl
-  climb_nearer (suc k) p h = go (equal_cases p t.root) (climb_nearer k (parent t p) (tree.parent_below_lem p h))
+  climb_nearer (suc k) p h = go (equal_cases p t.root) (climb_nearer k (parent t p) (tree.parent_below p h))
     where
       go : (p ≡ t.root) ⊎ (p ≡ t.root → ⊥)
           → (climb t k (parent t p) ≡ parent t p) ⊎ (depth t (climb t k (parent t p)) < depth t (parent t p))
@@ -230,7 +230,7 @@ module _ (t : Tree) (tree : IsTree t) where
   climb_found zero calls c p h e l = rw (sym (climb_zero t p) ∙ e) (found_here t calls c (omega arith))
   climb_found (suc k) calls c p h e l =
       let q = climb t k p in
-      let below = climb_lt t tree.parent_below_lem k p h in
+      let below = climb_lt t tree.parent_below k p h in
       let up : parent t q ≡ c = sym (climb_suc t k p) ∙ e in
       ⊎_elim
       (λ r. climb_found k calls c p h (r ∙ sym tree.root_own ∙ ap (parent t) (sym r) ∙ up) l)

@@ -42,7 +42,7 @@ module _ (t : Tree) (n≢0 : 1 ≤ t.columns) (few : t.columns ≤ 16) (zero-roo
         some = n≢0;
         sixteen = few;
         root_below = omega arith;
-        parent_below_lem = below;
+        parent_below = below;
         root_own = ap (parent t) zero-root ∙ own ∙ sym zero-root;
         climbs = λ c h. let r = ends t.columns c h h in (r.0, r.1 ∙ sym zero-root);
         listed = λ c h. (c, h, listed_is c h);

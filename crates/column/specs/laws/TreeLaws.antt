@@ -156,7 +156,7 @@ module _ (t : Tree) where
         some = omega (arith, eqb-false t.columns 0 p.0);
         sixteen = ltb-false 16 t.columns p.1.0;
         root_below = leb-false t.columns t.root p.1.1.0;
-        parent_below_lem = λ c h. ltb-true (parent t c) t.columns (every_at (is_parent_below t) t.columns c (not-false _ p.1.1.1.0) h);
+        parent_below = λ c h. ltb-true (parent t c) t.columns (every_at (is_parent_below t) t.columns c (not-false _ p.1.1.1.0) h);
         root_own = eqb-true (parent t t.root) t.root (not-false _ p.1.1.1.1.1.0);
         climbs = λ c h.
             let r = climb_ends t t.columns c (every_at (climbs_in t t.columns) t.columns c (not-false _ p.1.1.1.1.1.1.0) h) in
@@ -167,7 +167,7 @@ module _ (t : Tree) where
       }
 
   pub climbs_in_lem : IsTree t → (c : ℕ) → c < t.columns → climbs_in t t.columns c ≡ true
-  climbs_in_lem tree c h = let w = tree.climbs c h in climbs_on t tree.parent_below_lem c h 0 w.0 (ap (climb t w.0) (climb_zero t c) ∙ w.1)
+  climbs_in_lem tree c h = let w = tree.climbs c h in climbs_on t tree.parent_below c h 0 w.0 (ap (climb t w.0) (climb_zero t c) ∙ w.1)
 
   lists_each_lem : IsTree t → lists_each t ≡ true
   lists_each_lem tree =
@@ -187,7 +187,7 @@ module _ (t : Tree) where
           (
             lt-leb t.columns t.root tree.root_below,
             (
-              ap not (every_all (is_parent_below t) t.columns (λ c h. lt-ltb (parent t c) t.columns (tree.parent_below_lem c h))),
+              ap not (every_all (is_parent_below t) t.columns (λ c h. lt-ltb (parent t c) t.columns (tree.parent_below c h))),
               (
                 ap not (lists_each_lem tree),
                 (

@@ -77,7 +77,7 @@ module _ (columns delay gap : ℕ) (d : 0 < delay) (e : 0 < gap) (some : 0 < col
         some = some;
         sixteen = few;
         root_below = some;
-        parent_below_lem = λ c l. below c l (equal_cases c 0);
+        parent_below = λ c l. below c l (equal_cases c 0);
         root_own = sound.root_own;
         climbs = λ c l. climbs c l (suc c) (omega arith);
         listed = λ c l. (c, l, ascending_at c (omega arith));

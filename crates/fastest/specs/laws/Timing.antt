@@ -145,7 +145,7 @@ module _ (delay gap : ℕ) (t : Tree) (sent : ℕ → ℕ) where
           → (parent t c < t.columns) × (arrival delay t sent (parent t c) + delay ≤ arrival delay t sent c)
       delayed c l p =
           let ne = not_root c p in
-          (is.parent_below_lem c l, omega (arith, keeps.held c l ne, heard_other t.root delay sent c ne))
+          (is.parent_below c l, omega (arith, keeps.held c l ne, heard_other t.root delay sent c ne))
 
       spaced : (b c : ℕ) → b < c → c < t.columns → 0 < arrival delay t sent b → 0 < arrival delay t sent c → parent t b ≡ parent t c
           → (arrival delay t sent b + gap ≤ arrival delay t sent c) ⊎ (arrival delay t sent c + gap ≤ arrival delay t sent b)

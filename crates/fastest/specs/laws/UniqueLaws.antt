@@ -27,7 +27,7 @@ module _ {delay gap : ℕ} {t : Tree} {sent : ℕ → ℕ} (d : 0 < delay) (is :
       go (inr (inr h)) =
           absurd
           (omega
-          (arith, f.relays c l b, arrival_later (parent t c) (omega (arith, h, l)), f.numbered c (parent t c) l h (is.parent_below_lem c b)))
+          (arith, f.relays c l b, arrival_later (parent t c) (omega (arith, h, l)), f.numbered c (parent t c) l h (is.parent_below c b)))
 
   -- no column below c has an earlier turn, nor a lower one an equal turn, than the one that sends to c
   abbrev First : ℕ → ℕ → Type 0

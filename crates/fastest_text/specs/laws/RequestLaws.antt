@@ -22,7 +22,7 @@ unfolding table_text
 table_longest t is =
     let up = take t.columns t.up in
     let parents : length (divided up) ≤ 3 * length up - 1 =
-    divided_length up (columns_taken t.up t.columns (λ c l. omega (arith, is.parent_below_lem c l, is.sixteen))) in
+    divided_length up (columns_taken t.up t.columns (λ c l. omega (arith, is.parent_below c l, is.sixteen))) in
     simp length-append
     (omega (
       arith,

@@ -170,7 +170,7 @@ module _ (t : Tree) where
     up_length = length-take t.columns t.up ∙ omega (arith, is.sixteen, wide)
 
     up_small : Columns up
-    up_small = columns_taken t.up t.columns (λ c l. omega (arith, is.parent_below_lem c l, is.sixteen))
+    up_small = columns_taken t.up t.columns (λ c l. omega (arith, is.parent_below c l, is.sixteen))
 
     table_read : (rest : List ℕ) → starts_with first_key rest ≡ false → starts_with watch_key rest ≡ false → table_of (table_text t ++ rest) ≡ read table
     unfolding first_line second_line third_line table_in joined sequence_line further_in watch_line with_watch
