@@ -85,7 +85,7 @@ def in_words(path, line, name):
 
 def first_error(copy, crate, log):
     """The first fact that no longer holds, in words and with its place, or None. What the tactics do not find is told in a note."""
-    for text in read(log).replace("\nso far: ", "\n").split("\n"):
+    for text in read(log).split("\n"):
         told = re.match(r"note: (\S+?):(\d+):\d+: it is not proved that .*\(`(\S+)`\)", text) or re.match(r"(\S+?):(\d+):\d+: error: `(\S+)`: ", text)
         if told and not UNFIT.search(text):
             place, line, name = told.group(1).removeprefix("./"), int(told.group(2)), told.group(3)
