@@ -41,6 +41,11 @@ def mutants():
     return {os.path.relpath(path, folder).removesuffix(".edit") for path in glob.glob(os.path.join(folder, "*", "*.edit"))}
 
 
+def of_mutants(path):
+    """Where an edit of the gate is in tests/mutants, if it is there."""
+    return os.path.join(ROOT, "tests", "mutants", os.path.basename(os.path.dirname(os.path.dirname(path))), os.path.basename(path))
+
+
 def sources(pattern):
     """The paths of files of the crates, without what rt makes of them."""
     return sorted(path for path in glob.glob(os.path.join(ROOT, "crates", pattern), recursive=True) if f"{os.sep}out{os.sep}" not in path)
@@ -145,6 +150,12 @@ class Repository(unittest.TestCase):
         for path in edits:
             crate = next(part for part in os.path.relpath(path, ROOT).split(os.sep) if part in CRATES)
             self.assertTrue(applied(crate, read(path)), path)
+
+    def test_an_edit_that_the_gate_tries_too_is_the_same(self):
+        both = [path for path in sources("*/must-fail/*.edit") if os.path.exists(of_mutants(path))]
+        self.assertGreater(len(both), 30)
+        for path in both:
+            self.assertEqual(read(of_mutants(path)), read(path), path)
 
     def test_an_edit_that_does_not_fit_is_an_error(self):
         applied = runner("trial.py")["applied"]

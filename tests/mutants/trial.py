@@ -1,4 +1,5 @@
 """What the runners of this folder share: a copy of the repository to spoil, and the reading of what the prover says of it."""
+import glob
 import os
 import re
 import shutil
@@ -11,13 +12,15 @@ sys.path.append(os.path.join(os.path.dirname(os.path.dirname(HERE)), "tools"))
 from repository import ROOT, read
 
 # An edit that only makes the proof file unfit for the code shows nothing.
-UNFIT = re.compile(r"has no `|has no field|was not admitted|is not in scope|expected type `goal\.")
+UNFIT = re.compile(r"has no `|has no field|was not admitted|is not in scope|is no name|operand is missing|expected the end|cannot continue|expected type `goal\.")
 # A change of an edit: the lines that its file has, and those in their place.
 CHANGE = re.compile(r"((?:old:.*\n)*)((?:new:.*\n)+)")
 # What a goal of a function's proof asks, by how its name begins or ends.
-FACTS = ((r"returns(-.*)?$", "would not answer what it ensures"), (r"loop-.*-init$", "would begin its loop without the invariant"),
-         (r"loop-.*-preserved$", "would not keep the invariant of its loop"), (r"loop-.*-smaller$", "would come no nearer to the end of its loop"),
-         (r".*-requires(-\d+)?$", "would call a function without what that asks"), (r"(\w+_)?bounds-|overflow_", "would leave its bounds"))
+FACTS = ((r"(\w+-)?returns(-.*)?$", "would not answer what it ensures"), (r"loop-.*-init(-.*)?$", "would begin its loop without the invariant"),
+         (r"loop-.*-preserved(-.*)?$", "would not keep the invariant of its loop"), (r"loop-.*-smaller(-.*)?$", "would come no nearer to the end of its loop"),
+         (r".*-requires(-.*)?$", "would call a function without what that asks"), (r"(\w+_)?bounds-|overflow_", "would leave its bounds"))
+# A function, with its name, after its remarks.
+FUNCTION = r"(?:^//[^\n]*\n)*(?:^#\[[^\n]*\n)*^(?:pub(?:\(crate\))? )?(?:extern \"C\" )?fn (\w+).*?^\}\n"
 # The files of a function's proof.
 PROOFS = ("Answers.antt", "Invariants.antt", "Proof.antt")
 
@@ -36,17 +39,38 @@ def rewrite(path, change):
 
 
 def declarations(text):
-    """A source file without its functions and what only they use."""
-    text = re.sub(r"(?:^//[^\n]*\n)*(?:^#\[[^\n]*\n)*^(?:pub(?:\(crate\))? )?(?:extern \"C\" )?fn .*?^\}\n", "", text, flags=re.M | re.S)
-    return re.sub(r"^(?:ghost )?use [^\n]*(?:\}|::[a-z_]\w*);\n", "", text, flags=re.M)
+    """A source file without its functions and what only they import."""
+    text = re.sub(FUNCTION, "", text, flags=re.M | re.S)
+    line = re.compile(r"^((?:pub )?(?:ghost )?use [^{};]*?)(?:\{([^{}]*)\}|([^\s{}:.;]+));\n", re.M)
+    rest = re.sub(r"//[^\n]*", "", line.sub("", text))
+
+    def needed(found):
+        """The line with the names alone that something is left of."""
+        names = [name.strip() for name in (found[2] or found[3]).split(",") if name.strip()]
+        kept = [name for name in names if re.search(rf"(?<![\w']){re.escape(name.split()[-1].strip('◌'))}(?![\w'])", rest)]
+        return f"{found[1]}{{{', '.join(kept)}}};\n" if kept else ""
+
+    return line.sub(needed, text)
+
+
+def without_functions(crate):
+    """Leaves the functions of a crate's folder out, with their proofs: its types stay, and the definitions and the laws of specs/ and of proofs/."""
+    proofs, listed = os.path.join(crate, "proofs"), os.path.join(crate, "proofs", "Lib.antt")
+    laws = re.findall(r"^(?:pub )?mod (\w+)$", read(listed), re.M) if os.path.exists(listed) else []
+    for folder in glob.glob(os.path.join(proofs, "*", "")):
+        if os.path.basename(os.path.dirname(folder)) not in laws:
+            shutil.rmtree(folder)
+    for path in glob.glob(os.path.join(crate, "src", "*.rt")):
+        rewrite(path, declarations)
 
 
 def function_of(path, line):
-    """The function that a proof file is of, or whose text begins at a line of a source; None where a law is meant."""
+    """The function that a proof file is of, or that a line of a source is in; None where a law is meant."""
     if os.path.basename(path) in PROOFS:
         return os.path.basename(os.path.dirname(path))
     if path.endswith(".rt"):
-        return re.search(r"fn (\w+)", read(path).split("\n", line - 1)[-1]).group(1)
+        text = read(path)
+        return next(found[1] for found in re.finditer(FUNCTION, text, re.M | re.S) if line <= text.count("\n", 0, found.end()))
     return None
 
 
@@ -60,7 +84,7 @@ def in_words(path, line, name):
 
 
 def first_error(copy, crate, log):
-    """The first fact that no longer holds, in words and with its place, or None. A function with no proof file tells it in a note."""
+    """The first fact that no longer holds, in words and with its place, or None. What the tactics do not find is told in a note."""
     for text in read(log).split("\n"):
         told = re.match(r"note: (\S+?):(\d+):\d+: it is not proved that .*\(`(\S+)`\)", text) or re.match(r"(\S+?):(\d+):\d+: error: `(\S+)`: ", text)
         if told and not UNFIT.search(text):
