@@ -83,13 +83,15 @@ def in_words(path, line, name):
     return f"`{function}` {told}" if told else f"`{name}`, on which the proof of `{function}` rests, no longer holds"
 
 
-def first_error(copy, crate, log):
-    """The first fact that no longer holds, in words and with its place, or None. What the tactics do not find is told in a note."""
+def first_error(copy, crate, log, of_functions=False):
+    """The first fact that no longer holds, or the first of a function's proof, in words and with its place, or None. What the tactics do not find is told in a note."""
     for text in read(log).split("\n"):
         told = re.match(r"note: (\S+?):(\d+):\d+: it is not proved that .*\(`(\S+)`\)", text) or re.match(r"(\S+?):(\d+):\d+: error: `(\S+)`: ", text)
         if told and not UNFIT.search(text):
             place, line, name = told.group(1).removeprefix("./"), int(told.group(2)), told.group(3)
-            return f"{in_words(os.path.join(copy, 'crates', crate, place), line, name)} ({place}, {name})"
+            path = os.path.join(copy, "crates", crate, place)
+            if function_of(path, line) or not of_functions:
+                return f"{in_words(path, line, name)} ({place}, {name})"
     return None
 
 
