@@ -178,7 +178,7 @@ class Runs:
 
     def test_it_runs_by_a_link_and_from_another_folder(self):
         os.symlink(f"../{self.name}", self.path("tools", "linked"))
-        self.assert_answered(self.run_command("../given", command=self.path("tools", "linked"), cwd=self.path("target")))
+        self.assert_answered(self.run_command("../given", command=self.path("tools", "linked"), cwd=self.path("crates")))
 
     def test_more_than_one_file_is_refused(self):
         self.assert_misused(self.run_command(self.file, self.file), f"more than one {self.given}")

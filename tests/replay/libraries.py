@@ -5,7 +5,7 @@ import re
 from machines import build, kit
 
 # An order's number is then two above the last, and not one.
-CHANGED = re.compile(r'(?ms)^(define [^\n]*@"column::effect::order_effect"\(.*?= add nuw i32 %\w+, )1$')
+CHANGED = re.compile(r'(?ms)^(define [^\n]*@"column::effect::order_effect"\(.*?= add i32 %\w+, )1$')
 
 
 def changed(each):

@@ -15,7 +15,7 @@ MACHINES = {machine.name: machine for machine in (
     Machine("thumbv7m", "Cortex-M3, no system", "thumbv7m-unknown-none-eabi", ("-Os",), ARM),
     Machine("thumbv7em", "Cortex-M4F, no system", "thumbv7em-unknown-none-eabihf", ("-Os",), ARM),
     Machine("riscv32", "RV32IMAC, no system", "riscv32-unknown-unknown-elf", ("-march=rv32imac", "-mabi=ilp32", "-Os"), "e-m:e-p:32:32-i64:64-n32-S128"),
-    Machine("wasm32", "WebAssembly", "wasm32-unknown-unknown", ("-mbulk-memory", "-O2"),
+    Machine("wasm32", "WebAssembly", "wasm32-unknown-unknown", ("-mbulk-memory", "-Os"),
             "e-m:e-p:32:32-p10:8:8-p20:8:8-i64:64-i128:128-n32:64-S128-ni:1:10:20"),
 )}
 CONTROL = MACHINES["x86_64"]
