@@ -44,7 +44,7 @@ fn main(rt: HostRuntime) -> io::Result<()> {
     let n = read_file(&rt, 1, &mut one);
     let mut two = [0u8; JOURNAL + 1];
     let m = read_file(&rt, 2, &mut two);
-    // What is missing is never longer than both journals (`missing-within` of MissingLength), so that it always fits.
+    // What is missing is never longer than both journals (`missing_within` of MissingLength), so that it always fits.
     let mut missing = [0u8; JOURNAL * 2];
     match compare(&one[..n], &two[..m], &mut missing) {
         Compared::Refused(number) => print_refusal(&rt, number),
