@@ -147,8 +147,12 @@ class InNode(unittest.TestCase):
             self.assertEqual(table, f"columns={columns}\nroot=0\nup={','.join(map(str, tree['up']))}\n")
 
 
-def load_tests(loader, tests, pattern):
-    """Those in node are counted among the tests only where they run."""
-    if NODE is None:
+class WithoutNode(unittest.TestCase):
+    def test_that_node_is_missing_is_told(self):
         print("NOT RUN: node is not found, so that what the page draws was not compared with what the programs print: apt-get install nodejs")
-    return unittest.TestSuite(map(loader.loadTestsFromTestCase, [Built, InNode][:1 + bool(NODE)]))
+        self.assertIsNone(NODE)
+
+
+def load_tests(loader, tests, pattern):
+    """Those in node where it is there."""
+    return unittest.TestSuite(map(loader.loadTestsFromTestCase, (Built, InNode if NODE else WithoutNode)))

@@ -28,10 +28,11 @@ fn put_bytes(frame: &mut [u8], at: usize, bytes: &[u8]) -> usize
     end
 }
 
+// An error is that of the write that failed, here and in what calls this.
 fn put_packet(out: io::Stdout, frame: &mut [u8], at: usize, p: Packet) -> io::Result<usize>
     requires { at ≤ length frame.old }
     ensures within { IfOk result (λ n. n ≤ length frame.new) }
-    ensures failed { OnErr result (length frame.new ≡ length frame.old) }
+    ensures failed { OnErr result (frame.new ≡ frame.old) }
 {
     let written = write(p);
     let size = written.size;
@@ -49,7 +50,7 @@ fn put_packet(out: io::Stdout, frame: &mut [u8], at: usize, p: Packet) -> io::Re
 fn put(out: io::Stdout, frame: &mut [u8], at: usize, answer: Answer) -> io::Result<usize>
     requires { at ≤ length frame.old }
     ensures within { IfOk result (λ n. n ≤ length frame.new) }
-    ensures failed { OnErr result (length frame.new ≡ length frame.old) }
+    ensures failed { OnErr result (frame.new ≡ frame.old) }
 {
     match answer {
         Answer::Put(p) => put_packet(out, frame, at, p),
