@@ -9,6 +9,7 @@ use Rattle.text.specs.Text.{note_key, starts_with, number_meant}
 use Rattle.text.specs.laws.ReadingLaws.{starts_length, after_other}
 use Rattle.script.specs.Lines.{note_of, note_in}
 use Rattle.script.specs.laws.LineLaws.{note_one, note_two}
+use Rattle.text.specs.laws.Cutting.{found}
 use Rattle.script.proofs.line.note.Goals as goal
 use Rattle.script.proofs.line.note.Goals.{Else-not-starts_with}
 
@@ -25,17 +26,17 @@ pub find-comma-requires : goal.find-comma-requires
 find-comma-requires c = (omega (arith, starts_length note_key _ (starts (goal.at.find-comma-requires c).Else-not-starts_with)), search rules)
 
 pub returns-then-comma-end : goal.returns-then-comma-end
-returns-then-comma-end c = sym (note_one _ (starts (goal.at.returns-then-comma-end c).Else-not-starts_with) _ c.find-comma.ensures.1 c.find-comma.ensures.0 c.if-comma-end.true)
+returns-then-comma-end c = sym (note_one _ (starts (goal.at.returns-then-comma-end c).Else-not-starts_with) _ c.find-comma.ensures.1 (found _ _ _ _ c.find-comma.ensures (omega arith)).0 c.if-comma-end.true)
 
 pub returns-in-Unread : goal.returns-in-Unread
 unfolding note_of
-returns-in-Unread c = rw (note_two _ (starts (goal.at.returns-in-Unread c).Else-not-starts_with) _ c.find-comma.ensures.1 c.find-comma.ensures.0 c.if-comma-end.false, sym c.read_numeral.ensures ∙ ap number_meant c.in-Unread.is)
+returns-in-Unread c = rw (note_two _ (starts (goal.at.returns-in-Unread c).Else-not-starts_with) _ c.find-comma.ensures.1 (found _ _ _ _ c.find-comma.ensures (omega arith)).0 c.if-comma-end.false, sym c.read_numeral.ensures ∙ ap number_meant c.in-Unread.is)
 
 pub returns-in-Unread-read_numeral : goal.returns-in-Unread-read_numeral
 unfolding note_of
 returns-in-Unread-read_numeral c =
     rw (
-      note_two _ (starts (goal.at.returns-in-Unread-read_numeral c).Else-not-starts_with) _ c.find-comma.ensures.1 c.find-comma.ensures.0 c.if-comma-end.false,
+      note_two _ (starts (goal.at.returns-in-Unread-read_numeral c).Else-not-starts_with) _ c.find-comma.ensures.1 (found _ _ _ _ c.find-comma.ensures (omega arith)).0 c.if-comma-end.false,
       sym c.read_numeral.ensures ∙ ap number_meant c.in-Is.is,
       sym c.read_numeral-in-Is.ensures ∙ ap number_meant c.in-Unread-read_numeral.is,
     )
@@ -44,7 +45,7 @@ pub returns-in-Is-read_numeral : goal.returns-in-Is-read_numeral
 unfolding note_of
 returns-in-Is-read_numeral c =
     rw (
-      note_two _ (starts (goal.at.returns-in-Is-read_numeral c).Else-not-starts_with) _ c.find-comma.ensures.1 c.find-comma.ensures.0 c.if-comma-end.false,
+      note_two _ (starts (goal.at.returns-in-Is-read_numeral c).Else-not-starts_with) _ c.find-comma.ensures.1 (found _ _ _ _ c.find-comma.ensures (omega arith)).0 c.if-comma-end.false,
       sym c.read_numeral.ensures ∙ ap number_meant c.in-Is.is,
       sym c.read_numeral-in-Is.ensures ∙ ap number_meant c.in-Is-read_numeral.is,
     )

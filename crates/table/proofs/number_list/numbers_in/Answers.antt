@@ -5,7 +5,7 @@ use borrow.Author.Rules.{rules}
 use Rattle.text.specs.Pieces.{pieces, numerals}
 use Rattle.text.specs.Text.{number_meant}
 use Rattle.text.specs.laws.ReadingLaws.{numeral_two}
-use Rattle.text.specs.laws.Cutting.{pieces_all}
+use Rattle.text.specs.laws.Cutting.{pieces_all, found}
 use Rattle.table.specs.inner.NumberLists.{list_of, with_one}
 use Rattle.table.specs.laws.NumberListLaws.{held_after, held_all, piece_read, piece_unread, pieces_read}
 use Rattle.table.proofs.number_list.numbers_in.Goals as goal
@@ -26,7 +26,7 @@ returns-in-Unread c =
     (c.loop-from.invariant.2
     ∙ piece_unread c.loop-from.list c.args.text.now c.loop-from.from c.find-to.result
     c.loop-from-test.true
-    c.find-to.ensures
+    (found _ _ _ _ c.find-to.ensures (omega arith))
     (sym c.read_numeral.ensures ∙ ap number_meant c.in-Unread.is))
 
 pub loop-from-preserved : goal.loop-from-preserved
@@ -38,7 +38,7 @@ loop-from-preserved c = (
       (c.loop-from.invariant.2
       ∙ piece_read c.loop-from.list c.args.text.now c.loop-from.from c.find-to.result
       c.loop-from-test.true
-      c.find-to.ensures
+      (found _ _ _ _ c.find-to.ensures (omega arith))
       _
       (sym c.read_numeral.ensures ∙ ap number_meant c.in-Is.is)),
 )
