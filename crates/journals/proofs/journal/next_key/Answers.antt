@@ -1,4 +1,4 @@
-use Rattle.std.proofs.Common.{sym, ap, ◌∙◌}
+use Rattle.std.proofs.Common.{sym, ap, ◌∙◌, arith}
 use Rattle.journals.specs.Journals.{line_meant}
 use Rattle.journals.specs.inner.JournalKeys.{next_of}
 use Rattle.journals.specs.laws.JournalKeyLaws.{next_unended, next_ended}

@@ -1,4 +1,4 @@
-use Rattle.std.proofs.Common.{sym}
+use Rattle.std.proofs.Common.{sym, arith}
 use Rattle.journals.specs.Journals.{line_judged}
 use Rattle.journals.specs.laws.FieldLaws.{fields_one, fields_two, fields_three}
 use Rattle.text.specs.laws.Cutting.{found}

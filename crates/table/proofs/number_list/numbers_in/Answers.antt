@@ -31,17 +31,18 @@ returns-in-Unread c =
 
 pub loop-from-preserved : goal.loop-from-preserved
 unfolding with_one
-loop-from-preserved c = (
-  rw c.with_number-list.ensures (omega arith),
-  omega arith,
-  rw c.with_number-list.ensures
-      (c.loop-from.invariant.2
-      ∙ piece_read c.loop-from.list c.args.text.now c.loop-from.from c.find-to.result
-      c.loop-from-test.true
-      (found _ _ _ _ c.find-to.ensures (omega arith))
-      _
-      (sym c.read_numeral.ensures ∙ ap number_meant c.in-Is.is)),
-)
+loop-from-preserved c =
+    let f = found _ c.args.text.now c.loop-from.from c.find-to.result c.find-to.ensures (omega arith) in (
+      rw c.with_number-list.ensures (omega (arith, f.0)),
+      omega arith,
+      rw c.with_number-list.ensures
+          (c.loop-from.invariant.2
+          ∙ piece_read c.loop-from.list c.args.text.now c.loop-from.from c.find-to.result
+          c.loop-from-test.true
+          f
+          _
+          (sym c.read_numeral.ensures ∙ ap number_meant c.in-Is.is)),
+    )
 
 pub returns : goal.returns
 returns c = sym (c.loop-from.invariant.2 ∙ pieces_read c.loop-from.list c.args.text.now c.loop-from.from c.loop-from-test.false)
