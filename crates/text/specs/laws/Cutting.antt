@@ -3,7 +3,7 @@ use Rattle.std.specs.Prelude.{ℕ, suc, ◌+◌, ◌-◌, ◌≤◌, ◌<◌, �
 use Rattle.std.proofs.Common.{sym, ap, ◌∙◌, arith, add-one, length-take, length-drop, take_all, drop-drop, lt-ltb, le-ltb, le-leb, ltb-true, ltb-false, eqb-true}
 use Rattle.std.proofs.Math.Dec.{leb-suc-suc}
 use Rattle.std.proofs.lemmas.Bool.{lt-leb}
-use Rattle.text.specs.Search.{slice, index_after, index_of}
+use Rattle.text.specs.Search.{slice, index_after, index_of, place_of}
 use Rattle.text.specs.Text.{newline, comma, read, unread, is_digit, all_digits, value_from, leading_zero, numeral}
 use Rattle.text.specs.Pieces.{ended, unended, with_first, cut, longer, pieces}
 
@@ -56,6 +56,10 @@ slice_rest s from = rw (take_all (length s) s (omega arith))
 -- a search for b from `from` on found it at r first, or r is the end
 abbrev pub Found : ℕ → List ℕ → ℕ → ℕ → Type 0
 Found b s from r = (r ≡ from + index_of b (slice from (length s) s)) × (r ≤ length s)
+
+-- what the search answers from a place of the text on
+pub found : (b : ℕ) (s : List ℕ) (from r : ℕ) → (r ≡ place_of b from (length s) s) × (r ≤ length s) → from ≤ length s → Found b s from r
+found b s from r e h = (e.0 ∙ rw (le-leb from (length s) h, le-leb (length s) (length s) (omega arith)), e.1)
 
 module _ (s : List ℕ) (from r : ℕ) (h : from ≤ length s) where
   place : (b : ℕ) → Found b s from r → index_of b (drop from s) ≡ r - from

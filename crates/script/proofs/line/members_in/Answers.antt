@@ -2,7 +2,7 @@ use mathlib.Core.Path.{sym, ap, ◌∙◌}
 use native.Mathlib.Omega.{arith}
 use Rattle.text.specs.Pieces.{numerals}
 use Rattle.text.specs.Text.{number_meant}
-use Rattle.text.specs.laws.Cutting.{pieces_all}
+use Rattle.text.specs.laws.Cutting.{pieces_all, found}
 use Rattle.script.specs.Lines.{halt_after}
 use Rattle.script.specs.laws.LineLaws.{member_read, member_unread, members_read}
 use Rattle.script.proofs.line.members_in.Goals as goal
@@ -18,7 +18,7 @@ returns-in-Unread c =
     (c.loop-from.invariant.1
     ∙ member_unread c.loop-from.set c.args.text.now c.loop-from.from c.find-to.result
     c.loop-from-test.true
-    c.find-to.ensures
+    (found _ _ _ _ c.find-to.ensures (omega arith))
     (sym c.read_numeral.ensures ∙ ap number_meant c.in-Unread.is))
 
 pub loop-from-preserved : goal.loop-from-preserved
@@ -28,7 +28,7 @@ loop-from-preserved c = (
       (c.loop-from.invariant.1
       ∙ member_read c.loop-from.set c.args.text.now c.loop-from.from c.find-to.result
       c.loop-from-test.true
-      c.find-to.ensures
+      (found _ _ _ _ c.find-to.ensures (omega arith))
       _
       (sym c.read_numeral.ensures ∙ ap number_meant c.in-Is.is)),
 )

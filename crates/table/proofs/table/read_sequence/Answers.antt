@@ -8,6 +8,7 @@ use borrow.Author.Rules.{rules}
 use Rattle.text.specs.Text.{first_key, starts_with}
 use Rattle.table.specs.inner.HeldTables.{sequence_meant}
 use Rattle.table.specs.laws.TableLaws.{held_by, held_by_lem, sequence_none, sequence_unended, sequence_ended}
+use Rattle.text.specs.laws.Cutting.{found}
 use Rattle.table.proofs.table.read_sequence.Goals as goal
 use Rattle.table.proofs.table.read_sequence.Goals.{Else-not-begins}
 
@@ -25,7 +26,7 @@ pub returns-then-to-input : goal.returns-then-to-input
 returns-then-to-input c =
     let a = c.args in (
       ap sequence_meant c.unlisted-then-to-input.ensures
-          ∙ sym (sequence_unended a.input.now a.at (search rules) c.find-to.result c.find-to.ensures (starts (goal.at.returns-then-to-input c).Else-not-begins) c.if-to-input.true),
+          ∙ sym (sequence_unended a.input.now a.at (search rules) c.find-to.result (found _ _ _ _ c.find-to.ensures (omega arith)) (starts (goal.at.returns-then-to-input c).Else-not-begins) c.if-to-input.true),
       subst (λ r. r.end ≤ length a.input.now) (sym c.unlisted-then-to-input.ensures) (search rules),
     )
 
@@ -34,7 +35,7 @@ returns c =
     let a = c.args in
     let end = c.find-to.result + 1 in
     let less : c.find-to.result < length a.input.now = search rules in (
-      sym (sequence_ended a.input.now a.at (search rules) c.find-to.result c.find-to.ensures (starts (goal.at.returns c).Else-not-begins) (search rules)
+      sym (sequence_ended a.input.now a.at (search rules) c.find-to.result (found _ _ _ _ c.find-to.ensures (omega arith)) (starts (goal.at.returns c).Else-not-begins) (search rules)
           ∙ ap (λ l. held_by l end) (sym c.numbers_of-line.ensures)
           ∙ held_by_lem c.numbers_of-line.result.good c.numbers_of-line.result.list end),
       omega (arith, less),
