@@ -11,8 +11,6 @@ from helpers.documents import rows
 from machines.kit import PARTS, own
 from repository import ROOT, read
 
-# Stands for a function of the kit's library that is no more, and asks what that asked.
-OF_LIBRARY = "text::find"
 CRATES = sorted(os.path.basename(path) for path in glob.glob(os.path.join(ROOT, "crates", "*")))
 
 
@@ -68,7 +66,7 @@ class Repository(unittest.TestCase):
         self.assertGreater(len(functions), 40)
         for name, before, text in functions:
             self.assertIn("ensures", text, name)
-            self.assertEqual("requires" in text, name == OF_LIBRARY, name)
+            self.assertNotIn("requires", text, name)
             self.assertRegex(before, "^// ", f"{name}: no line on what it answers")
 
     def test_every_helper_that_asks_something_is_named_with_its_reason(self):
