@@ -3,3 +3,4 @@ pub mod Text
 pub mod Pieces
 pub mod inner
 pub mod laws
+pub mod examples
