@@ -17,8 +17,9 @@
  *   - Pointers are never NULL, and no two pointers of a call lead to memory that overlaps.
  *
  * Link libmudasgup.a, which is for one machine: docs/MACHINES.md has them, and what each archive
- * needs of C's library, on x86-64 memcpy and memset. It has no heap and no state of its own, and no
- * call keeps a pointer. The main loop of a column is examples/firmware/column_loop.c. */
+ * needs of C's library, on x86-64 memcpy and memset at most. It has no heap and no state of its
+ * own, and no call keeps a pointer. The main loop of a column is
+ * examples/firmware/column_loop.c. */
 #ifndef MUDASGUP_H
 #define MUDASGUP_H
 

@@ -70,10 +70,10 @@ class Header(unittest.TestCase):
         self.assertEqual((set(results), len(results)), ({"usize"}, len(exports)))
         self.assertNotIn("size_t", re.sub(r"uint64_t", "", "".join(re.findall(r"^uint64_t mudasgup_raw_\w+\([^;]*\);", self.raw, re.M))))
 
-    def test_the_archive_defines_them_and_needs_two_functions_of_c(self):
+    def test_the_archive_defines_them_and_needs_two_functions_of_c_at_most(self):
         symbols = [line.split() for line in subprocess.run(["nm", archive()], capture_output=True, text=True, check=True).stdout.splitlines()]
         self.assertEqual({words[-1] for words in symbols if "T" in words}, set(exported()))
-        self.assertEqual({words[-1] for words in symbols if "U" in words}, {"memcpy", "memset"})
+        self.assertLessEqual({words[-1] for words in symbols if "U" in words}, {"memcpy", "memset"})
 
     def test_each_typed_function_tells_its_refusals(self):
         typed = self.typed()

@@ -50,14 +50,14 @@ def sources(pattern):
 
 
 def public_functions(crate):
-    """Each function that another crate can call, with the line before it and the text up to its body."""
+    """Each function or method that another crate can call, with the line before it and the text up to its body."""
     top = os.path.join(ROOT, "crates", crate, "src", "lib.rt")
     if not os.path.exists(top):
         return
     modules = re.findall(r"^pub mod (\w+);", read(top), re.M)
     for path in [top] + [os.path.join(os.path.dirname(top), f"{module}.rt") for module in modules]:
-        for found in re.finditer(r'^(.*)\n(?:#\[[^\n]*\]\n)*pub (?:extern "C" )?fn (\w+)((?:.|\n)*?)^\{', read(path), re.M):
-            yield f"{crate}::{found.group(2)}", found.group(1), found.group(3)
+        for found in re.finditer(r'^ *(.*)\n(?: *#\[[^\n]*\]\n)*( *)pub (?:extern "C" )?fn (\w+)((?:.|\n)*?)^\2\{', read(path), re.M):
+            yield f"{crate}::{found.group(3)}", found.group(1), found.group(4)
 
 
 class Repository(unittest.TestCase):
@@ -71,8 +71,8 @@ class Repository(unittest.TestCase):
 
     def test_every_helper_that_asks_something_is_named_with_its_reason(self):
         table = read(os.path.join(ROOT, "docs", "DECISIONS.md"))
-        asking = [found for path in sources("*/src/*.rt") for found in re.findall(r"^pub(?:\(crate\))? fn (\w+)(.*?)^\{", read(path), re.M | re.S)]
-        names = [name for name, text in asking if "requires" in text]
+        asking = [found for path in sources("*/src/*.rt") for found in re.findall(r"^( *)pub(?:\(crate\))? fn (\w+)(.*?)^\1\{", read(path), re.M | re.S)]
+        names = [name for _, name, text in asking if "requires" in text]
         self.assertGreater(len(names), 20)
         for name in names:
             self.assertRegex(table, rf"(?m)^\| `\w+::\w+` \|.*`{name}`", name)
@@ -98,7 +98,7 @@ class Repository(unittest.TestCase):
 
     def test_nothing_but_the_script_calls_what_the_bank_leaves_untested(self):
         callers = {os.path.relpath(path, os.path.join(ROOT, "crates")) for path in sources("*/src/*.rt") if "unchecked_for_script::" in read(path)}
-        self.assertEqual(callers, {"script/src/answer.rt", "script/src/script.rt"})
+        self.assertEqual(callers, {"script/src/one_line.rt"})
 
     def test_no_module_rests_on_one_that_rests_on_it(self):
         for crate in CRATES:

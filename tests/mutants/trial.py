@@ -19,8 +19,12 @@ CHANGE = re.compile(r"((?:old:.*\n)*)((?:new:.*\n)+)")
 FACTS = ((r"(\w+-)?returns(-.*)?$", "would not answer what it ensures"), (r"loop-.*-init(-.*)?$", "would begin its loop without the invariant"),
          (r"loop-.*-preserved(-.*)?$", "would not keep the invariant of its loop"), (r"loop-.*-smaller(-.*)?$", "would come no nearer to the end of its loop"),
          (r".*-requires(-.*)?$", "would call a function without what that asks"), (r"(\w+_)?bounds-|overflow_", "would leave its bounds"))
-# A function, with its name, after its remarks.
-FUNCTION = r"(?:^//[^\n]*\n)*(?:^#\[[^\n]*\n)*^(?:pub(?:\(crate\))? )?(?:extern \"C\" )?fn (\w+).*?^\}\n"
+# The remarks before an item, in a block of methods too.
+REMARKS = r"(?:^ *//[^\n]*\n)*(?:^ *#\[[^\n]*\n)*"
+# A function or a method, with its name, after its remarks.
+FUNCTION = rf"{REMARKS}^(?P<margin> *)(?:pub(?:\(crate\))? )?(?:extern \"C\" )?fn (?P<name>\w+).*?^(?P=margin)\}}\n"
+# The methods of a type, after their remarks.
+METHODS = rf"{REMARKS}^impl\b[^\n]*\{{(?:\}}|\n.*?^\}})\n"
 # The files of a function's proof.
 PROOFS = ("Answers.antt", "Invariants.antt", "Proof.antt")
 
@@ -39,8 +43,8 @@ def rewrite(path, change):
 
 
 def declarations(text):
-    """A source file without its functions and what only they import."""
-    text = re.sub(FUNCTION, "", text, flags=re.M | re.S)
+    """A source file without its functions and methods and what only they import."""
+    text = re.sub(FUNCTION, "", re.sub(METHODS, "", text, flags=re.M | re.S), flags=re.M | re.S)
     line = re.compile(r"^((?:pub )?(?:ghost )?use [^{};]*?)(?:\{([^{}]*)\}|([^\s{}:.;]+));\n", re.M)
     rest = re.sub(r"//[^\n]*", "", line.sub("", text))
 
@@ -70,7 +74,7 @@ def function_of(path, line):
         return os.path.basename(os.path.dirname(path))
     if path.endswith(".rt"):
         text = read(path)
-        return next(found[1] for found in re.finditer(FUNCTION, text, re.M | re.S) if line <= text.count("\n", 0, found.end()))
+        return next(found["name"] for found in re.finditer(FUNCTION, text, re.M | re.S) if line <= text.count("\n", 0, found.end()))
     return None
 
 

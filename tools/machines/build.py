@@ -22,6 +22,29 @@ def layout(machine):
     return re.findall(r'^target (?:datalayout|triple) = "(.*)"', text, re.M)
 
 
+# A value of two fields that a function gives back, loaded whole from its place. The kit writes the pointer 8 bytes behind the byte.
+PAIR = re.compile(r"^  (%\w+) = load \{ i8, ptr \}, ptr (%\w+), align 8$", re.MULTILINE)
+PARTS = r"""  \1.byte = load i8, ptr \2, align 8
+  \1.place = getelementptr i8, ptr \2, i64 8
+  \1.pointer = load ptr, ptr \1.place, align 8
+  \1.first = insertvalue { i8, ptr } poison, i8 \1.byte, 0
+  \1 = insertvalue { i8, ptr } \1.first, ptr \1.pointer, 1"""
+# Values whose second field lies at the same place on machines of 32 bits as on x86-64.
+SAME = {"i64, i64", "i8, i64", "i8, i8", "ptr, i64"}
+
+
+def addressed(text, machine):
+    """The text of a module as a machine takes it. On one of 32 bits an address of 64 is asked for, which `ptrtoint` makes by widening, and a pointer behind
+    a byte is 4 bytes behind it, where the kit wrote it 8 behind."""
+    if "p:32:32" not in machine.layout:
+        return text
+    made = PAIR.sub(PARTS, text.replace(" = ptrtoaddr ", " = ptrtoint "))
+    other = set(re.findall(r" = load \{ ([^}]*) \}", made)) - SAME
+    if other:
+        raise kit.Failed(f"{machine.name}: fields loaded whole whose places differ there: {', '.join(sorted(other))}")
+    return made
+
+
 def words(module, machine):
     """The words of the kit's clang, with the machine's in place of those of x86-64."""
     common = [word for word in module.words if not word.startswith((*OWN, POSITION)) and word not in FILES]
@@ -35,7 +58,7 @@ def compiled(module, machine, folder):
         raise kit.Failed(f"{machine.name}: clang's layout and triple are not those of the table: {layout(machine)}")
     text, made = (os.path.join(folder, module.crate + end) for end in (".ll", ".o"))
     with open(text, "w", encoding="utf8") as file:
-        file.write(f'target datalayout = "{machine.layout}"\ntarget triple = "{machine.triple}"\n{module.text}')
+        file.write(f'target datalayout = "{machine.layout}"\ntarget triple = "{machine.triple}"\n{addressed(module.text, machine)}')
     kit.run("clang", *words(module, machine), "-c", "-x", "ir", text, "-o", made)
     return made
 

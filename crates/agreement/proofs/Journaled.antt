@@ -146,7 +146,6 @@ all_good columns p h [] f = tt
 all_good columns p h (x ∷ l) f =
     let z = f x (Memᴰ.head refl) in (
       record {
-        kinds = z.kinds;
         other_below = omega (arith, z.other_below, h);
         other_apart = z.other_apart;
         number_below = omega (arith, z.number_fits);

@@ -1,5 +1,5 @@
 -- The journals of a bank's columns, from the list of steps: Point 11 of document 02.
-use Rattle.std.specs.Prelude.{ℕ, ◌≤◌, ◌<◌, ◌≡◌, ◌≢◌, ◌⊎◌, false, cond, eqb, length}
+use Rattle.std.specs.Prelude.{ℕ, ◌≤◌, ◌<◌, ◌≡◌, ◌≢◌, false, cond, eqb, length}
 use mathlib.Core.List.{List, [], ◌∷◌, ◌++◌, Memᴰ}
 use Rattle.column.specs.Trees.{tree_refusal}
 use Rattle.column.specs.Packets.{sender, receiver}
@@ -17,6 +17,7 @@ use Rattle.bank.specs.declared.bank.Step.TheVariants.{Order, Send, Take, Ack, Al
 use Rattle.journals.specs.Journals.{line, journal_text, journal_limit, missing_text, compared, Once, journal}
 use Rattle.journals.specs.PacketLines.{sent_line, got_line}
 use Rattle.journals.specs.declared.line.Way.TheVariants.{Sent, Got}
+use Rattle.journals.specs.declared.line.Kind.{Kind}
 use Rattle.journals.specs.declared.line.Line.{Line}
 use Rattle.agreement.specs.History.{World, left_by, told}
 use Rattle.agreement.specs.Agreement.{begin}
@@ -103,7 +104,6 @@ NoneBack w (x ∷ xs) = Stays x (perform w.state x) × NoneBack (told w x (perfo
 -- no 19: a line of a journal's form, "the other column and the owner are 0 to 15 and differ"; here even columns of the bank, and numbers of a packet
 pub record Proper (columns owner : ℕ) (x : Line) : Type 0 where
   pub owner_below : owner < columns
-  pub kinds : (x.kind ≡ 1) ⊎ (x.kind ≡ 2)
   pub other_below : x.other < columns
   pub other_apart : x.other ≢ owner
   pub number_fits : x.number < numbers
@@ -116,7 +116,7 @@ pub record Consistent (columns : ℕ) (j : Journals) : Type 0 where
   -- "20 the same line twice in a journal"
   pub once : (i : ℕ) → Once (j i)
   -- "21 a packet got that the other didn't send"
-  pub heard : (i q kind number : ℕ) → Wrote j i (line Got kind q number) → Wrote j q (line Sent kind i number)
+  pub heard : (i q : ℕ) (kind : Kind) (number : ℕ) → Wrote j i (line Got kind q number) → Wrote j q (line Sent kind i number)
 
 -- "Journals .. of two columns of one such bank stepped from fresh and pulled at one moment, meet none of 19 to 21": of every list of steps, with
 -- any numbers, refused ones included, in which none comes back: from the fresh bank of every tree, whoever is watched, with any words in its

@@ -1,37 +1,31 @@
 -- A step by parts of a bank that was tested, after document 01, "The shape each place takes": "a step returns it with one place rewritten". It is said of every
 -- bank of which these are the parts, where what is known of it is so.
-use Rattle.std.specs.Prelude.{ℕ, ◌%◌, ◌≡◌, true, false, cond, List, set, get_or, leb}
+use Rattle.std.specs.Prelude.{ℕ, ◌%◌, ◌≡◌, true, cond, List, set, get_or, leb, Ok, Err, IfOk}
+use Rattle.std.specs.Prelude as prelude
+use Rattle.column.specs.Refusals.{refusal_number, refusal_of}
+use Rattle.column.specs.declared.error.Refusal.{Refusal}
 use Rattle.column.specs.declared.tree.Tree.{Tree}
 use Rattle.column.specs.declared.state.Column.{Column}
 use Rattle.bank.specs.StepKinds.{is_move}
 use Rattle.bank.specs.Banks.{State, state, column_at, running_of, bank_refusal, joined, capacity}
-use Rattle.bank.specs.Steps.{answered}
+use Rattle.bank.specs.Steps.{accepted, refused}
 use Rattle.bank.specs.Performs.{perform}
 use Rattle.bank.specs.Words.{receiver_in}
 use Rattle.bank.specs.declared.bank.Bank.{Bank}
 use Rattle.bank.specs.declared.bank.Step.{Step}
 use Rattle.bank.specs.declared.bank.Step.TheVariants.{Order, Send, Take, Ack, All, Note, Halt, Back, Write}
-use Rattle.bank.specs.declared.unchecked_for_script.Tested.{Tested}
 use Rattle.bank.specs.declared.unchecked_for_script.Part.{Part}
 
 -- ---- what is known of a bank
 
-abbrev pub untested : Tested
-untested = record { known = false; refusal = 0; running = 0 }
-
--- v has by which number the bank is refused, and who runs, where it is not
-pub record Tells (v : Tested) (s : State) : Type 0 where
-  pub refuses : v.refusal ≡ bank_refusal s
-  pub running_is : v.refusal ≡ 0 → v.running ≡ running_of s.bank
+-- who runs, or by which number the bank is refused
+pub record Tells (known : prelude.Result ℕ Refusal) (s : State) : Type 0 where
+  pub refuses : refusal_of known ≡ bank_refusal s
+  pub running_is : IfOk known (λ running. running ≡ running_of s.bank)
 
 -- the test of a bank looks at no doors that packets carry
-pub record Tests (v : Tested) (b : Bank) (heads : List ℕ) : Type 0 where
-  pub known_is : v.known ≡ true
-  pub tells : (doors : List ℕ) → Tells v (state b heads doors)
-
--- the same set of columns runs, and the bank is refused by n
-abbrev pub retested : Tested → ℕ → Tested
-retested v n = record { known = v.known; refusal = n; running = v.running }
+abbrev pub Tests : prelude.Result ℕ Refusal → Bank → List ℕ → Type 0
+Tests known b heads = (doors : List ℕ) → Tells known (state b heads doors)
 
 -- ---- a step by parts
 
@@ -55,12 +49,17 @@ actor_of t (Write i offset value) heads = 0
 abbrev pub with_part : Bank → ℕ → Part → Bank
 with_part b i r = joined b.tree (set b.columns (i % 16) r.column) r.count
 
--- the bank with the part is the bank after the step, whether it is refused or not, and what is known goes on
-pub record PartOf (r : Part) (v : Tested) (s : State) (x : Step) (i : ℕ) (heads doors : List ℕ) : Type 0 where
-  pub performed : answered r.answer (state (with_part s.bank i r) heads doors) ≡ perform s x
-  pub told : Tells (retested v r.refusal) (state (with_part s.bank i r) heads doors)
+-- an accepted step leaves the bank with the part, of which what is known is so; one that is refused leaves the words, and with them the bank, as they were, and
+-- what was known is so of the bank with the words that it left
+abbrev pub PartOf : prelude.Result Part Refusal → prelude.Result ℕ Refusal → State → Step → ℕ → List ℕ → List ℕ → Type 0
+PartOf (Ok r) known s x i heads doors =
+    let next = state (with_part s.bank i r) heads doors in
+    (accepted next ≡ perform s x) × Tells r.known next
+PartOf (Err e) known s x i heads doors =
+    let kept = state s.bank heads doors in
+    (refused (refusal_number e) kept ≡ perform s x) × Tells known kept
 
-abbrev pub StepsPart : Part → Tested → Tree → Step → ℕ → Column → ℕ → List ℕ → List ℕ → List ℕ → List ℕ → Type 0
-StepsPart r v t x i c count heads doors heads' doors' =
+abbrev pub StepsPart : prelude.Result Part Refusal → prelude.Result ℕ Refusal → Tree → Step → ℕ → Column → ℕ → List ℕ → List ℕ → List ℕ → List ℕ → Type 0
+StepsPart r known t x i c count heads doors heads' doors' =
     (columns : List Column) → let s = state (joined t columns count) heads doors in
-    Tells v s → is_move x ≡ true → i ≡ actor_of t x heads → column_at s.bank (i % 16) ≡ c → PartOf r v s x i heads' doors'
+    Tells known s → is_move x ≡ true → i ≡ actor_of t x heads → column_at s.bank (i % 16) ≡ c → PartOf r known s x i heads' doors'

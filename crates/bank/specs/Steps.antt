@@ -1,6 +1,7 @@
 -- The steps of a bank, after document 01, "Steps" and "Refused, and by which number": the core's step on one place, and its packet.
-use Rattle.std.specs.Prelude.{ℕ, suc, Bool, not, ◌||◌, cond, List, [], ◌∷◌, eqb, leb, ltb, set}
-use Rattle.column.specs.Refusals.{first, earlier}
+use Rattle.std.specs.Prelude.{ℕ, suc, Bool, not, ◌||◌, cond, List, [], ◌∷◌, eqb, leb, ltb, set, Ok, Err}
+use Rattle.std.specs.Prelude as prelude
+use Rattle.column.specs.Refusals.{first, earlier, refusal_number}
 use Rattle.column.specs.Sets.{has, within}
 use Rattle.column.specs.Trees.{every, tree_refusal}
 use Rattle.column.specs.Columns.{stopped}
@@ -9,12 +10,10 @@ use Rattle.column.specs.Steps as core
 use Rattle.column.specs.declared.tree.Tree.{Tree}
 use Rattle.column.specs.declared.state.Column.{Column}
 use Rattle.column.specs.declared.packet.Packet.{Packet}
+use Rattle.column.specs.declared.error.Refusal.{Refusal}
 use Rattle.bank.specs.Banks.{State, state, column_at, runs, packet_at, capacity, fresh_bank, no_bank, bank_refusal, acting_refusal}
 use Rattle.bank.specs.Networks.{puts, removed, vanished}
 use Rattle.bank.specs.declared.bank.Bank.{Bank}
-use Rattle.bank.specs.declared.bank.Answer.{Answer}
-use Rattle.bank.specs.declared.bank.Answer.TheVariants.{Done, Refused}
-use Rattle.bank.specs.declared.bank.Outcome.{Outcome}
 
 -- ---- what a call gives
 
@@ -23,14 +22,15 @@ pub data Result (A : Type 0) : Type 0 where
   accepted : A → Result A
   refused : ℕ → A → Result A
 
--- the number and the values of each case of `Answer`
-abbrev pub answered : {A : Type 0} → Answer → A → Result A
-answered Done a = accepted a
-answered (Refused n) a = refused n a
+-- what a call answered that was handed `before`: what is held after it, or the number of the refusal, and what was held
+abbrev pub answered : {A : Type 0} → A → prelude.Result A Refusal → Result A
+answered before (Ok after) = accepted after
+answered before (Err r) = refused (refusal_number r) before
 
--- what a call answered, with the words that it left
-abbrev pub outcome_meant : Outcome → List ℕ → List ℕ → Result State
-outcome_meant r heads doors = answered r.answer (state r.bank heads doors)
+-- the same of a bank, with the words that the call left
+abbrev pub outcome_meant : Bank → prelude.Result Bank Refusal → List ℕ → List ℕ → Result State
+outcome_meant before (Ok after) heads doors = accepted (state after heads doors)
+outcome_meant before (Err r) heads doors = refused (refusal_number r) (state before heads doors)
 
 -- what is held after a call
 abbrev pub after : {A : Type 0} → Result A → A

@@ -8,7 +8,6 @@ pub mod SetsWordLaws
 pub mod SurveyLaws
 pub mod Kinds
 pub mod StepLaws
-pub mod SettledLaws
 pub mod Steady
 pub mod PlainStates
 pub mod strips

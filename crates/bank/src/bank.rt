@@ -1,35 +1,40 @@
 // What a bank holds, and the fresh bank. Its network's packets are lent to each call: packet k is word k of two arrays of 512.
 ghost use Rattle.std.specs.Prelude.{◌≡◌};
-ghost use Rattle.bank.specs.Steps.{answered, accepted, refused, fresh};
+ghost use Rattle.bank.specs.Banks.{no_bank};
+ghost use Rattle.bank.specs.Steps.{answered, fresh};
 
+use column::error::Refusal;
 use column::packet::CAPACITY;
 use column::state::{Column, fresh_under};
-use column::topology::tree_refusal;
+use column::topology::check_tree;
 use column::tree::Tree;
 
 // One word for each packet of the network.
 pub type Words = [u64; CAPACITY];
 
-#[derive(Clone, Copy)]
+// The packets under way, lent to each call: packet k is word k of both. How many they are the bank holds. They are words and no packets: a test of all compares
+// heads, and `state` and every theorem on it speak of the two lists.
+#[derive(Clone, Copy, PartialEq, Eq)]
+pub struct Network {
+    pub heads: Words,
+    pub doors: Words,
+}
+
+impl Network {
+    // The network without a packet.
+    pub const EMPTY: Network = Network {
+        heads: [0; CAPACITY],
+        doors: [0; CAPACITY],
+    };
+}
+
+#[derive(Clone, Copy, PartialEq, Eq)]
 pub struct Bank {
     pub tree: Tree,
-    // All sixteen places are held, whatever the tree's columns.
+    // All sixteen places are held by value, whatever the tree's columns: the papers ask for this form.
     pub columns: [Column; 16],
-    // The packets under way.
+    // How many packets are under way: those of the network, and not the columns.
     pub count: usize,
-}
-
-#[derive(Clone, Copy)]
-pub enum Answer {
-    Done,
-    Refused(u8),
-}
-
-// The bank after a call, or as it was where the call is refused.
-#[derive(Clone, Copy)]
-pub struct Outcome {
-    pub bank: Bank,
-    pub answer: Answer,
 }
 
 #[derive(Clone, Copy)]
@@ -46,26 +51,7 @@ pub enum Step {
     Write(usize, usize, u8),
 }
 
-// The call is accepted with this bank.
-pub(crate) fn done(b: Bank) -> Outcome
-    ensures { answered result.answer result.bank ≡ accepted b }
-{
-    Outcome {
-        bank: b,
-        answer: Answer::Done,
-    }
-}
-
-// The call is refused by n, with the bank as it was.
-pub(crate) fn refused(b: Bank, n: u8) -> Outcome
-    ensures { answered result.answer result.bank ≡ refused n b }
-{
-    Outcome {
-        bank: b,
-        answer: Answer::Refused(n),
-    }
-}
-
+// What is in a place without a column. It is no `Option`: `no_column` of Banks says it, which every definition of a bank reads past the columns.
 pub const NO_COLUMN: Column = Column {
     running: false,
     number: 0,
@@ -80,25 +66,30 @@ pub const NO_COLUMN: Column = Column {
     pending: 0,
 };
 
-// The bank of a tree as it begins; of a tree that is refused with 2 or 3, a bank in which nobody runs.
-pub fn fresh(t: Tree) -> Outcome
-    ensures { answered result.answer result.bank ≡ fresh t }
-{
-    let mut b = Bank {
-        tree: t,
-        columns: [NO_COLUMN; 16],
-        count: 0,
-    };
-    let refusal = tree_refusal(t);
-    if refusal != 0 {
-        return refused(b, refusal);
+impl Bank {
+    // The bank of a tree in which nobody runs and no packet is under way: what a caller has where `fresh` refuses the tree.
+    pub fn empty(tree: Tree) -> Bank
+        ensures { result ≡ no_bank tree }
+    {
+        Bank {
+            tree,
+            columns: [NO_COLUMN; 16],
+            count: 0,
+        }
     }
+}
+
+// The bank of a tree as it begins; or 2 or 3 of the tree.
+#[tactic(auto, unfolding(crate::specs::Banks::places))]
+pub fn fresh(t: Tree) -> Result<Bank, Refusal>
+    ensures { answered (no_bank t) result ≡ fresh t }
+{
+    check_tree(t)?;
+    let mut b = Bank::empty(t);
     let n = t.columns;
     let root = t.root;
-    let mut i: usize = 0;
-    while i < n {
+    for i in 0..n {
         b.columns[i] = fresh_under(root, i);
-        i += 1;
     }
-    done(b)
+    Ok(b)
 }

@@ -1,30 +1,15 @@
-// What a step tests of itself before it changes the place of one column: that the bank has the column, or the packet that is to be taken.
+// Whose step it is, and what a step tests of itself before it changes the place of that column: that the bank has it, or the packet that is to be taken. Where
+// nobody's it is the answer is 0 and no `Option`: the definitions `receiver_at` and `actor_of` of Parts say so, and `acting` is public.
 ghost use Rattle.std.specs.Prelude.{◌≡◌};
-ghost use Rattle.bank.specs.inner.Moves.{place_in, opening_refusal};
-ghost use Rattle.bank.specs.Parts.{receiver_at};
+ghost use Rattle.column.specs.Refusals.{refusal_of};
+ghost use Rattle.bank.specs.inner.Moves.{own_opening};
+ghost use Rattle.bank.specs.Parts.{receiver_at, actor_of};
 
 use crate::bank::{Step, Words};
-use crate::kind::is_take;
 use crate::words::receiver_in;
+use column::error::Refusal;
 use column::packet::CAPACITY;
-use column::precedence::refuse_if;
-
-// The place of the packet that a step takes.
-pub(crate) fn place_in(x: Step) -> usize
-    ensures { result ≡ place_in x }
-{
-    match x {
-        Step::Order(_) => 0,
-        Step::Send(_) => 0,
-        Step::Take(place) => place,
-        Step::Ack(_) => 0,
-        Step::All(_) => 0,
-        Step::Note(_, _) => 0,
-        Step::Halt(_) => 0,
-        Step::Back(_) => 0,
-        Step::Write(_, _, _) => 0,
-    }
-}
+use column::tree::Tree;
 
 // Whom the packet at a place is for, where there is such a place.
 pub(crate) fn receiver_at(place: usize, heads: &Words) -> usize
@@ -36,13 +21,31 @@ pub(crate) fn receiver_at(place: usize, heads: &Words) -> usize
     receiver_in(heads[place])
 }
 
-// The number n by which the bank is refused, then 10 of a place where no packet is to be taken, or 4 of a column that it has not; else 0.
-pub(crate) fn opening(n: u8, columns: usize, x: Step, i: usize, count: usize) -> u8
-    ensures { result ≡ opening_refusal n columns x i count }
+// The column whose step it is.
+pub fn acting(t: Tree, x: Step, heads: &Words) -> usize
+    ensures { result ≡ actor_of t x heads.now }
 {
-    if is_take(x) {
-        let place = place_in(x);
-        return refuse_if(n, count <= place, 10);
+    match x {
+        Step::Order(_) => t.root,
+        Step::Send(i) | Step::Ack(i) | Step::All(i) | Step::Note(i, _) => i,
+        Step::Take(place) => receiver_at(place, heads),
+        // A halt, a return and a write go another way.
+        _ => 0,
     }
-    refuse_if(n, columns <= i, 4)
+}
+
+// 10 of a place where no packet is to be taken, or 4 of a column that the bank has not.
+pub(crate) fn check_opening(columns: usize, x: Step, i: usize, count: usize) -> Result<(), Refusal>
+    ensures { refusal_of result ≡ own_opening columns x i count }
+{
+    if let Step::Take(place) = x {
+        if count <= place {
+            return Err(Refusal::NoPacket);
+        }
+        return Ok(());
+    }
+    if columns <= i {
+        return Err(Refusal::OutOfBank);
+    }
+    Ok(())
 }

@@ -1,6 +1,8 @@
-// The steps of a bank: refused and unchanged, or the core's step on one place with its packet.
+// The steps of a bank: refused and unchanged, or the core's step on one place with its packet. Each has a function beside `perform`, by which the documents name it.
+// The papers name the steps, so that a step is chosen by a match. Other functions here are alike in form alone: each calls another step of the core, or tests
+// another thing. A tree, a column's number and what it holds go apart, since one tree serves all columns, and a struct would be made for each call; so do who
+// runs, the count and the network, and the bank, which is handed over, beside the network, which is lent.
 ghost use Rattle.std.specs.Prelude.{◌≡◌, true, ◌≤◌, ◌<◌};
-ghost use Rattle.column.specs.Steps.{outcome_meant as core·outcome_meant, refused};
 ghost use Rattle.bank.specs.Banks.{state};
 ghost use Rattle.bank.specs.inner.Changes.{StepsCore, Takes};
 ghost use Rattle.bank.specs.StepKinds.{is_move, is_take};
@@ -11,49 +13,35 @@ ghost use Rattle.bank.specs.Returns.{back};
 ghost use Rattle.bank.specs.Steps.{outcome_meant, order, send, take, ack, all, note, halt};
 ghost use Rattle.bank.specs.declared.bank.Step.TheVariants.{Note};
 
-use crate::bank::{Answer, Bank, Outcome, Step, Words};
-use crate::kind::is_take;
-use crate::network::vanish;
-use crate::opening::{opening, place_in, receiver_at};
+use crate::bank::{Bank, Network, Step};
+use crate::opening::{acting, check_opening, receiver_at};
 use crate::page::write_byte;
 use crate::returning::bring_back;
-use crate::settling::{Change, is_refusal, settle, settle_taken};
-use crate::strip::{halt_refusal, stop};
-use crate::survey::{places, see, seen_refusal, unseen};
+use crate::settling::{Change, settle, settle_taken};
+use crate::strip::{halting_set, stop};
+use crate::survey::survey;
 use crate::words::packet;
+use column::error::Refusal;
 use column::members::has;
-use column::precedence::earlier;
-use column::refusal::note_refusal;
+use column::outcome::Outcome;
+use column::refusal::check_note;
 use column::state::Column;
 use column::tree::Tree;
 use column::unchecked_for_bank;
 
 // The core believes that the column to note is halted; the bank tests it.
-fn noted(t: Tree, running: u16, i: usize, c: Column, j: usize) -> column::outcome::Outcome
+fn noted(t: Tree, running: u16, i: usize, c: Column, j: usize) -> Result<Outcome, Refusal>
     ensures { StepsCore result t running (Note i j) i c }
 {
     if !has(running, j) {
         return unchecked_for_bank::note(t, i, c, j);
     }
-    let n = earlier(note_refusal(t, i, c, j), 6);
-    column::outcome::Outcome {
-        column: c,
-        answer: column::outcome::Answer::Refused(n),
-    }
-}
-
-// What `core_step` is never given is refused: a take, a halt, a return and a write.
-fn no_step(c: Column) -> column::outcome::Outcome
-    ensures { core·outcome_meant result ≡ refused 10 c }
-{
-    column::outcome::Outcome {
-        column: c,
-        answer: column::outcome::Answer::Refused(10),
-    }
+    check_note(t, i, c, j)?;
+    Err(Refusal::NotNow)
 }
 
 // What the core makes of column i, which is c, in a valid bank whose columns in `running` run.
-fn core_step(t: Tree, running: u16, x: Step, i: usize, c: Column) -> column::outcome::Outcome
+fn core_step(t: Tree, running: u16, x: Step, i: usize, c: Column) -> Result<Outcome, Refusal>
     ensures { StepsCore result t running x i c }
 {
     match x {
@@ -62,10 +50,8 @@ fn core_step(t: Tree, running: u16, x: Step, i: usize, c: Column) -> column::out
         Step::Ack(_) => unchecked_for_bank::ack(t, i, c),
         Step::All(_) => unchecked_for_bank::all(t, i, c),
         Step::Note(_, j) => noted(t, running, i, c, j),
-        Step::Take(_) => no_step(c),
-        Step::Halt(_) => no_step(c),
-        Step::Back(_) => no_step(c),
-        Step::Write(_, _, _) => no_step(c),
+        // Never given: a take, a halt, a return or a write. An `Option` here would have to be taken apart where it is never none.
+        _ => Err(Refusal::NoPacket),
     }
 }
 
@@ -77,15 +63,14 @@ fn taken(
     i: usize,
     c: Column,
     count: usize,
-    heads: &mut Words,
-    doors: &mut Words,
-) -> Change
+    network: &mut Network,
+) -> Result<Change, Refusal>
     requires { (place < count) × (count ≤ 512) }
-    ensures { Takes result t running place i c count heads.old doors.old heads.new doors.new }
+    ensures { Takes result t running place i c count network.old.heads network.old.doors network.new.heads network.new.doors }
 {
-    let p = packet(heads[place], doors[place]);
-    let o = unchecked_for_bank::take(t, i, c, p);
-    settle_taken(running, place, o, count, heads, doors)
+    let p = packet(network.heads[place], network.doors[place]);
+    let o = unchecked_for_bank::take(t, i, c, p)?;
+    settle_taken(running, place, o, count, network)
 }
 
 // What the step x makes of column i, which is c, and of the network, in a valid bank.
@@ -96,156 +81,125 @@ pub(crate) fn change(
     i: usize,
     c: Column,
     count: usize,
-    heads: &mut Words,
-    doors: &mut Words,
-) -> Change
+    network: &mut Network,
+) -> Result<Change, Refusal>
     requires { (is_move x ≡ true) × ((count ≤ 512) × (is_take x ≡ true → place_in x < count)) }
-    ensures { Moves result t running x i c count heads.old doors.old heads.new doors.new }
+    ensures { Moves result t running x i c count network.old.heads network.old.doors network.new.heads network.new.doors }
 {
-    if is_take(x) {
-        let place = place_in(x);
-        return taken(t, running, place, i, c, count, heads, doors);
+    if let Step::Take(place) = x {
+        return taken(t, running, place, i, c, count, network);
     }
-    let o = core_step(t, running, x, i, c);
-    settle(running, o, count, heads, doors)
+    let o = core_step(t, running, x, i, c)?;
+    settle(running, o, count, network)
 }
 
-// The step x of column i. The bank is copied twice, in and out: from its first line on only the copy is read, and there is one result.
-fn act(b: Bank, x: Step, i: usize, heads: &mut Words, doors: &mut Words) -> Outcome
-    requires { Moving (state b heads.old doors.old) x i }
-    ensures { outcome_meant result heads.new doors.new ≡ perform (state b heads.old doors.old) x }
+// The step x of column i.
+fn act(mut b: Bank, x: Step, i: usize, network: &mut Network) -> Result<Bank, Refusal>
+    requires { Moving (state b network.old.heads network.old.doors) x i }
+    ensures { outcome_meant b result network.new.heads network.new.doors ≡ perform (state b network.old.heads network.old.doors) x }
 {
-    let mut d = b;
-    let t = d.tree;
-    let seen_places = places(t.columns);
-    let mut v = unseen();
-    let mut j: usize = 0;
-    while j < seen_places {
-        let c = d.columns[j];
-        v = see(v, t.columns, j, c);
-        j += 1;
-    }
-    let root = d.columns[t.root % 16];
-    let tested = seen_refusal(t, v, root.whole, d.count, heads);
-    let n = opening(tested, t.columns, x, i, d.count);
-    let mut answer = Answer::Refused(n);
-    if n == 0 {
-        let r = change(t, v.running, x, i, d.columns[i], d.count, heads, doors);
-        answer = r.answer;
-        if !is_refusal(answer) {
-            let changed = r.column;
-            d.columns[i] = changed;
-            d.count = r.count;
-        }
-    }
-    Outcome { bank: d, answer }
+    let t = b.tree;
+    let running = survey(&b, &network.heads)?;
+    check_opening(t.columns, x, i, b.count)?;
+    let r = change(t, running, x, i, b.columns[i], b.count, network)?;
+    b.columns[i] = r.column;
+    b.count = r.count;
+    Ok(b)
 }
 
-// The halt of a set of columns, the bank copied as in `act`.
-fn halt_columns(b: Bank, m: u32, heads: &mut Words, doors: &mut Words) -> Outcome
-    ensures { outcome_meant result heads.new doors.new ≡ halt (state b heads.old doors.old) m }
+// The halt of a set of columns.
+fn halt_columns(mut b: Bank, m: u32, network: &mut Network) -> Result<Bank, Refusal>
+    ensures { outcome_meant b result network.new.heads network.new.doors ≡ halt (state b network.old.heads network.old.doors) m }
 {
-    let mut d = b;
-    let t = d.tree;
-    let seen_places = places(t.columns);
-    let mut v = unseen();
-    let mut j: usize = 0;
-    while j < seen_places {
-        let c = d.columns[j];
-        v = see(v, t.columns, j, c);
-        j += 1;
-    }
-    let root = d.columns[t.root % 16];
-    let tested = seen_refusal(t, v, root.whole, d.count, heads);
-    let n = halt_refusal(tested, t.columns, v.running, m);
-    let mut answer = Answer::Refused(n);
-    if n == 0 {
-        d.count = vanish(m, d.count, heads, doors);
-        d = stop(d, m);
-        answer = Answer::Done;
-    }
-    Outcome { bank: d, answer }
+    let t = b.tree;
+    let running = survey(&b, &network.heads)?;
+    let set = halting_set(t.columns, running, m)?;
+    b.count = network.vanish(set, b.count);
+    Ok(stop(b, set))
 }
 
 // The bank after any of the nine steps.
-pub fn perform(b: Bank, x: Step, heads: &mut Words, doors: &mut Words) -> Outcome
-    ensures { outcome_meant result heads.new doors.new ≡ perform (state b heads.old doors.old) x }
+pub fn perform(b: Bank, x: Step, network: &mut Network) -> Result<Bank, Refusal>
+    ensures { outcome_meant b result network.new.heads network.new.doors ≡ perform (state b network.old.heads network.old.doors) x }
 {
-    let t = b.tree;
     match x {
-        Step::Order(_) => act(b, x, t.root, heads, doors),
-        Step::Send(i) => act(b, x, i, heads, doors),
-        Step::Take(place) => act(b, x, receiver_at(place, heads), heads, doors),
-        Step::Ack(i) => act(b, x, i, heads, doors),
-        Step::All(i) => act(b, x, i, heads, doors),
-        Step::Note(i, _) => act(b, x, i, heads, doors),
-        Step::Halt(m) => halt_columns(b, m, heads, doors),
-        Step::Back(j) => bring_back(b, j, heads),
-        Step::Write(i, offset, value) => write_byte(b, i, offset, value, heads),
+        Step::Halt(m) => halt_columns(b, m, network),
+        Step::Back(j) => bring_back(b, j, &network.heads),
+        Step::Write(i, offset, value) => write_byte(b, i, offset, value, &network.heads),
+        _ => {
+            let i = acting(b.tree, x, &network.heads);
+            act(b, x, i, network)
+        }
     }
 }
 
 // The bank with these doors given to its root under the next number.
-pub fn order(b: Bank, given: u64, heads: &mut Words, doors: &mut Words) -> Outcome
-    ensures { outcome_meant result heads.new doors.new ≡ order (state b heads.old doors.old) given }
+pub fn order(b: Bank, given: u64, network: &mut Network) -> Result<Bank, Refusal>
+    ensures { outcome_meant b result network.new.heads network.new.doors ≡ order (state b network.old.heads network.old.doors) given }
 {
     let t = b.tree;
-    act(b, Step::Order(given), t.root, heads, doors)
+    act(b, Step::Order(given), t.root, network)
 }
 
 // The bank after column i served the earliest of those it is to send to; a message to a running one is put.
-pub fn send(b: Bank, i: usize, heads: &mut Words, doors: &mut Words) -> Outcome
-    ensures { outcome_meant result heads.new doors.new ≡ send (state b heads.old doors.old) i }
+pub fn send(b: Bank, i: usize, network: &mut Network) -> Result<Bank, Refusal>
+    ensures { outcome_meant b result network.new.heads network.new.doors ≡ send (state b network.old.heads network.old.doors) i }
 {
-    act(b, Step::Send(i), i, heads, doors)
+    act(b, Step::Send(i), i, network)
 }
 
 // The bank after the packet at a place went to its receiver.
-pub fn take(b: Bank, place: usize, heads: &mut Words, doors: &mut Words) -> Outcome
-    ensures { outcome_meant result heads.new doors.new ≡ take (state b heads.old doors.old) place }
+pub fn take(b: Bank, place: usize, network: &mut Network) -> Result<Bank, Refusal>
+    ensures { outcome_meant b result network.new.heads network.new.doors ≡ take (state b network.old.heads network.old.doors) place }
 {
-    let i = receiver_at(place, heads);
-    act(b, Step::Take(place), i, heads, doors)
+    let i = receiver_at(place, &network.heads);
+    act(b, Step::Take(place), i, network)
 }
 
 // The bank after column i acknowledged its record to the lowest owed.
-pub fn ack(b: Bank, i: usize, heads: &mut Words, doors: &mut Words) -> Outcome
-    ensures { outcome_meant result heads.new doors.new ≡ ack (state b heads.old doors.old) i }
+pub fn ack(b: Bank, i: usize, network: &mut Network) -> Result<Bank, Refusal>
+    ensures { outcome_meant b result network.new.heads network.new.doors ≡ ack (state b network.old.heads network.old.doors) i }
 {
-    act(b, Step::Ack(i), i, heads, doors)
+    act(b, Step::Ack(i), i, network)
 }
 
 // The bank after column i took over.
-pub fn all(b: Bank, i: usize, heads: &mut Words, doors: &mut Words) -> Outcome
-    ensures { outcome_meant result heads.new doors.new ≡ all (state b heads.old doors.old) i }
+pub fn all(b: Bank, i: usize, network: &mut Network) -> Result<Bank, Refusal>
+    ensures { outcome_meant b result network.new.heads network.new.doors ≡ all (state b network.old.heads network.old.doors) i }
 {
-    act(b, Step::All(i), i, heads, doors)
+    act(b, Step::All(i), i, network)
 }
 
 // The bank after column i noted that j is halted.
-pub fn note(b: Bank, i: usize, j: usize, heads: &mut Words, doors: &mut Words) -> Outcome
-    ensures { outcome_meant result heads.new doors.new ≡ note (state b heads.old doors.old) i j }
+pub fn note(b: Bank, i: usize, j: usize, network: &mut Network) -> Result<Bank, Refusal>
+    ensures { outcome_meant b result network.new.heads network.new.doors ≡ note (state b network.old.heads network.old.doors) i j }
 {
-    act(b, Step::Note(i, j), i, heads, doors)
+    act(b, Step::Note(i, j), i, network)
 }
 
 // The bank with every column of a set halted, and without the packets to them.
-pub fn halt(b: Bank, m: u32, heads: &mut Words, doors: &mut Words) -> Outcome
-    ensures { outcome_meant result heads.new doors.new ≡ halt (state b heads.old doors.old) m }
+pub fn halt(b: Bank, m: u32, network: &mut Network) -> Result<Bank, Refusal>
+    ensures { outcome_meant b result network.new.heads network.new.doors ≡ halt (state b network.old.heads network.old.doors) m }
 {
-    halt_columns(b, m, heads, doors)
+    halt_columns(b, m, network)
 }
 
 // The bank with halted column j running again.
-pub fn back(b: Bank, j: usize, heads: &Words, doors: &Words) -> Outcome
-    ensures { outcome_meant result heads.now doors.now ≡ back (state b heads.now doors.now) j }
+pub fn back(b: Bank, j: usize, network: &Network) -> Result<Bank, Refusal>
+    ensures { outcome_meant b result network.now.heads network.now.doors ≡ back (state b network.now.heads network.now.doors) j }
 {
-    bring_back(b, j, heads)
+    bring_back(b, j, &network.heads)
 }
 
 // The bank with a byte written to the page of column i, a halted one too.
-pub fn write(b: Bank, i: usize, offset: usize, value: u8, heads: &Words, doors: &Words) -> Outcome
-    ensures { outcome_meant result heads.now doors.now ≡ write (state b heads.now doors.now) i offset value }
+pub fn write(
+    b: Bank,
+    i: usize,
+    offset: usize,
+    value: u8,
+    network: &Network,
+) -> Result<Bank, Refusal>
+    ensures { outcome_meant b result network.now.heads network.now.doors ≡ write (state b network.now.heads network.now.doors) i offset value }
 {
-    write_byte(b, i, offset, value, heads)
+    write_byte(b, i, offset, value, &network.heads)
 }

@@ -1,54 +1,48 @@
-// A strip of columns that halts at once: a set of them, as a mask with room for a number that no bank has.
-ghost use Rattle.std.specs.Prelude.{◌≡◌, ◌≤◌, ◌<◌, ◌^◌};
+// A strip of columns that halts at once: a set of them, handed in as a mask with room for numbers that no bank has. That a tree has sixteen columns at most is asked
+// as a fact: a type would be made from that test, and taken apart for the shift.
+ghost use Rattle.std.specs.Prelude.{◌≡◌, ◌≤◌, IfOk};
+ghost use Rattle.column.specs.Refusals.{refusal_of};
 ghost use Rattle.column.specs.Sets.{has};
 ghost use Rattle.column.specs.Columns.{stopped};
-ghost use Rattle.bank.specs.inner.Returning.{halting_refusal};
+ghost use Rattle.bank.specs.inner.Returning.{own_halting};
 ghost use Rattle.bank.specs.Steps.{with_stopped};
 
 use crate::bank::Bank;
-use crate::network::member;
+use column::error::Refusal;
+use column::members::has;
 use column::state::Column;
 
-// The number n by which the bank is refused, then 4 of a member that it has not, then 5 of one that is none of those who run; else 0.
-pub fn halt_refusal(n: u8, columns: usize, running: u16, m: u32) -> u8
-    requires { n ≡ 0 → columns ≤ 16 }
-    ensures { result ≡ halting_refusal n columns running m }
+// Those who are to halt as a set of columns; or 4 of a member that the bank has not, then 5 of one that is none of those who run.
+pub fn halting_set(columns: usize, running: u16, m: u32) -> Result<u16, Refusal>
+    requires { columns ≤ 16 }
+    ensures refuses { refusal_of result ≡ own_halting columns running m }
+    ensures set { IfOk result (λ set. set ≡ m) }
 {
-    if n != 0 {
-        return n;
+    if m >> columns != 0 {
+        return Err(Refusal::OutOfBank);
     }
-    let high = m >> columns;
-    if high != 0 {
-        return 4;
+    let set = m as u16;
+    if set | running != running {
+        return Err(Refusal::Halted);
     }
-    let set = running as u32;
-    if m | set != set {
-        return 5;
-    }
-    0
+    Ok(set)
 }
 
-fn stopped(c: Column) -> Column
+fn stopped(mut c: Column) -> Column
     ensures { result ≡ stopped c }
 {
-    let mut d = c;
-    d.running = false;
-    d
+    c.running = false;
+    c
 }
 
 // Every member of m is stopped.
-pub fn stop(b: Bank, m: u32) -> Bank
-    requires { m < 2 ^ 16 }
+pub fn stop(mut b: Bank, m: u16) -> Bank
     ensures { result ≡ with_stopped b (has m) }
 {
-    let mut d = b;
-    let mut j: usize = 0;
-    while j < 16 {
-        if member(m, j) {
-            let c = d.columns[j];
-            d.columns[j] = stopped(c);
+    for j in 0..16usize {
+        if has(m, j) {
+            b.columns[j] = stopped(b.columns[j]);
         }
-        j += 1;
     }
-    d
+    b
 }

@@ -1,19 +1,22 @@
 // What a step needs to know of the bank that it is lent, by one pass over the columns and one over the packets: whether the bank is
-// refused, and who runs.
+// refused, and who runs. What a packet is tested by comes apart from its tree, as validity.rt says. The heads are lent whole beside their count, which may be any
+// number until `check_seen` has tested it. Columns and places are numbers that are tested: a type would be made from the test, and taken apart for each shift.
 ghost use Rattle.std.specs.Prelude.{◌≡◌, ℕ, ◌≤◌, ◌<◌, get_or};
 ghost use Rattle.column.specs.Sets.{minus, whole};
+ghost use Rattle.column.specs.Refusals.{refusal_of};
 ghost use Rattle.column.specs.Trees.{every};
 ghost use Rattle.bank.specs.inner.Surveys.{ends_valid, barred_of, pair_valid, head_valid, places_of, unseen, sets_of, members_in, Sees, RefusesSeen, Surveys};
 
 use crate::bank::{Bank, Words};
 use crate::words::{ACKNOWLEDGING, ENDS, PAIRS, receiver_in, sender_in};
+use column::error::Refusal;
 use column::members::within;
 use column::packet::{CAPACITY, NUMBERS};
 use column::state::Column;
-use column::topology::tree_refusal;
+use column::topology::check_tree;
 use column::tree::Tree;
 
-// What is no column's number.
+// What is no column's number: `barred_of` of Surveys answers it in place of none, so that a packet's receiver is compared with a byte.
 const NO_END: u8 = 255;
 
 // How many sets of one kind there are: the factor of the second of four kinds in one number, and those of the third and the fourth.
@@ -25,7 +28,7 @@ const NOTED: u64 = SETS * OWED;
 
 // What a pass over the columns has gathered.
 #[derive(Clone, Copy)]
-pub(crate) struct Seen {
+struct Seen {
     // The members of all sets, those of each of the four kinds in sixteen binary digits of their own.
     pub sets: u64,
     // The same with those of each column moved down by its number: digit 32 is 1 where a column owes itself.
@@ -35,7 +38,7 @@ pub(crate) struct Seen {
     pub running: u16,
 }
 
-pub(crate) fn unseen() -> Seen
+fn unseen() -> Seen
     ensures { result ≡ unseen }
 {
     Seen {
@@ -47,13 +50,10 @@ pub(crate) fn unseen() -> Seen
 }
 
 // The pass goes over so many places: the tree is tested after it.
-pub(crate) fn places(columns: usize) -> usize
+fn places(columns: usize) -> usize
     ensures { result ≡ places_of columns }
 {
-    if 16 < columns {
-        return 16;
-    }
-    columns
+    columns.min(16)
 }
 
 // The four sets of a column as one number: they are side by side in a column, so that it is read at once.
@@ -64,7 +64,7 @@ fn sets_of(c: Column) -> u64
 }
 
 // Column i, which is c, is seen too.
-pub(crate) fn see(v: Seen, columns: usize, i: usize, c: Column) -> Seen
+fn see(v: Seen, columns: usize, i: usize, c: Column) -> Seen
     requires { i < 16 }
     ensures { Sees result v columns i c }
 {
@@ -157,14 +157,12 @@ fn heads_valid(
     let bound = columns as u8;
     let closed = barred(root, watch);
     let mut receivers: u64 = 0;
-    let mut k: usize = 0;
-    while k < count {
-        let pair = heads[k] / NUMBERS;
+    for head in &heads[..count] {
+        let pair = *head / NUMBERS;
         if !pair_valid(bound, closed, pair) {
             return false;
         }
-        receivers = receivers | (1u64 << (pair % ENDS));
-        k += 1;
+        receivers |= 1u64 << (pair % ENDS);
     }
     let set = running as u64;
     receivers | set == set
@@ -179,51 +177,36 @@ pub fn halted(columns: usize, running: u16) -> u16
     (every | running) ^ running
 }
 
-// By which of 2, 3 and 4 every step of the bank is refused, else 0; and who runs, where it is 0.
-#[derive(Clone, Copy)]
-pub struct Surveyed {
-    pub refusal: u8,
-    pub running: u16,
-}
-
-// By which of 2, 3 and 4 a bank is refused whose columns are seen, and whose root has that goal, else 0. The doors that packets carry are not looked at.
-pub(crate) fn seen_refusal(t: Tree, v: Seen, whole: bool, count: usize, heads: &Words) -> u8
-    ensures { RefusesSeen result t v whole count heads.now }
+// 2, 3 or 4 of a bank whose columns are seen, and whose root has that goal. The doors that packets carry are not looked at.
+fn check_seen(t: Tree, v: Seen, whole: bool, count: usize, heads: &Words) -> Result<(), Refusal>
+    ensures { RefusesSeen (refusal_of result) t v whole count heads.now }
 {
-    let n = tree_refusal(t);
-    if n != 0 {
-        return n;
-    }
+    check_tree(t)?;
     let owes = v.own / OWED % 2 == 1;
     if !(within(members_in(v.sets), t.columns) & (v.sent & (!owes & whole))) {
-        return 4;
+        return Err(Refusal::OutOfBank);
     }
     if CAPACITY < count {
-        return 4;
+        return Err(Refusal::OutOfBank);
     }
     if !heads_valid(t.columns, t.root, t.watch, v.running, count, heads) {
-        return 4;
+        return Err(Refusal::OutOfBank);
     }
-    0
+    Ok(())
 }
 
-// What a step needs to know of a bank. `act` and `halt_columns` of `step` have a pass of their own: the bank is by value, and this call would copy it.
-pub fn survey(b: Bank, heads: &Words) -> Surveyed
-    ensures { Surveys result b heads.now }
+// Who runs, or by which of 2, 3 and 4 every step of the bank is refused. It is lent the bank: a call by value would copy it.
+pub fn survey(b: &Bank, heads: &Words) -> Result<u16, Refusal>
+    ensures { Surveys result b.now heads.now }
 {
     let t = b.tree;
     let n = places(t.columns);
     let mut v = unseen();
-    let mut j: usize = 0;
-    while j < n {
+    for j in 0..n {
         let c = b.columns[j];
         v = see(v, t.columns, j, c);
-        j += 1;
     }
     let root = b.columns[t.root % 16];
-    let refusal = seen_refusal(t, v, root.whole, b.count, heads);
-    Surveyed {
-        refusal,
-        running: v.running,
-    }
+    check_seen(t, v, root.whole, b.count, heads)?;
+    Ok(v.running)
 }

@@ -1,4 +1,5 @@
-// The step of a turn, found by the sets alone, without a test of each candidate.
+// The step of a turn, found by the sets alone, without a test of each candidate. What a turn knows goes apart, from the tree to the column: a struct of the network's
+// and the halted columns' part would be made anew whenever the network fills, and taken apart in each function.
 ghost use Rattle.std.specs.Prelude.{◌≡◌, ◌≤◌, ◌<◌, cond};
 ghost use Rattle.column.specs.Sets.{insert, without};
 ghost use Rattle.bank.specs.Banks.{halted_of};
@@ -86,21 +87,20 @@ fn is_ready(t: Tree, full: bool, halted: u16, i: usize, c: Column) -> bool
 }
 
 // The columns that can do anything, of a valid bank whose columns in `halted` are halted.
-pub fn ready_columns(b: Bank, halted: u16) -> u16
-    requires { (b.tree.columns ≤ 16) × (halted ≡ halted_of b) }
-    ensures { result ≡ ready_of b }
+#[tactic(auto, unfolding(column::specs::Sets::selected))]
+pub fn ready_columns(b: &Bank, halted: u16) -> u16
+    requires { (b.now.tree.columns ≤ 16) × (halted ≡ halted_of b.now) }
+    ensures { result ≡ ready_of b.now }
 {
     let t = b.tree;
     let n = t.columns;
     let full = !(b.count < CAPACITY);
     let mut set: u16 = 0;
-    let mut i: usize = 0;
-    while i < n {
+    for i in 0..n {
         let c = b.columns[i];
         if is_ready(t, full, halted, i, c) {
-            set = set | (1u16 << i);
+            set |= 1u16 << i;
         }
-        i += 1;
     }
     set
 }

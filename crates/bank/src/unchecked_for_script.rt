@@ -1,134 +1,78 @@
 // Steps for a script, which has a bank as a local of its loop and takes many of them: the bank is tested once, and then what a step can have changed. A step is
-// handed the place of its column and the count, never the whole bank, which each call would copy. No buyer's: of a bank of which what `Tested` has is not so, a step
-// may answer anything; it still answers, and reaches outside nothing.
+// handed the place of its column and the count, never the whole bank, which each call would copy. No buyer's: of a bank of which what is known is not so, a step
+// may answer anything; it still answers, and reaches outside nothing. What is known of a bank is who runs, or by which of 2, 3 and 4 it is refused.
 ghost use Rattle.std.specs.Prelude.{◌≡◌};
-ghost use Rattle.bank.specs.Parts.{untested, Tests, actor_of, StepsPart};
-ghost use Rattle.bank.specs.inner.Moves.{PartIs, RefusesAfter};
+ghost use Rattle.bank.specs.Parts.{Tests, StepsPart};
+ghost use Rattle.bank.specs.inner.Moves.{KnownAfter};
 
-use crate::bank::{Answer, Bank, Step, Words};
+use crate::bank::{Bank, Network, Step, Words};
 use crate::kind::is_move;
-use crate::opening::{opening, receiver_at};
-use crate::settling::is_refusal;
+pub use crate::opening::acting;
+use crate::opening::check_opening;
 use crate::step::change;
 use crate::survey::survey;
 use crate::validity::newest_valid;
+use column::error::Refusal;
 use column::packet::CAPACITY;
 use column::state::Column;
 use column::tree::Tree;
 
-// What is known of a bank: nothing, or by which of 2, 3 and 4 it is refused, else 0, and who runs, where it is 0.
-#[derive(Clone, Copy)]
-pub struct Tested {
-    pub known: bool,
-    pub refusal: u8,
-    pub running: u16,
-}
-
-// What a step makes of the place of its column and of the count, its answer, and by which number the bank after it is refused, else 0.
+// What an accepted step makes of the place of its column and of the count, and what is known of the bank after it.
 #[derive(Clone, Copy)]
 pub struct Part {
     pub column: Column,
     pub count: usize,
-    pub answer: Answer,
-    pub refusal: u8,
-}
-
-// Nothing is known.
-pub fn untested() -> Tested
-    ensures { result ≡ untested }
-{
-    Tested {
-        known: false,
-        refusal: 0,
-        running: 0,
-    }
+    pub known: Result<u16, Refusal>,
 }
 
 // What is known of a bank by a test of all of it.
-pub fn test_bank(b: Bank, heads: &Words) -> Tested
+pub fn test_bank(b: Bank, heads: &Words) -> Result<u16, Refusal>
     ensures { Tests result b heads.now }
 {
-    let v = survey(b, heads);
-    Tested {
-        known: true,
-        refusal: v.refusal,
-        running: v.running,
-    }
+    survey(&b, heads)
 }
 
-// The column whose step it is.
-pub fn acting(t: Tree, x: Step, heads: &Words) -> usize
-    ensures { result ≡ actor_of t x heads.now }
-{
-    match x {
-        Step::Order(_) => t.root,
-        Step::Send(i) | Step::Ack(i) | Step::All(i) | Step::Note(i, _) => i,
-        Step::Take(place) => receiver_at(place, heads),
-        Step::Halt(_) => 0,
-        Step::Back(_) => 0,
-        Step::Write(_, _, _) => 0,
-    }
-}
-
-// The place and the count as they were.
-fn kept(c: Column, count: usize, answer: Answer, refusal: u8) -> Part
-    ensures { PartIs result c count answer refusal }
-{
-    Part {
-        column: c,
-        count,
-        answer,
-        refusal,
-    }
-}
-
-// By which number a bank is refused that was valid before a step and has so many packets after it: 4 where the newest is not valid, else 0.
-fn refusal_after(t: Tree, running: u16, count: usize, heads: &Words) -> u8
-    ensures { RefusesAfter result t running count heads.now }
+// What is known of a bank that was valid before a step and has so many packets after it: it is refused by 4 where the newest is not valid. The heads are lent
+// whole: the count is tested here. That `check_ack` of column has this form too is chance.
+fn known_after(t: Tree, running: u16, count: usize, heads: &Words) -> Result<u16, Refusal>
+    ensures { KnownAfter result t running count heads.now }
 {
     if 16 < t.columns {
-        return 4;
+        return Err(Refusal::OutOfBank);
     }
     if CAPACITY < count {
-        return 4;
+        return Err(Refusal::OutOfBank);
     }
     if newest_valid(t.columns, t.root, t.watch, running, count, heads) {
-        return 0;
+        return Ok(running);
     }
-    4
+    Err(Refusal::OutOfBank)
 }
 
-// The step x of column i in a bank of which v is known. Its place is c; a number that no place has is taken as that number less a multiple of 16.
+// The step x of column i in a bank of which this is known. Its place is c; a number that no place has is taken as that number less a multiple of 16.
+// A step that is refused leaves the place, the count and what is known as they were. The parts go apart: a struct of them would be made for each call.
 pub fn step_on(
-    v: Tested,
+    known: Result<u16, Refusal>,
     t: Tree,
     x: Step,
     i: usize,
     c: Column,
     count: usize,
-    heads: &mut Words,
-    doors: &mut Words,
-) -> Part
-    ensures { StepsPart result v t x i c count heads.old doors.old heads.new doors.new }
+    network: &mut Network,
+) -> Result<Part, Refusal>
+    ensures { StepsPart result known t x i c count network.old.heads network.old.doors network.new.heads network.new.doors }
 {
-    let n = opening(v.refusal, t.columns, x, i, count);
-    if n != 0 {
-        return kept(c, count, Answer::Refused(n), v.refusal);
-    }
+    let running = known?;
+    check_opening(t.columns, x, i, count)?;
+    // Nothing is promised of a halt, a return or a write, nor of a count above 512; but `change` asks for a move and a count that fits.
     if !(is_move(x) & (count <= CAPACITY)) {
-        return kept(c, count, Answer::Refused(10), v.refusal);
+        return Err(Refusal::NoPacket);
     }
-    let r = change(t, v.running, x, i, c, count, heads, doors);
-    let answer = r.answer;
-    if is_refusal(answer) {
-        return kept(c, count, answer, v.refusal);
-    }
-    let column = r.column;
-    let refusal = refusal_after(t, v.running, r.count, heads);
-    Part {
-        column,
+    let r = change(t, running, x, i, c, count, network)?;
+    let known = known_after(t, running, r.count, &network.heads);
+    Ok(Part {
+        column: r.column,
         count: r.count,
-        answer,
-        refusal,
-    }
+        known,
+    })
 }

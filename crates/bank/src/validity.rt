@@ -1,5 +1,7 @@
-// What every step tests first: the tree, then row 4 of every column and of every packet.
+// What every step tests first: the tree, then row 4 of every column and of every packet. The parts of a tree that a packet is tested by come apart: with the tree
+// lent, a step of an order dispatched to rest took 448 instructions in place of 406, and its row has a bar. Only as many heads count as the bank says.
 ghost use Rattle.std.specs.Prelude.{◌≡◌, ◌≤◌};
+ghost use Rattle.column.specs.Refusals.{refusal_of};
 ghost use Rattle.bank.specs.inner.Surveys.{head_valid};
 ghost use Rattle.bank.specs.Banks.{RefusesBank, RefusesActing};
 ghost use Rattle.bank.specs.inner.Changes.{TellsNewest};
@@ -7,8 +9,8 @@ ghost use Rattle.bank.specs.inner.Changes.{TellsNewest};
 use crate::bank::{Bank, Words};
 use crate::survey::{ends_valid, survey};
 use crate::words::receiver_in;
+use column::error::Refusal;
 use column::members::has;
-use column::precedence::refuse_if;
 
 // Row 4 of a packet, by its head.
 fn head_valid(columns: usize, root: usize, watch: bool, running: u16, head: u64) -> bool
@@ -19,20 +21,24 @@ fn head_valid(columns: usize, root: usize, watch: bool, running: u16, head: u64)
     ends_valid(columns, root, watch, head) & has(running, to)
 }
 
-// 2, 3 or 4 of the bank, which every step tests first, else 0. The doors that packets carry are not looked at.
-pub fn bank_refusal(b: Bank, heads: &Words) -> u8
-    ensures { RefusesBank result b heads.now }
+// 2, 3 or 4 of the bank, which every step tests first. The doors that packets carry are not looked at.
+pub fn check_bank(b: Bank, heads: &Words) -> Result<(), Refusal>
+    ensures { RefusesBank (refusal_of result) b heads.now }
 {
-    let v = survey(b, heads);
-    v.refusal
+    survey(&b, heads)?;
+    Ok(())
 }
 
 // The same, and 4 of a column that the bank has not.
-pub fn acting_refusal(b: Bank, i: usize, heads: &Words) -> u8
-    ensures { RefusesActing result b heads.now i }
+pub fn check_acting(b: Bank, i: usize, heads: &Words) -> Result<(), Refusal>
+    ensures { RefusesActing (refusal_of result) b heads.now i }
 {
+    check_bank(b, heads)?;
     let t = b.tree;
-    refuse_if(bank_refusal(b, heads), t.columns <= i, 4)
+    if t.columns <= i {
+        return Err(Refusal::OutOfBank);
+    }
+    Ok(())
 }
 
 // Row 4 of the newest packet, where there is one: all of what a step can have broken.

@@ -1,6 +1,6 @@
-// A packet as two words of the network: a head with the kind, the ends and the number, and the doors.
+// A packet as two words of the network: a head with the kind, the ends and the number, and the doors. The conversions stand by name, in the factors of the
+// definitions of Words. A `From` would be no plainer: no derive knows this format, a head alone is no packet, and two words are two arguments.
 ghost use Rattle.std.specs.Prelude.{◌≡◌};
-ghost use Rattle.column.specs.Packets.{doors_of};
 ghost use Rattle.bank.specs.Words.{placed, head_of, packet_of, receiver_in, sender_in};
 
 use column::packet::{NUMBERS, Number, Packet};
@@ -30,16 +30,6 @@ pub fn head(p: Packet) -> u64
             ..
         } => placed(from, to, number),
         Packet::Acknowledgement { from, to, number } => ACKNOWLEDGING + placed(from, to, number),
-    }
-}
-
-// The second word of a packet: 0 of an acknowledgement.
-pub fn doors_word(p: Packet) -> u64
-    ensures { result ≡ doors_of p }
-{
-    match p {
-        Packet::Message { doors, .. } => doors,
-        Packet::Acknowledgement { .. } => 0,
     }
 }
 

@@ -12,11 +12,9 @@ use streams::read_full;
 fn main(rt: HostRuntime) -> io::Result<()> {
     let mut input = [0u8; 32];
     let _ = read_full(&mut rt.stdin(), &mut input);
-    // A space, and so 0: what is in the input no compiler knows.
-    let read = input[1] % 8;
     let sum = bank_laps::run(
         input[0],
-        read,
+        input[1],
         number(&input[2..4]),
         number(&input[5..8]),
         number(&input[9..]),

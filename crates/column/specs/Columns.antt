@@ -1,13 +1,11 @@
 -- What a column holds, after document 01, "What a column holds", and what row 4 asks of it.
 use Rattle.std.specs.Prelude.{ℕ, ◌+◌, ◌-◌, ◌^◌, Bool, true, false, not, ◌&&◌, ◌||◌, cond, List, [], ◌∷◌, eqb, leb}
-use Rattle.column.specs.Refusals.{first, earlier, Given, given, refused, given_unless}
+use Rattle.column.specs.Refusals.{first, earlier, Given, given_unless}
 use Rattle.column.specs.Sets.{has, insert, within}
 use Rattle.column.specs.Trees.{tree_refusal, column_refusal}
 use Rattle.column.specs.Packets.{number_size}
 use Rattle.column.specs.declared.tree.Tree.{Tree}
 use Rattle.column.specs.declared.state.Column.{Column}
-use Rattle.column.specs.declared.state.FreshColumn.{FreshColumn}
-use Rattle.column.specs.declared.state.FreshColumn.TheVariants.{Is, Refused}
 
 -- "Records and packets go to 32 bits, and 8 comes at 4,294,967,295."
 abbrev pub highest : ℕ
@@ -24,11 +22,6 @@ fresh_under root i = record { running = true; number = 0; doors = 0; send = 0; a
 
 abbrev pub fresh : Tree → ℕ → Column
 fresh t i = fresh_under t.root i
-
--- the values of each case of `FreshColumn`
-abbrev pub fresh_meant : FreshColumn → Given Column
-fresh_meant (Is c) = given c
-fresh_meant (Refused n) = refused n
 
 abbrev pub fresh_given : Tree → ℕ → Given Column
 fresh_given t i = given_unless (column_refusal t i) (fresh t i)

@@ -1,13 +1,11 @@
 -- Frames of joined packets, after document 02, Point 5.
-use Rattle.std.specs.Prelude.{ℕ, zero, suc, ◌-◌, cond, List, [], ◌∷◌, ◌++◌, map, eqb, length, drop, replicate}
-use Rattle.column.specs.Refusals.{Given, given, refused}
+use Rattle.std.specs.Prelude.{ℕ, zero, suc, ◌-◌, cond, List, [], ◌∷◌, ◌++◌, eqb, length, drop, replicate, Result, Ok, Err}
+use Rattle.column.specs.Refusals.{Given, given, refused, refusal_number}
+use Rattle.column.specs.declared.error.Refusal.{Refusal}
 use Rattle.column.specs.Packets.{Part, bytes_of, read}
 use Rattle.column.specs.declared.packet.Packet.{Packet}
 use Rattle.column.specs.declared.packet.Packet.TheVariants.{Message}
-use Rattle.column.specs.declared.frame.Slot.{Slot}
-use Rattle.column.specs.declared.frame.Count.{Count}
 use Rattle.column.specs.declared.frame.Frame.{Frame}
-use Rattle.column.specs.declared.frame.Count.TheVariants as count
 
 -- "A frame of more than 512 packets is 12."
 abbrev pub frame_packets : ℕ
@@ -38,28 +36,26 @@ joined (p ∷ ps) = bytes_of p ++ joined ps
 
 -- ---- what the frame reader answers: a count or a refusal, and every place
 
-abbrev pub slot : Packet → Slot
-slot p = record { packet = p }
-
-abbrev pub no_slot : Slot
-no_slot = slot (Message 0 0 0 0)
+-- what a place without a packet holds
+abbrev pub no_packet : Packet
+no_packet = Message 0 0 0 0
 
 pub record Framed : Type 0 where
   pub count : Given ℕ
-  pub packets : List Slot
+  pub packets : List Packet
 
--- the values of each case of `Count`
-abbrev pub count_meant : Count → Given ℕ
-count_meant (count.Is k) = given k
-count_meant (count.Refused n) = refused n
+abbrev pub framed : ℕ → List Packet → Framed
+framed k packets = record { count = given k; packets = packets }
 
-abbrev pub frame_meant : Frame → Framed
-frame_meant f = record { count = count_meant f.count; packets = f.packets }
+-- no packet is yielded, and no place holds one
+abbrev pub framed_none : ℕ → Framed
+framed_none n = record { count = refused n; packets = replicate frame_packets no_packet }
 
-abbrev pub framed : ℕ → List Slot → Framed
-framed k slots = record { count = given k; packets = slots }
+abbrev pub frame_meant : Result Frame Refusal → Framed
+frame_meant (Ok f) = framed f.count f.packets
+frame_meant (Err r) = framed_none (refusal_number r)
 
 -- the packets come first, past them nothing; "yields no packet" where it is refused
 abbrev pub frame_of : Given (List Packet) → Framed
-frame_of (given ps) = framed (length ps) (map slot ps ++ replicate (frame_packets - length ps) no_slot)
-frame_of (refused n) = record { count = refused n; packets = replicate frame_packets no_slot }
+frame_of (given ps) = framed (length ps) (ps ++ replicate (frame_packets - length ps) no_packet)
+frame_of (refused n) = framed_none n

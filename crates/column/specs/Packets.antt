@@ -1,16 +1,14 @@
 -- Packets and their bytes, after document 01, "Packets" and "What a column holds"; their reader after document 02, Point 5, their widths after
 -- Point 10.
-use Rattle.std.specs.Prelude.{ℕ, zero, suc, ◌+◌, ◌-◌, ◌*◌, ◌/◌, ◌%◌, Bool, true, false, not, ◌&&◌, cond, List, [], ◌∷◌, ◌++◌, reverse, eqb, ltb, leb, length, take, drop, get_or, replicate}
-use Rattle.column.specs.Refusals.{Given, given, refused}
+use Rattle.std.specs.Prelude.{ℕ, zero, suc, ◌+◌, ◌-◌, ◌*◌, ◌/◌, ◌%◌, Bool, true, false, not, ◌&&◌, cond, List, [], ◌∷◌, ◌++◌, reverse, eqb, ltb, leb, length, take, drop, get_or, replicate, Result, Ok, Err}
+use Rattle.column.specs.Refusals.{Given, given, refused, refusal_number}
+use Rattle.column.specs.declared.error.Refusal.{Refusal}
 use Rattle.column.specs.Sets.{has}
 use Rattle.column.specs.declared.packet.Packet.{Packet}
 use Rattle.column.specs.declared.packet.Packet.TheVariants.{Message, Acknowledgement}
 use Rattle.column.specs.declared.codec.Width.{Width}
 use Rattle.column.specs.declared.codec.Reading.{Reading}
-use Rattle.column.specs.declared.codec.Size.{Size}
 use Rattle.column.specs.declared.codec.Written.{Written}
-use Rattle.column.specs.declared.codec.Reading.TheVariants as reading
-use Rattle.column.specs.declared.codec.Size.TheVariants as size
 
 -- ---- the parts of a packet
 
@@ -106,14 +104,6 @@ pub record Wrote : Type 0 where
   pub size : Given ℕ
   pub bytes : List ℕ
 
--- the values of each case of `Size`
-abbrev pub size_meant : Size → Given ℕ
-size_meant (size.Is count) = given count
-size_meant (size.Refused n) = refused n
-
-abbrev pub write_meant : Written → Wrote
-write_meant w = record { size = size_meant w.size; bytes = w.bytes }
-
 abbrev pub padded : List ℕ → List ℕ
 padded s = s ++ replicate (message_size wide - length s) 0
 
@@ -122,6 +112,14 @@ wrote s = record { size = given (length s); bytes = padded s }
 
 abbrev pub wrote_none : ℕ → Wrote
 wrote_none n = record { size = refused n; bytes = padded [] }
+
+-- what is written, or the number of the refusal
+abbrev pub written_meant : Written → Wrote
+written_meant w = record { size = given w.size; bytes = w.bytes }
+
+abbrev pub write_meant : Result Written Refusal → Wrote
+write_meant (Ok w) = written_meant w
+write_meant (Err r) = wrote_none (refusal_number r)
 
 unfoldable pub write : Packet → Wrote
 write p = cond (good_ends p) (wrote (bytes_of p)) (wrote_none 12)
@@ -136,10 +134,10 @@ pub record Part : Type 0 where
 abbrev pub part : Packet → ℕ → Part
 part p used = record { packet = p; used = used }
 
--- the values of each case of `Reading`
-abbrev pub read_meant : Reading → Given Part
-read_meant (reading.Is p used) = given (part p used)
-read_meant (reading.Refused n) = refused n
+-- the part, or the number of the refusal
+abbrev pub read_meant : Result Reading Refusal → Given Part
+read_meant (Ok q) = given (part q.packet q.used)
+read_meant (Err r) = refused (refusal_number r)
 
 abbrev pub number_in : Width → List ℕ → ℕ
 number_in w s = high_value (take w.count (drop 3 s))

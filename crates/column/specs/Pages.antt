@@ -2,14 +2,12 @@
 use Rattle.std.specs.Prelude.{ℕ, Bool, false, not, ◌||◌, cond, List, [], ◌∷◌, eqb, leb, get_or}
 use Rattle.std.specs.Int.Bits.{bit_and}
 use Rattle.std.specs.Int.Count.{ones}
-use Rattle.column.specs.Refusals.{first, earlier, Given, given, refused, given_unless}
+use Rattle.column.specs.Refusals.{first, earlier, Given, given_unless}
 use Rattle.column.specs.Sets.{single, join, minus}
 use Rattle.column.specs.Columns.{validity_refusal, with_registers}
 use Rattle.column.specs.Steps.{Result, accepted, unless}
 use Rattle.column.specs.declared.tree.Tree.{Tree}
 use Rattle.column.specs.declared.state.Column.{Column}
-use Rattle.column.specs.declared.page.Byte.{Byte}
-use Rattle.column.specs.declared.page.Byte.TheVariants.{Is, Refused}
 
 -- ---- the eight bytes
 
@@ -37,11 +35,6 @@ abbrev pub byte_of : ℕ → Column → ℕ → ℕ
 byte_of i c offset = get_or (page i c) offset 0
 
 -- ---- a read: no 5, of a halted column too
-
--- the values of each case of `Byte`
-abbrev pub byte_meant : Byte → Given ℕ
-byte_meant (Is value) = given value
-byte_meant (Refused n) = refused n
 
 -- "22 for an offset above 7 .., after 4"
 abbrev pub read_conditions : ℕ → List (ℕ × Bool)

@@ -1,7 +1,8 @@
 -- The steps of a lone column, after document 01, "Steps" and "Refused, and by which number".
 -- A step is its refusal, the first condition that holds, and its effect where there is none.
-use Rattle.std.specs.Prelude.{ℕ, ◌+◌, Bool, true, false, not, ◌&&◌, cond, List, [], ◌∷◌, eqb, leb, ltb}
-use Rattle.column.specs.Refusals.{first, earlier}
+use Rattle.std.specs.Prelude.{ℕ, ◌+◌, Bool, true, false, not, ◌&&◌, cond, List, [], ◌∷◌, eqb, leb, ltb, Ok, Err}
+use Rattle.std.specs.Prelude as prelude
+use Rattle.column.specs.Refusals.{first, earlier, refusal_number}
 use Rattle.column.specs.Sets.{has, single, join, insert, without, lowest}
 use Rattle.column.specs.Trees.{choose, children}
 use Rattle.column.specs.Packets.{is_message, sender, receiver}
@@ -10,8 +11,9 @@ use Rattle.column.specs.declared.tree.Tree.{Tree}
 use Rattle.column.specs.declared.state.Column.{Column}
 use Rattle.column.specs.declared.packet.Packet.{Packet}
 use Rattle.column.specs.declared.packet.Packet.TheVariants.{Message, Acknowledgement}
+use Rattle.column.specs.declared.error.Refusal.{Refusal}
 use Rattle.column.specs.declared.outcome.Answer.{Answer}
-use Rattle.column.specs.declared.outcome.Answer.TheVariants.{Done, Put, Left, Refused}
+use Rattle.column.specs.declared.outcome.Answer.TheVariants.{Done, Put, Left}
 use Rattle.column.specs.declared.outcome.Outcome.{Outcome}
 
 -- ---- what a step gives
@@ -22,15 +24,19 @@ pub data Result : Type 0 where
   -- refused: document 01's number, and the column as it was
   refused : ℕ → Column → Result
 
--- the number and the values of each case of `Answer`
+-- the values of each case of `Answer`
 abbrev pub answered : Column → Answer → Result
 answered c Done = accepted c [] false
 answered c (Put p) = accepted c (p ∷ []) false
 answered c (Left p) = accepted c (p ∷ []) true
-answered c (Refused n) = refused n c
 
-abbrev pub outcome_meant : Outcome → Result
-outcome_meant o = answered o.column o.answer
+abbrev pub stepped : Outcome → Result
+stepped o = answered o.column o.answer
+
+-- the outcome of a step of the column c, or the number of the refusal and c as it was
+abbrev pub outcome_meant : Column → prelude.Result Outcome Refusal → Result
+outcome_meant c (Ok o) = stepped o
+outcome_meant c (Err r) = refused (refusal_number r) c
 
 -- "A refusal returns its number" and the column keeps its value
 abbrev pub unless : ℕ → Column → Result → Result

@@ -1,10 +1,8 @@
 -- The tree of a bank, after document 01, "The bank and its table", and its sequence, after document 02, Point 6.
 use Rattle.std.specs.Prelude.{ℕ, zero, suc, ◌≤◌, ◌<◌, min, ◌≡◌, Bool, true, false, not, ◌&&◌, ◌||◌, cond, List, [], ◌∷◌, eqb, leb, ltb, get_or}
-use Rattle.column.specs.Refusals.{first, earlier, Given, given, refused, given_unless}
+use Rattle.column.specs.Refusals.{first, earlier, Given, given_unless}
 use Rattle.column.specs.Sets.{has, single, join, insert, without, lowest, within, whole, selected}
 use Rattle.column.specs.declared.tree.Tree.{Tree}
-use Rattle.column.specs.declared.topology.Members.{Members}
-use Rattle.column.specs.declared.topology.Members.TheVariants.{Set, Refused}
 
 -- k numbers from `at` on
 abbrev pub rising_from : ℕ → ℕ → List ℕ
@@ -148,11 +146,6 @@ abbrev pub subtrees : Tree → ℕ → ℕ
 subtrees t s = subtrees_in descent t s
 
 -- ---- what the functions answer
-
--- the values of each case of `Members`
-abbrev pub members_meant : Members → Given ℕ
-members_meant (Set m) = given m
-members_meant (Refused n) = refused n
 
 -- "Before all else a tree that breaks row 2 or 3 gives that number. Next, 4 meets a column number or set member not below columns"
 abbrev pub column_refusal : Tree → ℕ → ℕ

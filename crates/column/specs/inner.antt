@@ -1,2 +1,2 @@
 pub mod TreePasses
-pub mod Answers
+pub mod Bounds

@@ -1,8 +1,10 @@
-// Packets as bytes.
+// Packets as bytes. What is alike here is alike in form: a reader tests bytes, a writer a packet. Doors are read and written by `number_bytes` too, since the place
+// where they stand goes with the width; an array of eight of them would be one copy more.
 ghost use Rattle.std.specs.Prelude.{◌≤◌, ◌-◌, cond, ◌∷◌, ◌++◌, ◌≡◌, replicate};
 ghost use Rattle.column.specs.Refusals.{given, refused};
-ghost use Rattle.column.specs.Packets.{number_size, wide, message_size, high_first, good_ends, part, bytes_in, read_meant, read_in, read, write_meant, wrote, wrote_none, write};
+ghost use Rattle.column.specs.Packets.{number_size, wide, message_size, high_first, good_ends, part, bytes_in, read_meant, read_in, read, written_meant, write_meant, wrote, write};
 
+use crate::error::Refusal;
 use crate::number_bytes::{high_value, low_value, put_high_first, put_low_first};
 use crate::packet::{NUMBER_SIZE, Number, Packet, receiver, sender};
 
@@ -15,7 +17,8 @@ pub const MESSAGE_SIZE: usize = HEAD_SIZE + NUMBER_SIZE + DOORS_SIZE;
 
 pub const ACKNOWLEDGEMENT_SIZE: usize = HEAD_SIZE + NUMBER_SIZE;
 
-// What tells packets of two widths apart: the kinds of a message and of an acknowledgement, and how many bytes a number has.
+// What tells packets of two widths apart: the kinds of a message and of an acknowledgement, and how many bytes a number has. That these are at most four is asked
+// of it where it is taken: a ghost field would hold a proof, and that of a constant here is another term than that of the definition that it is to equal.
 #[derive(Clone, Copy)]
 pub struct Width {
     pub message: u8,
@@ -37,22 +40,18 @@ pub(crate) const WIDE: Width = Width {
     count: NUMBER_SIZE,
 };
 
+// A packet, and how many bytes it takes.
 #[derive(Clone, Copy)]
-pub enum Reading {
-    Is { packet: Packet, used: usize },
-    Refused(u8),
+pub struct Reading {
+    pub packet: Packet,
+    pub used: usize,
 }
 
-#[derive(Clone, Copy)]
-pub enum Size {
-    Is(usize),
-    Refused(u8),
-}
-
+// The bytes of a packet, those past it 0, and its size. There is no heap for as many as it has.
 #[derive(Clone, Copy)]
 pub struct Written {
     pub bytes: [u8; MESSAGE_SIZE],
-    pub size: Size,
+    pub size: usize,
 }
 
 fn good_ends(p: Packet) -> bool
@@ -69,25 +68,24 @@ fn good_ends(p: Packet) -> bool
     from != to
 }
 
-fn checked(p: Packet, used: usize) -> Reading
-    ensures { read_meant result ≡ cond (good_ends p) (given (part p used)) (refused 12) }
+fn checked(packet: Packet, used: usize) -> Result<Reading, Refusal>
+    ensures { read_meant result ≡ cond (good_ends packet) (given (part packet used)) (refused 12) }
 {
-    if good_ends(p) {
-        Reading::Is { packet: p, used }
-    } else {
-        Reading::Refused(12)
+    if !good_ends(packet) {
+        return Err(Refusal::MalformedPacket);
     }
+    Ok(Reading { packet, used })
 }
 
 // The packet of this width at the start of these bytes and how many of them it takes; or 12 where there is none.
-pub(crate) fn read_in(s: &[u8], w: Width) -> Reading
+pub(crate) fn read_in(s: &[u8], w: Width) -> Result<Reading, Refusal>
     requires { w.count ≤ number_size }
     ensures { read_meant result ≡ read_in w s.now }
 {
     let size = s.len();
     let acknowledgement_size = HEAD_SIZE + w.count;
     if size < acknowledgement_size {
-        return Reading::Refused(12);
+        return Err(Refusal::MalformedPacket);
     }
     let kind = s[0];
     let from = s[1];
@@ -97,7 +95,7 @@ pub(crate) fn read_in(s: &[u8], w: Width) -> Reading
     if kind == message {
         let message_size = acknowledgement_size + DOORS_SIZE;
         if size < message_size {
-            return Reading::Refused(12);
+            return Err(Refusal::MalformedPacket);
         }
         let doors = low_value(&s[acknowledgement_size..message_size]);
         return checked(
@@ -112,7 +110,7 @@ pub(crate) fn read_in(s: &[u8], w: Width) -> Reading
     }
     let acknowledgement = w.acknowledgement;
     if kind != acknowledgement {
-        return Reading::Refused(12);
+        return Err(Refusal::MalformedPacket);
     }
     checked(
         Packet::Acknowledgement { from, to, number },
@@ -121,13 +119,13 @@ pub(crate) fn read_in(s: &[u8], w: Width) -> Reading
 }
 
 // The packet at the start of these bytes and how many of them it takes, 15 or 7; or 12 where there is none.
-pub fn read(s: &[u8]) -> Reading
+pub fn read(s: &[u8]) -> Result<Reading, Refusal>
     ensures { read_meant result ≡ read s.now }
 {
     read_in(s, WIDE)
 }
 
-// What the two kinds have in common, the rest 0.
+// What the two kinds have in common, the rest 0. A kind is the byte that the papers give it.
 fn without_doors(kind: u8, from: u8, to: u8, number: Number, count: usize) -> [u8; MESSAGE_SIZE]
     requires { count ≤ number_size }
     ensures { result ≡ kind ∷ from ∷ to ∷ (high_first count number ++ replicate (message_size wide - 3 - count) 0) }
@@ -144,7 +142,7 @@ fn without_doors(kind: u8, from: u8, to: u8, number: Number, count: usize) -> [u
 // The bytes of a packet in this width, followed by 0, and its size. The ends are not tested.
 pub(crate) fn write_in(p: Packet, w: Width) -> Written
     requires { w.count ≤ number_size }
-    ensures { write_meant result ≡ wrote (bytes_in w p) }
+    ensures { written_meant result ≡ wrote (bytes_in w p) }
 {
     let count = w.count;
     let start = HEAD_SIZE + count;
@@ -158,38 +156,22 @@ pub(crate) fn write_in(p: Packet, w: Width) -> Written
             let end = start + DOORS_SIZE;
             let mut bytes = without_doors(w.message, from, to, number, count);
             put_low_first(&mut bytes[start..end], doors);
-            Written {
-                bytes,
-                size: Size::Is(end),
-            }
+            Written { bytes, size: end }
         }
         Packet::Acknowledgement { from, to, number } => {
             let bytes = without_doors(w.acknowledgement, from, to, number, count);
-            Written {
-                bytes,
-                size: Size::Is(start),
-            }
+            Written { bytes, size: start }
         }
     }
 }
 
-// A refusal, and bytes of 0.
-pub(crate) fn write_none(n: u8) -> Written
-    ensures { write_meant result ≡ wrote_none n }
-{
-    Written {
-        bytes: [0u8; MESSAGE_SIZE],
-        size: Size::Refused(n),
-    }
-}
-
-// The bytes of a packet, followed by 0, and its size; or 12 and bytes of 0.
-pub fn write(p: Packet) -> Written
+// The bytes of a packet, followed by 0, and its size; or 12.
+#[tactic(auto, unfolding(crate::specs::Packets::write))]
+pub fn write(p: Packet) -> Result<Written, Refusal>
     ensures { write_meant result ≡ write p }
 {
-    if good_ends(p) {
-        write_in(p, WIDE)
-    } else {
-        write_none(12)
+    if !good_ends(p) {
+        return Err(Refusal::MalformedPacket);
     }
+    Ok(write_in(p, WIDE))
 }

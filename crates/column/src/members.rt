@@ -1,4 +1,4 @@
-// Sets of columns as masks: column i is a member where bit i is 1.
+// Sets of columns as masks: column i is a member where bit i is 1. A mask and a number come apart: a struct of both would be made for each test.
 ghost use Rattle.std.specs.Prelude.{◌≡◌};
 ghost use Rattle.column.specs.Sets.{has, lowest, within};
 
@@ -12,7 +12,7 @@ pub fn has(m: u16, i: usize) -> bool
     (m >> i) % 2 == 1
 }
 
-// The lowest member, and 16 of the empty set.
+// The lowest member, and 16 of the empty set, as the definition says.
 pub fn lowest(m: u16) -> usize
     ensures { result ≡ lowest m }
 {

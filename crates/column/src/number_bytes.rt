@@ -1,4 +1,6 @@
-// Numbers in any count of bytes, which the length of the slice says.
+// Numbers in any count of bytes, which the length of the slice says: a conversion of the library has one width. The two orders have a function each: one for both
+// would ask for each byte from which end it comes. What is written goes by places, since of what an adapter such as `rev` writes nothing is known afterwards. Above
+// eight bytes a reader answers 0, as `word` says.
 ghost use Rattle.std.specs.Prelude.{◌≡◌, length};
 ghost use Rattle.column.specs.Packets.{low_first, low_value, high_first, high_value, word};
 
@@ -13,9 +15,7 @@ pub fn low_value(s: &[u8]) -> u64
         return 0;
     }
     let mut value: u64 = 0;
-    let mut i = s.len();
-    while 0 < i {
-        i -= 1;
+    for i in (0..s.len()).rev() {
         let byte = s[i] as u64;
         value = value * 256 + byte;
     }
@@ -23,6 +23,7 @@ pub fn low_value(s: &[u8]) -> u64
 }
 
 // What at most eight bytes mean, the highest first; 0 of more.
+#[tactic(auto, unfolding(crate::specs::Packets::low_value))]
 pub fn high_value(s: &[u8]) -> u64
     ensures { result ≡ word high_value s.now }
 {
@@ -30,11 +31,8 @@ pub fn high_value(s: &[u8]) -> u64
         return 0;
     }
     let mut value: u64 = 0;
-    let mut i = 0;
-    while i < s.len() {
-        let byte = s[i] as u64;
-        value = value * 256 + byte;
-        i += 1;
+    for &byte in s {
+        value = value * 256 + byte as u64;
     }
     value
 }
@@ -44,11 +42,9 @@ pub fn put_low_first(out: &mut [u8], number: u64)
     ensures { out.new ≡ low_first (length out.old) number }
 {
     let mut rest = number;
-    let mut i = 0;
-    while i < out.len() {
+    for i in 0..out.len() {
         out[i] = (rest % 256) as u8;
         rest = rest / 256;
-        i += 1;
     }
 }
 
@@ -57,9 +53,7 @@ pub fn put_high_first(out: &mut [u8], number: u64)
     ensures { out.new ≡ high_first (length out.old) number }
 {
     let mut rest = number;
-    let mut i = out.len();
-    while 0 < i {
-        i -= 1;
+    for i in (0..out.len()).rev() {
         out[i] = (rest % 256) as u8;
         rest = rest / 256;
     }

@@ -1,44 +1,45 @@
-// What a step makes of a column, or the number by which it is refused.
-ghost use Rattle.std.specs.Prelude.{false, ◌≡◌, []};
-ghost use Rattle.column.specs.Steps.{outcome_meant, accepted, refused};
+// What an accepted step makes of a column.
+ghost use Rattle.std.specs.Prelude.{false, ◌≡◌, [], ◌∷◌};
+ghost use Rattle.column.specs.Steps.{stepped, accepted};
 
 use crate::packet::Packet;
 use crate::state::Column;
 
 #[derive(Clone, Copy)]
 pub enum Answer {
-    // Accepted, and no packet is to be put.
+    // No packet is to be put.
     Done,
-    // Accepted, and this packet is to be put.
+    // This packet is to be put.
     Put(Packet),
-    // A take that is accepted and leaves its packet in its place; this packet is to be put.
+    // A take that leaves its packet in its place; this packet is to be put.
     Left(Packet),
-    Refused(u8),
 }
 
-// The column after a step, or as it was where the step is refused.
+// The column after a step, and what the step answers.
 #[derive(Clone, Copy)]
 pub struct Outcome {
     pub column: Column,
     pub answer: Answer,
 }
 
-// The step is accepted with this column, and puts no packet.
-pub(crate) fn done(c: Column) -> Outcome
-    ensures { outcome_meant result ≡ accepted c [] false }
-{
-    Outcome {
-        column: c,
-        answer: Answer::Done,
+impl Outcome {
+    // The column, and no packet to put.
+    pub fn done(column: Column) -> Outcome
+        ensures { stepped result ≡ accepted column [] false }
+    {
+        Outcome {
+            column,
+            answer: Answer::Done,
+        }
     }
-}
 
-// The step is refused by n, with the column as it was.
-pub(crate) fn refused(c: Column, n: u8) -> Outcome
-    ensures { outcome_meant result ≡ refused n c }
-{
-    Outcome {
-        column: c,
-        answer: Answer::Refused(n),
+    // The column, and a packet to put.
+    pub fn putting(column: Column, p: Packet) -> Outcome
+        ensures { stepped result ≡ accepted column (p ∷ []) false }
+    {
+        Outcome {
+            column,
+            answer: Answer::Put(p),
+        }
     }
 }

@@ -2,12 +2,13 @@
 // columns it is to send to, awaits and owes; the interrupt mask; what is pending; 0. The mask may be written, and what is pending cleared.
 ghost use Rattle.std.specs.Prelude.{cond, ◌≡◌, ◌<◌};
 ghost use Rattle.std.specs.Int.Count.{ones};
+ghost use Rattle.column.specs.Refusals.{refusal_of, meant};
 ghost use Rattle.column.specs.Steps.{outcome_meant};
-ghost use Rattle.column.specs.Pages.{page, byte_meant, read_refusal, read_byte, writable, write_refusal, written, write, line_up};
+ghost use Rattle.column.specs.Pages.{page, read_refusal, read_byte, writable, write_refusal, written, write, line_up};
 
-use crate::outcome::{Outcome, done, refused};
-use crate::precedence::refuse_if;
-use crate::state::{Column, validity_refusal};
+use crate::error::Refusal;
+use crate::outcome::Outcome;
+use crate::state::{Column, check_validity};
 use crate::tree::Tree;
 
 pub const PAGE_SIZE: usize = 8;
@@ -18,10 +19,8 @@ pub const MASK_OFFSET: usize = 5;
 // Where what is pending is cleared.
 pub const CLEAR_OFFSET: usize = 7;
 
-// The bits of byte 1.
-const RUNNING: u8 = 1;
-
-const WHOLE: u8 = 2;
+// Digit 0 of byte 1 is whether it runs; this one is whether its goal is the whole bank.
+const GOAL_DIGIT: u32 = 1;
 
 // The bits of byte 6, what is pending.
 pub const RECORD_RECEIVED: u8 = 1;
@@ -29,21 +28,6 @@ pub const RECORD_RECEIVED: u8 = 1;
 pub const HALT_NOTED: u8 = 2;
 
 pub const TOOK_OVER: u8 = 4;
-
-#[derive(Clone, Copy)]
-pub enum Byte {
-    Is(u8),
-    Refused(u8),
-}
-
-fn flag(is: bool, bit: u8) -> u8
-    ensures { result ≡ cond is bit 0 }
-{
-    if is {
-        return bit;
-    }
-    0
-}
 
 // How many members a set has.
 fn members(set: u16) -> u8
@@ -58,31 +42,32 @@ fn page(i: usize, c: Column) -> [u8; PAGE_SIZE]
     ensures { result ≡ page i c }
 {
     let number = i as u8;
-    let flags = flag(c.running, RUNNING) | flag(c.whole, WHOLE);
+    let flags = u8::from(c.running) | u8::from(c.whole) << GOAL_DIGIT;
     let send = members(c.send);
     let awaited = members(c.awaited);
     let owed = members(c.owed);
     [number, flags, send, awaited, owed, c.mask, c.pending, 0]
 }
 
-// Of a read of column i's page: 2 to 4, 22 for an offset above 7.
-pub fn read_refusal(t: Tree, i: usize, c: Column, offset: usize) -> u8
-    ensures { result ≡ read_refusal t i c offset }
+// Of a read of column i's page: 2 to 4, 22 for an offset above 7. This test and that of a write are alike in form: each asks of the offset what no parameter says.
+#[tactic(auto, unfolding(crate::specs::Pages::read_refusal))]
+pub fn check_read(t: Tree, i: usize, c: Column, offset: usize) -> Result<(), Refusal>
+    ensures { refusal_of result ≡ read_refusal t i c offset }
 {
-    refuse_if(validity_refusal(t, i, c), PAGE_SIZE <= offset, 22)
+    check_validity(t, i, c)?;
+    if PAGE_SIZE <= offset {
+        return Err(Refusal::NoOffset);
+    }
+    Ok(())
 }
 
 // The byte at an offset of column i's page, a halted one's too; or 2 to 4, 22.
-pub fn read(t: Tree, i: usize, c: Column, offset: usize) -> Byte
-    ensures { byte_meant result ≡ read_byte t i c offset }
+pub fn read(t: Tree, i: usize, c: Column, offset: usize) -> Result<u8, Refusal>
+    ensures { meant result ≡ read_byte t i c offset }
 {
-    let n = read_refusal(t, i, c, offset);
-    if n != 0 {
-        return Byte::Refused(n);
-    }
+    check_read(t, i, c, offset)?;
     let bytes = page(i, c);
-    let byte = bytes[offset];
-    Byte::Is(byte)
+    Ok(bytes[offset])
 }
 
 // Whether a byte can be written at this offset.
@@ -107,21 +92,23 @@ pub fn written(mut c: Column, offset: usize, value: u8) -> Column
 }
 
 // Of a write to column i's page: 2 to 4, 22 for any offset but 5 and 7.
-pub fn write_refusal(t: Tree, i: usize, c: Column, offset: usize) -> u8
-    ensures { result ≡ write_refusal t i c offset }
+#[tactic(auto, unfolding(crate::specs::Pages::write_refusal))]
+pub fn check_write(t: Tree, i: usize, c: Column, offset: usize) -> Result<(), Refusal>
+    ensures { refusal_of result ≡ write_refusal t i c offset }
 {
-    refuse_if(validity_refusal(t, i, c), !writable(offset), 22)
+    check_validity(t, i, c)?;
+    if !writable(offset) {
+        return Err(Refusal::NoOffset);
+    }
+    Ok(())
 }
 
 // Column i after a byte is written to its page, a halted one too; or 2 to 4, 22.
-pub fn write(t: Tree, i: usize, c: Column, offset: usize, value: u8) -> Outcome
-    ensures { outcome_meant result ≡ write t i c offset value }
+pub fn write(t: Tree, i: usize, c: Column, offset: usize, value: u8) -> Result<Outcome, Refusal>
+    ensures { outcome_meant c result ≡ write t i c offset value }
 {
-    let n = write_refusal(t, i, c, offset);
-    if n != 0 {
-        return refused(c, n);
-    }
-    done(written(c, offset, value))
+    check_write(t, i, c, offset)?;
+    Ok(Outcome::done(written(c, offset, value)))
 }
 
 // Whether the line is up: something that the mask has is pending.

@@ -6,7 +6,8 @@ ghost use Rattle.column.specs.Returns.{rejoined, struck};
 use crate::sets::without;
 use crate::state::Column;
 
-// Column `own` as it comes back: with the record of c, which `sender` sent it, the set of columns that remain halted, and its goal.
+// Column `own` as it comes back: with the record of c, which `sender` sent it, the set of columns that remain halted, and its goal. Each field is named, since they
+// come from two columns.
 pub fn rejoin(own: Column, c: Column, noted: u16, whole: bool, sender: usize) -> Column
     ensures { result ≡ rejoined own c noted whole sender }
 {

@@ -1,4 +1,5 @@
-// Sets of columns as masks, made and changed: each asks for columns below 16.
+// Sets of columns as masks, made and changed: each asks for columns below 16. A type for such a number would be no plainer here and in what calls this: the number
+// is a shift, a place and a byte by turns, and would be taken out of it each time.
 ghost use Rattle.std.specs.Prelude.{◌≡◌, ◌<◌, ◌≤◌};
 ghost use Rattle.column.specs.Sets.{single, insert, without, whole};
 

@@ -1,15 +1,16 @@
 // What a column holds, and the test of a handed-in state.
 ghost use Rattle.std.specs.Prelude.{◌≡◌};
-ghost use Rattle.column.specs.Columns.{fresh_under, fresh_meant, fresh_given, state_refusal, validity_refusal};
+ghost use Rattle.column.specs.Refusals.{refusal_of, meant};
+ghost use Rattle.column.specs.Columns.{fresh_under, fresh_given, state_refusal, validity_refusal};
 
+use crate::error::Refusal;
 use crate::members::{has, within};
 use crate::packet::Number;
-use crate::precedence::earlier;
-use crate::topology::{column_refusal, tree_refusal};
+use crate::topology::{check_column, check_tree};
 use crate::tree::Tree;
 
 // Widest fields first, so that a column is 32 bytes.
-#[derive(Clone, Copy)]
+#[derive(Clone, Copy, PartialEq, Eq)]
 pub struct Column {
     pub doors: u64,
     // Who sent its record.
@@ -28,13 +29,7 @@ pub struct Column {
     pub pending: u8,
 }
 
-#[derive(Clone, Copy)]
-pub enum FreshColumn {
-    Is(Column),
-    Refused(u8),
-}
-
-// Column i as it begins in a bank with that root, for a caller that has tested the tree.
+// Column i as it begins in a bank with that root, for a caller that has tested the tree. Each field has its own value, as the definition lists them.
 pub fn fresh_under(root: usize, i: usize) -> Column
     ensures { result ≡ fresh_under root i }
 {
@@ -53,46 +48,44 @@ pub fn fresh_under(root: usize, i: usize) -> Column
     }
 }
 
-// Column i as it begins; or 2, 3, 4.
-pub fn fresh(t: Tree, i: usize) -> FreshColumn
-    ensures { fresh_meant result ≡ fresh_given t i }
+// Column i as it begins; or 2, 3, 4. A test and an answer, as others are in `topology`.
+pub fn fresh(t: Tree, i: usize) -> Result<Column, Refusal>
+    ensures { meant result ≡ fresh_given t i }
 {
-    let n = column_refusal(t, i);
-    if n != 0 {
-        return FreshColumn::Refused(n);
-    }
-    FreshColumn::Is(fresh_under(t.root, i))
+    check_column(t, i)?;
+    Ok(fresh_under(t.root, i))
 }
 
-// 4 where row 4 refuses the state of column i, else 0. The tree is not tested.
-pub fn state_refusal(t: Tree, i: usize, c: Column) -> u8
-    ensures { result ≡ state_refusal t i c }
+// 4 where row 4 refuses the state of column i. The tree is not tested.
+pub fn check_state(t: Tree, i: usize, c: Column) -> Result<(), Refusal>
+    ensures { refusal_of result ≡ state_refusal t i c }
 {
     let members = c.send | c.awaited | c.owed | c.noted;
     let n = t.columns;
     let root = t.root;
     let sender = c.sender;
     if n <= i {
-        return 4;
+        return Err(Refusal::OutOfBank);
     }
     if !within(members, n) {
-        return 4;
+        return Err(Refusal::OutOfBank);
     }
     if has(c.owed, i) {
-        return 4;
+        return Err(Refusal::OutOfBank);
     }
     if (i == root) & !c.whole {
-        return 4;
+        return Err(Refusal::OutOfBank);
     }
     if n <= sender {
-        return 4;
+        return Err(Refusal::OutOfBank);
     }
-    0
+    Ok(())
 }
 
-// What every step tests first: 2 or 3 of the tree, then 4 of the state, else 0.
-pub fn validity_refusal(t: Tree, i: usize, c: Column) -> u8
-    ensures { result ≡ validity_refusal t i c }
+// What every step tests first: 2 or 3 of the tree, then 4 of the state.
+pub fn check_validity(t: Tree, i: usize, c: Column) -> Result<(), Refusal>
+    ensures { refusal_of result ≡ validity_refusal t i c }
 {
-    earlier(tree_refusal(t), state_refusal(t, i, c))
+    check_tree(t)?;
+    check_state(t, i, c)
 }

@@ -1,4 +1,5 @@
-// Parents, children and subtrees in a handed-in tree. What is asked of the tree here has been checked by the caller.
+// Parents, children and subtrees in a handed-in tree. What is asked of the tree here has been checked by the caller; a type that holds it would be a copy of the
+// tree, which is handed in by value. A tree has arrays of sixteen places and no heap, so that what goes over them is told how many count.
 ghost use Rattle.std.specs.Prelude.{◌≡◌, true, ◌≤◌, ◌<◌};
 ghost use Rattle.column.specs.Sets.{selected};
 ghost use Rattle.column.specs.Trees.{tree_of, every, climbs_in, children, subtree_in, subtrees_in};
@@ -10,14 +11,14 @@ use crate::tree::Tree;
 
 // What must hold of the two lists of a tree before any climb: every parent is below n, and the first n places of the sequence have each
 // column below n. One pass goes over both.
+#[tactic(auto, unfolding(crate::specs::Trees::every))]
 pub fn lists_hold<'a>(up: &'a [u8; 16], first: &'a [u8; 16], n: usize) -> bool
     requires { n ≤ 16 }
     ensures { Passes result n up.now first.now }
 {
     let bound = n as u8;
     let mut listed: u16 = 0;
-    let mut j: usize = 0;
-    while j < n {
+    for j in 0..n {
         if bound <= up[j] {
             return false;
         }
@@ -26,13 +27,13 @@ pub fn lists_hold<'a>(up: &'a [u8; 16], first: &'a [u8; 16], n: usize) -> bool
             return false;
         }
         listed = insert(listed, c as usize);
-        j += 1;
     }
     listed == whole(n)
 }
 
 // Whether the lists of a tree are plainly good: the root is 0, every parent is below n and lower than its child, and the sequence ascends. Most
 // trees are, and need no climb. It goes over all n places, with no early return, so that sixteen of them are compared at once.
+#[tactic(auto, unfolding(crate::specs::Trees::every))]
 pub fn rises<'a>(up: &'a [u8; 16], first: &'a [u8; 16], n: usize, root: usize) -> bool
     ensures { result ≡ plainly n root up.now first.now }
 {
@@ -48,12 +49,10 @@ pub fn rises<'a>(up: &'a [u8; 16], first: &'a [u8; 16], n: usize, root: usize) -
     let bound = n as u8;
     let mut plain = true;
     let mut most: u8 = 0;
-    let mut k: u8 = 0;
-    while k < bound {
+    for k in 0..bound {
         let j = k as usize;
         plain = plain & ((up[j] < bound) & ((up[j] <= most) & (first[j] == k)));
         most = k;
-        k += 1;
     }
     plain
 }
@@ -68,8 +67,7 @@ pub fn climbs_in(up: &[u8; 16], n: usize, root: usize, c: usize) -> bool
         return true;
     }
     let mut at = c;
-    let mut budget = n;
-    while 0 < budget {
+    for gone in 0..n {
         if at == root {
             return true;
         }
@@ -77,37 +75,34 @@ pub fn climbs_in(up: &[u8; 16], n: usize, root: usize, c: usize) -> bool
         if at < c {
             return true;
         }
-        budget -= 1;
     }
     false
 }
 
 // Whether the climb from every column ends at the root.
+#[tactic(auto, unfolding(crate::specs::Trees::every))]
 pub fn climbs_end(up: &[u8; 16], n: usize, root: usize) -> bool
     requires { (n ≤ 16) × ParentsBelow n up.now }
     ensures { result ≡ every (climbs_in (tree_of n root up.now) n) n }
 {
-    let mut j: usize = 0;
-    while j < n {
+    for j in 0..n {
         if !climbs_in(up, n, root, j) {
             return false;
         }
-        j += 1;
     }
     true
 }
 
 // Those of all sixteen places that have c as their parent; no more is asked of a place.
+#[tactic(auto, unfolding(crate::specs::Sets::selected))]
 fn named(up: &[u8; 16], c: u8) -> u16
     ensures { result ≡ selected (names up.now c) 16 }
 {
     let mut set: u16 = 0;
-    let mut j: usize = 0;
-    while j < 16 {
+    for j in 0..16 {
         if up[j] == c {
             set = insert(set, j);
         }
-        j += 1;
     }
     set
 }

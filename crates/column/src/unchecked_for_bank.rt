@@ -6,80 +6,60 @@ ghost use Rattle.column.specs.Steps.{outcome_meant};
 ghost use Rattle.column.specs.Unchecked.{order_unchecked, send_unchecked, take_unchecked, ack_unchecked, all_unchecked, note_unchecked};
 
 use crate::effect::{
-    ack_effect, all_effect, bounded, note_effect, order_effect, send_effect, take_effect,
+    ack_effect, all_effect, check_bounds, note_effect, order_effect, send_effect, take_effect,
 };
-use crate::outcome::{Outcome, refused};
+use crate::error::Refusal;
+use crate::outcome::Outcome;
 use crate::packet::Packet;
-use crate::precedence::refuse_if;
-use crate::refusal::{
-    ack_conditions, all_conditions, note_conditions, order_conditions, send_conditions,
-    take_conditions,
-};
+use crate::refusal::{check_ack, check_all, check_note_alone, check_order, check_send, check_take};
 use crate::state::Column;
 use crate::tree::Tree;
 
 // The root with the next number, these doors, and its children to send to.
-pub fn order(t: Tree, i: usize, c: Column, doors: u64) -> Outcome
-    ensures { outcome_meant result ≡ order_unchecked t i c doors }
+pub fn order(t: Tree, i: usize, c: Column, doors: u64) -> Result<Outcome, Refusal>
+    ensures { outcome_meant c result ≡ order_unchecked t i c doors }
 {
-    let n = refuse_if(order_conditions(0, t, i, c), !bounded(t, i, i), 4);
-    if n != 0 {
-        return refused(c, n);
-    }
-    order_effect(t, i, c, doors)
+    check_order(t, i, c)?;
+    check_bounds(t, i, i)?;
+    Ok(order_effect(t, i, c, doors))
 }
 
 // Column i with the earliest served of those to send to, and the message for it, if there is one to put.
-pub fn send(t: Tree, i: usize, c: Column) -> Outcome
-    ensures { outcome_meant result ≡ send_unchecked t i c }
+pub fn send(t: Tree, i: usize, c: Column) -> Result<Outcome, Refusal>
+    ensures { outcome_meant c result ≡ send_unchecked t i c }
 {
-    let n = send_conditions(0, t, i, c);
-    if n != 0 {
-        return refused(c, n);
-    }
+    check_send(t, i, c)?;
     send_effect(t, i, c)
 }
 
 // Column i after a packet, what it answers at once, and whether the packet is left for another take.
-pub fn take(t: Tree, i: usize, c: Column, p: Packet) -> Outcome
-    ensures { outcome_meant result ≡ take_unchecked t i c p }
+pub fn take(t: Tree, i: usize, c: Column, p: Packet) -> Result<Outcome, Refusal>
+    ensures { outcome_meant c result ≡ take_unchecked t i c p }
 {
-    let n = take_conditions(0, t, i, c, p);
-    if n != 0 {
-        return refused(c, n);
-    }
+    check_take(t, i, c, p)?;
     take_effect(t, i, c, p)
 }
 
 // Column i with the lowest owed struck out, and the acknowledgement for that one.
-pub fn ack(t: Tree, i: usize, c: Column) -> Outcome
-    ensures { outcome_meant result ≡ ack_unchecked t i c }
+pub fn ack(t: Tree, i: usize, c: Column) -> Result<Outcome, Refusal>
+    ensures { outcome_meant c result ≡ ack_unchecked t i c }
 {
-    let n = ack_conditions(0, t, i, c);
-    if n != 0 {
-        return refused(c, n);
-    }
+    check_ack(t, i, c)?;
     ack_effect(t, i, c)
 }
 
 // Column i with the whole bank as its goal, and the root alone to send to.
-pub fn all(t: Tree, i: usize, c: Column) -> Outcome
-    ensures { outcome_meant result ≡ all_unchecked t i c }
+pub fn all(t: Tree, i: usize, c: Column) -> Result<Outcome, Refusal>
+    ensures { outcome_meant c result ≡ all_unchecked t i c }
 {
-    let n = all_conditions(0, t, i, c);
-    if n != 0 {
-        return refused(c, n);
-    }
+    check_all(t, i, c)?;
     all_effect(t, i, c)
 }
 
 // Column i with j noted; where j was awaited, its children are to be sent to instead.
-pub fn note(t: Tree, i: usize, c: Column, j: usize) -> Outcome
-    ensures { outcome_meant result ≡ note_unchecked t i c j }
+pub fn note(t: Tree, i: usize, c: Column, j: usize) -> Result<Outcome, Refusal>
+    ensures { outcome_meant c result ≡ note_unchecked t i c j }
 {
-    let n = note_conditions(0, t, i, c, j);
-    if n != 0 {
-        return refused(c, n);
-    }
+    check_note_alone(t, i, c, j)?;
     note_effect(t, i, c, j)
 }

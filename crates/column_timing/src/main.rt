@@ -14,11 +14,10 @@ fn main(rt: HostRuntime) -> io::Result<()> {
     let _ = read_full(&mut rt.stdin(), &mut input);
     let letter = input[0];
     let laps = number(&input[2..]);
-    // A space, and so 0: what is in the input no compiler knows.
-    let read = input[1] % 8;
+    // A letter that is read chooses one of two programs, which take other parameters.
     let sum = match letter {
         b'f' => frame_laps::run(laps),
-        _ => column_laps::run(letter, read, laps),
+        _ => column_laps::run(letter, input[1], laps),
     };
     println!(rt; "{sum}")
 }

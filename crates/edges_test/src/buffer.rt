@@ -1,36 +1,48 @@
 // A lent buffer after a call.
-use crate::print::{print, print_number, print_text};
-use std::io;
+use crate::print::{Barred, Refused};
+use column::error::Refusal;
+use std::fmt;
 
 // What the buffer holds before a call; no text that is written has this byte.
 pub const FILLED: u8 = 170;
+
+// The buffer, where the call was to write into it, and how many bytes it wrote there or by what it was refused.
+#[derive(Drop)]
+pub struct Lent<'a> {
+    pub buffer: &'a [u8],
+    pub at: usize,
+    pub written: Result<usize, Refusal>,
+}
 
 // How many bytes are not as they were filled.
 fn changed(bytes: &[u8]) -> usize {
     bytes.iter().filter(|b| **b != FILLED).count()
 }
 
-// The text that was written from `at` on, and how much else was.
-pub fn print_written(out: io::Stdout, buffer: &[u8], at: usize, n: usize) -> io::Result<()> {
-    if buffer.len() < at {
-        return Ok(());
+// The text that was written, and how much else was; or the refusal, and how much was written.
+impl fmt::Display for Lent<'_> {
+    fn fmt<W: fmt::Write>(&self, f: &mut fmt::Formatter<W>) -> fmt::Result {
+        let length = match self.written {
+            Ok(length) => length,
+            Err(refusal) => {
+                let all = changed(self.buffer);
+                return write!(f, "{}, changed {all}", Refused(refusal));
+            }
+        };
+        let Some((before, rest)) = self.buffer.split_at_checked(self.at) else {
+            return Ok(());
+        };
+        let Some((text, after)) = rest.split_at_checked(length) else {
+            return Ok(());
+        };
+        let (before, after) = (changed(before), changed(after));
+        write!(
+            f,
+            "length {length}, changed before {before} and after {after}"
+        )?;
+        if text.is_empty() {
+            return Ok(());
+        }
+        write!(f, ", {}", Barred(text))
     }
-    if buffer.len() - at < n {
-        return Ok(());
-    }
-    let end = at + n;
-    print_number(out, b"length ", n as u64)?;
-    print_number(out, b", changed before ", changed(&buffer[0..at]) as u64)?;
-    print_number(out, b" and after ", changed(&buffer[end..]) as u64)?;
-    if 0 < n {
-        print(out, b", ")?;
-        print_text(out, &buffer[at..end])?;
-    }
-    Ok(())
-}
-
-// The number by which a call was refused, and how much it wrote.
-pub fn print_refused(out: io::Stdout, number: u8, buffer: &[u8]) -> io::Result<()> {
-    print_number(out, b"refused ", number as u64)?;
-    print_number(out, b", changed ", changed(buffer) as u64)
 }

@@ -1,10 +1,10 @@
 // Lines on a fresh bank of three columns: "`take=512` is 10, `take=1000` is 13"; "The limit numeral has up to four digits, no leading zero".
-use crate::print::{print, print_answer, print_number};
-use bank::bank::{Answer, Step, fresh};
+use crate::print::Refused;
+use bank::bank::{Network, Step, fresh};
 use bank::step::perform;
-use column::packet::CAPACITY;
+use column::error::Refusal;
 use column::tree::{ASCENDING, Tree};
-use script::line::{Parsed, parse};
+use script::line::{Command, parse};
 use std::io;
 
 const TREE: Tree = Tree {
@@ -15,49 +15,59 @@ const TREE: Tree = Tree {
     watch: false,
 };
 
-fn performed(x: Step) -> Answer {
-    let mut heads = [0u64; CAPACITY];
-    let mut doors = [0u64; CAPACITY];
-    let begun = fresh(TREE);
-    let r = perform(begun.bank, x, &mut heads, &mut doors);
-    r.answer
+fn performed(step: Step) -> Result<(), Refusal> {
+    let mut network = Network::EMPTY;
+    let begun = fresh(TREE)?;
+    perform(begun, step, &mut network)?;
+    Ok(())
 }
 
-fn line(out: io::Stdout, text: &[u8]) -> io::Result<()> {
-    print(out, b"line ")?;
-    print(out, text)?;
-    print(out, b": ")?;
-    match parse(text) {
-        Parsed::Perform(x) => print_answer(out, performed(x))?,
-        Parsed::List(_) => print(out, b"a list")?,
-        Parsed::Dispatch(limit) => print_number(out, b"a run of at most ", limit as u64)?,
-        Parsed::Unread => print_answer(out, Answer::Refused(13))?,
+fn line(out: io::Stdout, text: &str) -> io::Result<()> {
+    print!(out; "line {text}: ")?;
+    match parse(text.as_bytes()) {
+        Some(Command::Perform(step)) => match performed(step) {
+            Ok(()) => println!(out; "ok"),
+            Err(refusal) => println!(out; "{}", Refused(refusal)),
+        },
+        Some(Command::List(_)) => println!(out; "a list"),
+        Some(Command::Dispatch(limit)) => println!(out; "a run of at most {limit}"),
+        None => println!(out; "{}", Refused(Refusal::MalformedLine)),
     }
-    print(out, b"\n")
 }
 
 pub fn cases(out: io::Stdout) -> io::Result<()> {
-    line(out, b"take=0")?;
-    line(out, b"take=9")?;
-    line(out, b"take=10")?;
-    line(out, b"take=99")?;
-    line(out, b"take=100")?;
-    line(out, b"take=511")?;
-    line(out, b"take=512")?;
-    line(out, b"take=513")?;
-    line(out, b"take=999")?;
-    line(out, b"take=1000")?;
-    line(out, b"take=0999")?;
-    line(out, b"take=00")?;
-    line(out, b"take=")?;
-    line(out, b"take=5a")?;
-    line(out, b"send=99")?;
-    line(out, b"send=100")?;
-    line(out, b"run=0")?;
-    line(out, b"run=9999")?;
-    line(out, b"run=10000")?;
-    line(out, b"run=01")?;
-    line(out, b"run=")?;
-    line(out, b"jump=1")?;
-    line(out, b"")
+    let takes = [
+        "take=0",
+        "take=9",
+        "take=10",
+        "take=99",
+        "take=100",
+        "take=511",
+        "take=512",
+        "take=513",
+        "take=999",
+        "take=1000",
+        "take=0999",
+        "take=00",
+        "take=",
+        "take=5a",
+    ];
+    let others = [
+        "send=99",
+        "send=100",
+        "run=0",
+        "run=9999",
+        "run=10000",
+        "run=01",
+        "run=",
+        "jump=1",
+        "",
+    ];
+    for text in takes {
+        line(out, text)?;
+    }
+    for text in others {
+        line(out, text)?;
+    }
+    Ok(())
 }

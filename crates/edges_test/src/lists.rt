@@ -1,10 +1,9 @@
 // Closing lists: 229 bytes hold the longest list and 228 don't, as document 01 says it of 224 and 223, and document 02, Point 10, "the longest list is 229".
-use crate::buffer::{FILLED, print_refused, print_written};
-use crate::print::{print, print_number};
-use bank::bank::{Bank, fresh};
-use column::packet::CAPACITY;
+use crate::buffer::{FILLED, Lent};
+use crate::print::Refused;
+use bank::bank::{Bank, Network, fresh};
+use column::packet::HIGHEST;
 use column::tree::{ASCENDING, Tree};
-use list::list::Listing;
 use script::bank_list::list;
 use std::io;
 
@@ -22,93 +21,92 @@ const TREE: Tree = Tree {
 };
 
 // The lister's list is the longest.
-fn bank(running: bool, whole: bool) -> Bank {
-    let begun = fresh(TREE);
-    let mut b = begun.bank;
-    let mut c = b.columns[LISTER];
-    c.running = running;
-    c.number = 4294967295;
-    c.doors = 18446744073709551615;
-    b.columns[LISTER] = c;
-    let mut root = b.columns[0];
-    root.whole = whole;
-    b.columns[0] = root;
+fn bank(mut b: Bank, running: bool, whole: bool) -> Bank {
+    b.columns[LISTER].running = running;
+    b.columns[LISTER].number = HIGHEST;
+    b.columns[LISTER].doors = u64::MAX;
+    b.columns[0].whole = whole;
     b
 }
 
-// No packet is under way.
-fn answer(b: Bank, i: usize, buffer: &mut [u8], at: usize) -> Listing {
-    let heads = [0u64; CAPACITY];
-    let doors = [0u64; CAPACITY];
-    list(b, i, &heads, &doors, buffer, at)
-}
-
-// The list is lent the first `size` bytes of the buffer.
-fn listed(
-    out: io::Stdout,
-    b: Bank,
+// A list of column i, which is lent the first `size` bytes of a buffer and is to begin at a place.
+#[derive(Clone, Copy)]
+struct Listing<'a> {
+    name: &'a str,
+    bank: Bank,
     i: usize,
-    buffer: &mut [u8],
     size: usize,
     at: usize,
-) -> io::Result<()> {
-    if buffer.len() < size {
-        return Ok(());
-    }
-    match answer(b, i, &mut buffer[0..size], at) {
-        Listing::Length(n) => print_written(out, buffer, at, n)?,
-        Listing::Refused(n) => print_refused(out, n, buffer)?,
-    }
-    Ok(())
 }
 
-fn case(out: io::Stdout, name: &[u8], b: Bank, i: usize, size: usize, at: usize) -> io::Result<()> {
-    let mut buffer = [FILLED; ROOM];
-    print(out, name)?;
-    print_number(out, b"list of column ", i as u64)?;
-    print_number(out, b" of 16, ", size as u64)?;
-    print_number(out, b" bytes, place ", at as u64)?;
-    print(out, b": ")?;
-    listed(out, b, i, &mut buffer, size, at)?;
-    print(out, b"\n")
+impl Listing<'_> {
+    fn show(&self, out: io::Stdout) -> io::Result<()> {
+        let mut buffer = [FILLED; ROOM];
+        let at = self.at;
+        print!(out; "{}list of column {} of 16, ", self.name, self.i)?;
+        print!(out; "{} bytes, place {at}: ", self.size)?;
+        if let Some(lent) = buffer.get_mut(..self.size) {
+            let written = list(self.bank, self.i, &Network::EMPTY, lent, at);
+            let buffer = &buffer;
+            print!(out;
+                "{}",
+                Lent {
+                    buffer,
+                    at,
+                    written
+                }
+            )?;
+        }
+        println!(out)
+    }
 }
 
 // The four lines as they are, in a buffer of just their bytes.
 fn longest(out: io::Stdout, b: Bank) -> io::Result<()> {
     let mut buffer = [FILLED; 229];
-    if let Listing::Length(n) = answer(b, LISTER, &mut buffer, 0) {
-        print_number(out, b"the longest list, ", n as u64)?;
-        print(out, b" bytes:\n")?;
-        print(out, &buffer)?;
+    if let Ok(n) = list(b, LISTER, &Network::EMPTY, &mut buffer, 0) {
+        println!(out; "the longest list, {n} bytes:")?;
+        out.write_all(&buffer)?;
     }
     Ok(())
 }
 
+fn of_bank(out: io::Stdout, begun: Bank) -> io::Result<()> {
+    let running = Listing {
+        name: "",
+        bank: bank(begun, true, true),
+        i: LISTER,
+        size: ROOM,
+        at: 0,
+    };
+    let halted = Listing {
+        name: "halted, ",
+        bank: bank(begun, false, true),
+        ..running
+    };
+    let wrong = Listing {
+        name: "halted and a root whose goal is own, ",
+        bank: bank(begun, false, false),
+        ..running
+    };
+    longest(out, running.bank)?;
+    for size in [229, 228] {
+        Listing { size, ..running }.show(out)?;
+    }
+    for at in [3, 6, 7, ROOM, ROOM + 1, usize::MAX] {
+        Listing { at, ..running }.show(out)?;
+    }
+    for (i, size) in [(LISTER, 0), (9, ROOM), (16, ROOM), (16, 0)] {
+        Listing { i, size, ..running }.show(out)?;
+    }
+    halted.show(out)?;
+    Listing { size: 0, ..halted }.show(out)?;
+    Listing { size: 0, ..wrong }.show(out)
+}
+
 pub fn cases(out: io::Stdout) -> io::Result<()> {
-    let running = bank(true, true);
-    let halted = bank(false, true);
-    let wrong = bank(false, false);
-    longest(out, running)?;
-    case(out, b"", running, LISTER, 229, 0)?;
-    case(out, b"", running, LISTER, 228, 0)?;
-    case(out, b"", running, LISTER, ROOM, 3)?;
-    case(out, b"", running, LISTER, ROOM, 6)?;
-    case(out, b"", running, LISTER, ROOM, 7)?;
-    case(out, b"", running, LISTER, ROOM, ROOM)?;
-    case(out, b"", running, LISTER, ROOM, ROOM + 1)?;
-    case(out, b"", running, LISTER, ROOM, 18446744073709551615)?;
-    case(out, b"", running, LISTER, 0, 0)?;
-    case(out, b"", running, 9, ROOM, 0)?;
-    case(out, b"", running, 16, ROOM, 0)?;
-    case(out, b"", running, 16, 0, 0)?;
-    case(out, b"halted, ", halted, LISTER, ROOM, 0)?;
-    case(out, b"halted, ", halted, LISTER, 0, 0)?;
-    case(
-        out,
-        b"halted and a root whose goal is own, ",
-        wrong,
-        LISTER,
-        0,
-        0,
-    )
+    match fresh(TREE) {
+        Ok(begun) => of_bank(out, begun),
+        Err(refusal) => println!(out; "{}", Refused(refusal)),
+    }
 }

@@ -1,32 +1,27 @@
 // The parts of a line.
-use bank::bank::Answer;
-use std::io;
-
-pub fn print(out: io::Stdout, text: &[u8]) -> io::Result<()> {
-    out.write_all(text)
-}
-
-pub fn print_number(out: io::Stdout, key: &[u8], n: u64) -> io::Result<()> {
-    print(out, key)?;
-    print!(out; "{n}")
-}
-
-pub fn print_answer(out: io::Stdout, a: Answer) -> io::Result<()> {
-    match a {
-        Answer::Done => print(out, b"ok")?,
-        Answer::Refused(n) => print_number(out, b"refused ", n as u64)?,
-    }
-    Ok(())
-}
+use column::error::Refusal;
+use std::fmt;
 
 // A text of several lines as one, a bar for each line's end.
-pub fn print_text(out: io::Stdout, text: &[u8]) -> io::Result<()> {
-    for i in 0..text.len() {
-        if text[i] == 10 {
-            print(out, b"|")?;
-        } else {
-            print(out, &text[i..i + 1])?;
+#[derive(Drop)]
+pub struct Barred<'a>(pub &'a [u8]);
+
+impl fmt::Display for Barred<'_> {
+    fn fmt<W: fmt::Write>(&self, f: &mut fmt::Formatter<W>) -> fmt::Result {
+        for byte in self.0 {
+            let shown = if *byte == b'\n' { b'|' } else { *byte };
+            write!(f, "{}", char::from(shown))?;
         }
+        Ok(())
     }
-    Ok(())
+}
+
+// By what a call is refused.
+#[derive(Drop)]
+pub struct Refused(pub Refusal);
+
+impl fmt::Display for Refused {
+    fn fmt<W: fmt::Write>(&self, f: &mut fmt::Formatter<W>) -> fmt::Result {
+        write!(f, "refused {}", self.0.number())
+    }
 }

@@ -1,10 +1,9 @@
 -- The strategy of the report's section 4, and the tree that it makes, after document 02, Point 8.
 use Rattle.std.specs.Prelude.{ℕ, zero, suc, ◌+◌, ◌-◌, Bool, cond, List, [], ◌∷◌, eqb, ltb, get_or, set, replicate}
-use Rattle.column.specs.Refusals.{first}
+use Rattle.column.specs.Refusals.{first, Given, given_unless}
 use Rattle.column.specs.Trees.{tree_of}
 use Rattle.column.specs.declared.tree.Tree.{Tree}
 use Rattle.fastest.specs.declared.growth.Growth.{Growth}
-use Rattle.fastest.specs.declared.strategy.Plan.{Plan}
 
 -- ---- which column sends next, and when
 
@@ -67,14 +66,6 @@ fastest_refusal columns delay gap = first (fastest_conditions columns delay gap)
 
 -- ---- what is answered
 
--- beside a refusal there is no tree
-abbrev pub no_tree : Tree
-no_tree = tree_of 0 0 (replicate 16 0)
-
-abbrev pub planned : ℕ → Tree → Plan
-planned refusal t = record { refusal = refusal; tree = t }
-
-unfoldable pub fastest_plan : ℕ → ℕ → ℕ → Plan
-fastest_plan columns delay gap =
-    let n = fastest_refusal columns delay gap in
-    planned n (cond (eqb n 0) (fastest_tree columns delay gap) no_tree)
+-- the tree, or by which number it is refused
+abbrev pub fastest_given : ℕ → ℕ → ℕ → Given Tree
+fastest_given columns delay gap = given_unless (fastest_refusal columns delay gap) (fastest_tree columns delay gap)

@@ -2,4 +2,5 @@
 #![tactic(auto)]
 
 mod growth;
+pub mod request;
 pub mod strategy;

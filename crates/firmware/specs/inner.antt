@@ -1,2 +1,3 @@
-pub mod StepCalls
+pub mod BlockReads
 pub mod JournalTexts
+pub mod StepCalls

@@ -1,19 +1,19 @@
-// What a call answers: a number below 1000, or 1000 and the number of a refusal.
-ghost use Rattle.std.specs.Prelude.{◌+◌, ◌≡◌};
-ghost use Rattle.firmware.specs.Calls.{refused_by};
+// What a call answers in C, which has no `Result`: a refusal is a number there.
+ghost use Rattle.std.specs.Prelude.{◌≡◌};
+ghost use Rattle.column.specs.Refusals.{meant};
+ghost use Rattle.firmware.specs.Calls.{answer_of};
 
+use column::error::Refusal;
+
+// From here on an answer is a refusal.
 const REFUSED: usize = 1000;
 
-// The number of a block of another size or layout.
-pub const OTHER_BLOCK: u8 = 24;
-
-// The number of what does not fit from its place.
-pub const NO_ROOM: u8 = 11;
-
-// A refusal as a call answers it.
-pub fn refusal(n: u8) -> usize
-    ensures { result ≡ refused_by + n }
+// The number that was found, which is below 1000; or 1000 and the number of the refusal.
+pub fn answer(found: Result<usize, Refusal>) -> usize
+    ensures { result ≡ answer_of (meant found) }
 {
-    let number = n as usize;
-    REFUSED + number
+    match found {
+        Ok(number) => number,
+        Err(refusal) => REFUSED + usize::from(refusal.number()),
+    }
 }

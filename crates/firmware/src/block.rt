@@ -1,11 +1,13 @@
-// Where each field of a tree and of a column is in its block, and both read and written.
-ghost use Rattle.std.specs.Prelude.{◌+◌, ◌-◌, ◌≤◌, ◌≡◌, length};
-ghost use Rattle.column.specs.Packets.{low_first, high_first, high_value, number_size};
+// Where each field of a tree and of a column is in its block, and both read and written, byte by byte: the layout is that of the header, and no conversion of the
+// library has it. A place in a block comes beside it, since a field is one of several.
+ghost use Rattle.std.specs.Prelude.{◌+◌, ◌<◌, ◌≤◌, ◌≡◌, true, false, length, take, drop, IfOk, IfErr};
+ghost use Rattle.column.specs.Refusals.{meant};
+ghost use Rattle.column.specs.declared.error.Refusal.TheVariants.{OtherBlock};
 ghost use Rattle.text.specs.Text.{written};
-ghost use Rattle.firmware.specs.Blocks.{bit, tree_size, is_tree, tree_in, tree_bytes, column_size, is_column, own_in, column_in, column_bytes, set_size, status_of, are_blocks};
+ghost use Rattle.firmware.specs.Blocks.{is_block, tree_size, is_tree, tree_in, tree_bytes, column_size, is_column, own_in, column_in, column_bytes, status_of};
+ghost use Rattle.firmware.specs.inner.BlockReads.{doors_given};
 
-use column::number_bytes::{high_value, low_value, put_high_first, put_low_first};
-use column::packet::Number;
+use column::error::Refusal;
 use column::state::Column;
 use column::tree::Tree;
 
@@ -53,106 +55,70 @@ pub const MASK: usize = 23;
 
 pub const PENDING: usize = 24;
 
-// Whether bytes are the block of a tree.
-pub fn is_tree(s: &[u8]) -> bool
-    ensures { result ≡ is_tree s.now }
+// Bytes as a block of this size and layout; or 24.
+fn block<const N: usize>(s: &[u8], layout: u8) -> Result<&[u8; N], Refusal>
+    requires { 0 < N }
+    ensures block { IfOk result (λ block. (is_block N layout s.now ≡ true) × (block.now ≡ s.now)) }
+    ensures other { IfErr result (λ refusal. (is_block N layout s.now ≡ false) × (refusal ≡ OtherBlock)) }
 {
-    if s.len() != TREE_SIZE {
-        return false;
+    let Ok(block) = <&[u8; N]>::try_from(s) else {
+        return Err(Refusal::OtherBlock);
+    };
+    if block[LAYOUT] != layout {
+        return Err(Refusal::OtherBlock);
     }
-    s[LAYOUT] == TREE_LAYOUT
+    Ok(block)
 }
 
-// Whether bytes are the block of a column.
-pub fn is_column(s: &[u8]) -> bool
-    ensures { result ≡ is_column s.now }
+// Bytes as the block of a tree; or 24.
+pub fn tree_block(s: &[u8]) -> Result<&[u8; TREE_SIZE], Refusal>
+    ensures block { IfOk result (λ block. (is_tree s.now ≡ true) × (block.now ≡ s.now)) }
+    ensures other { IfErr result (λ refusal. (is_tree s.now ≡ false) × (refusal ≡ OtherBlock)) }
 {
-    if s.len() != COLUMN_SIZE {
-        return false;
-    }
-    s[LAYOUT] == COLUMN_LAYOUT
+    block(s, TREE_LAYOUT)
 }
 
-// Whether bytes are the blocks of a tree and of a column.
-pub fn are_blocks(tree: &[u8], column: &[u8]) -> bool
-    ensures { result ≡ are_blocks tree.now column.now }
+// Bytes as the block of a column; or 24.
+pub fn column_block(s: &[u8]) -> Result<&[u8; COLUMN_SIZE], Refusal>
+    ensures block { IfOk result (λ block. (is_column s.now ≡ true) × (block.now ≡ s.now)) }
+    ensures other { IfErr result (λ refusal. (is_column s.now ≡ false) × (refusal ≡ OtherBlock)) }
 {
-    is_tree(tree) & is_column(column)
+    block(s, COLUMN_LAYOUT)
 }
 
-// Fills bytes with as many others.
-pub fn fill(out: &mut [u8], bytes: &[u8])
-    requires { length bytes.now ≡ length out.old }
-    ensures { out.new ≡ bytes.now }
-{
-    let mut i = 0;
-    while i < out.len() {
-        out[i] = bytes[i];
-        i += 1;
-    }
-}
-
-// Puts bytes from a place on.
+// Puts bytes from a place on. A loop, as in `text`: the library's copy would ask C for `memmove`.
 pub fn put_bytes(out: &mut [u8], at: usize, bytes: &[u8])
     requires { at + length bytes.now ≤ length out.old }
     ensures { out.new ≡ written out.old at bytes.now }
 {
-    let end = at + bytes.len();
-    fill(&mut out[at..end], bytes);
+    for (i, byte) in bytes.iter().enumerate() {
+        out[at + i] = *byte;
+    }
 }
 
-// Puts a number into the bytes from a place to another, the highest first.
-pub fn put_number(out: &mut [u8], at: usize, end: usize, number: u64)
-    requires { (at ≤ end) × (end ≤ length out.old) }
-    ensures { out.new ≡ written out.old at (high_first (end - at) number) }
+// The bytes of a field, from a place on.
+fn field<const N: usize>(block: &[u8], at: usize) -> [u8; N]
+    requires { at + N ≤ length block.now }
+    ensures { result ≡ take N (drop at block.now) }
 {
-    put_high_first(&mut out[at..end], number);
-}
-
-// Puts doors into the bytes from a place to another, byte 0 first.
-pub fn put_doors(out: &mut [u8], at: usize, end: usize, doors: u64)
-    requires { (at ≤ end) × (end ≤ length out.old) }
-    ensures { out.new ≡ written out.old at (low_first (end - at) doors) }
-{
-    put_low_first(&mut out[at..end], doors);
-}
-
-// Sixteen bytes.
-fn places(s: &[u8]) -> [u8; 16]
-    requires { length s.now ≡ 16 }
-    ensures { result ≡ s.now }
-{
-    let mut numbers = [0u8; 16];
-    fill(&mut numbers, s);
-    numbers
+    let end = at + N;
+    let mut bytes = [0u8; N];
+    bytes.copy_from_slice(&block[at..end]);
+    bytes
 }
 
 // The tree that a block means.
-pub fn tree_in(s: &[u8]) -> Tree
-    requires { length s.now ≡ tree_size }
-    ensures { result ≡ tree_in s.now }
+pub fn tree_in(block: &[u8; TREE_SIZE]) -> Tree
+    ensures { result ≡ tree_in block.now }
 {
-    let head = s[COLUMNS];
-    let columns = (head % WATCH) as usize;
-    let root = s[ROOT] as usize;
-    let up = places(&s[UP..FIRST]);
-    let first = places(&s[FIRST..TREE_SIZE]);
+    let head = block[COLUMNS];
     Tree {
-        columns,
-        root,
-        up,
-        first,
+        columns: usize::from(head % WATCH),
+        root: usize::from(block[ROOT]),
+        up: field(block, UP),
+        first: field(block, FIRST),
         watch: WATCH <= head,
     }
-}
-
-fn bit(b: bool) -> u8
-    ensures { (result ≡ bit b) × (result ≤ 1) }
-{
-    if b {
-        return 1;
-    }
-    0
 }
 
 // Fills a block with a tree.
@@ -161,76 +127,58 @@ pub fn put_tree(t: Tree, out: &mut [u8])
     ensures { out.new ≡ tree_bytes t }
 {
     let columns = (t.columns % 128) as u8;
-    let watch = bit(t.watch);
     let root = (t.root % 256) as u8;
     out[LAYOUT] = TREE_LAYOUT;
-    out[COLUMNS] = columns + watch * WATCH;
+    out[COLUMNS] = columns + u8::from(t.watch) * WATCH;
     out[ROOT] = root;
     put_bytes(out, UP, &t.up);
     put_bytes(out, FIRST, &t.first);
 }
 
-fn set_in(s: &[u8]) -> u16
-    requires { length s.now ≡ set_size }
-    ensures { result ≡ high_value s.now }
-{
-    let set = high_value(s) as u16;
-    set
-}
-
-fn number_in(s: &[u8]) -> Number
-    requires { length s.now ≡ number_size }
-    ensures { result ≡ high_value s.now }
-{
-    let number = high_value(s) as Number;
-    number
-}
-
 // Which column of its bank a block is.
-pub fn own_in(s: &[u8]) -> u8
-    requires { length s.now ≡ column_size }
-    ensures { result ≡ own_in s.now }
+pub fn own_in(block: &[u8; COLUMN_SIZE]) -> u8
+    ensures { result ≡ own_in block.now }
 {
-    s[OWN]
+    block[OWN]
 }
 
 // The column that a block means.
-pub fn column_in(s: &[u8]) -> Column
-    requires { length s.now ≡ column_size }
-    ensures { result ≡ column_in s.now }
+#[tactic(auto, using(crate::proofs::laws::ByteLaws::read_numbers))]
+pub fn column_in(block: &[u8; COLUMN_SIZE]) -> Column
+    ensures { result ≡ column_in block.now }
 {
-    let status = s[STATUS];
-    let sender = (status / 4) as usize;
-    let mask = s[MASK];
-    let pending = s[PENDING];
-    let doors = low_value(&s[DOORS..NUMBER]);
-    let number = number_in(&s[NUMBER..SEND]);
-    let send = set_in(&s[SEND..AWAITED]);
-    let awaited = set_in(&s[AWAITED..OWED]);
-    let owed = set_in(&s[OWED..NOTED]);
-    let noted = set_in(&s[NOTED..STATUS]);
+    let status = block[STATUS];
     Column {
-        doors,
-        number,
-        send,
-        awaited,
-        owed,
-        noted,
+        doors: u64::from_le_bytes(field(block, DOORS)),
+        number: u32::from_be_bytes(field(block, NUMBER)),
+        send: u16::from_be_bytes(field(block, SEND)),
+        awaited: u16::from_be_bytes(field(block, AWAITED)),
+        owed: u16::from_be_bytes(field(block, OWED)),
+        noted: u16::from_be_bytes(field(block, NOTED)),
         running: status % 2 == 1,
         whole: status / 2 % 2 == 1,
-        sender,
-        mask,
-        pending,
+        sender: usize::from(status / 4),
+        mask: block[MASK],
+        pending: block[PENDING],
+    }
+}
+
+// Doors, eight bytes; or 24.
+#[tactic(auto, using(crate::proofs::laws::ByteLaws::read_numbers))]
+pub fn doors_in(s: &[u8]) -> Result<u64, Refusal>
+    ensures { meant result ≡ doors_given s.now }
+{
+    match s.try_into() {
+        Ok(bytes) => Ok(u64::from_le_bytes(bytes)),
+        Err(_) => Err(Refusal::OtherBlock),
     }
 }
 
 fn status_of(c: Column) -> u8
     ensures { result ≡ status_of c }
 {
-    let running = bit(c.running);
-    let whole = bit(c.whole);
     let sender = (c.sender % 64) as u8;
-    running + (whole * 2 + sender * 4)
+    u8::from(c.running) + (u8::from(c.whole) * 2 + sender * 4)
 }
 
 // Fills a block with a column and its own number.
@@ -238,14 +186,14 @@ pub fn put_column(own: u8, c: Column, out: &mut [u8])
     requires { length out.old ≡ column_size }
     ensures { out.new ≡ column_bytes own c }
 {
-    let page = [status_of(c), c.mask, c.pending];
+    let status = status_of(c);
     out[LAYOUT] = COLUMN_LAYOUT;
     out[OWN] = own;
-    put_doors(out, DOORS, NUMBER, c.doors);
-    put_number(out, NUMBER, SEND, c.number as u64);
-    put_number(out, SEND, AWAITED, c.send as u64);
-    put_number(out, AWAITED, OWED, c.awaited as u64);
-    put_number(out, OWED, NOTED, c.owed as u64);
-    put_number(out, NOTED, STATUS, c.noted as u64);
-    put_bytes(out, STATUS, &page);
+    put_bytes(out, DOORS, &c.doors.to_le_bytes());
+    put_bytes(out, NUMBER, &c.number.to_be_bytes());
+    put_bytes(out, SEND, &c.send.to_be_bytes());
+    put_bytes(out, AWAITED, &c.awaited.to_be_bytes());
+    put_bytes(out, OWED, &c.owed.to_be_bytes());
+    put_bytes(out, NOTED, &c.noted.to_be_bytes());
+    put_bytes(out, STATUS, &[status, c.mask, c.pending]);
 }

@@ -1,8 +1,8 @@
-// The core of one column for firmware in C: functions over numbers and blocks of bytes alone. `include/mudasgup.h` has them by types.
+// The core of one column for firmware in C: functions over numbers and blocks of bytes alone. `crates/firmware_c` has them for C, and `include/mudasgup.h` by types.
 // A refused call leaves every byte that was lent to it.
 #![tactic(auto)]
 
-mod answer;
+pub mod answer;
 mod block;
 pub mod frames;
 pub mod journal;

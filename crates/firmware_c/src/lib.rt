@@ -1,4 +1,4 @@
-// What `crates/firmware` has for C: each function under its own name, with its contract. `include/mudasgup.h` has them by types.
+// What `crates/firmware` has for C: each call answers a number, what was found or 1000 and the number of a refusal. `include/mudasgup.h` has them by types.
 #![tactic(auto)]
 
 pub mod frames;

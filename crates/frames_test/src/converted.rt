@@ -1,16 +1,22 @@
 // What the converter answers: the packet's size or the refusal, and all fifteen bytes.
-use crate::print::{print_bytes, print_number};
-use column::codec::Size;
+use column::codec::MESSAGE_SIZE;
 use column::converter::convert;
 use std::io;
 
 pub fn show(out: io::Stdout, s: &[u8]) -> io::Result<()> {
-    let written = convert(s);
-    let size = written.size;
-    let bytes = written.bytes;
-    match size {
-        Size::Is(n) => print_number(out, b"converted=", n as u64)?,
-        Size::Refused(n) => print_number(out, b"unconverted=", n as u64)?,
+    let bytes = match convert(s) {
+        Ok(written) => {
+            print!(out; "converted={} ", written.size)?;
+            written.bytes
+        }
+        Err(refusal) => {
+            print!(out; "unconverted={} ", refusal.number())?;
+            [0; MESSAGE_SIZE]
+        }
+    };
+    // A loop, since a type with a `Display` would be longer and print these bytes alone.
+    for byte in bytes {
+        print!(out; "{byte:02x}")?;
     }
-    print_bytes(out, b" ", &bytes)
+    println!(out)
 }

@@ -1,90 +1,47 @@
-// The parts of a line.
-ghost use Rattle.std.specs.Prelude.{◌<◌};
+// The parts of a line. Each type prints other words: its impl is like the next in form alone.
+use column::error::Refusal;
+use column::frame::Frame;
+use column::packet::Packet;
+use std::fmt;
 
-use column::frame::{Count, Frame};
-use column::packet::{CAPACITY, Packet};
-use std::io;
-
-pub fn print(out: io::Stdout, text: &[u8]) -> io::Result<()> {
-    out.write_all(text)
-}
-
-pub fn print_number(out: io::Stdout, key: &[u8], n: u64) -> io::Result<()> {
-    print(out, key)?;
-    print!(out; "{n}")
-}
-
-pub fn print_bytes(out: io::Stdout, key: &[u8], bytes: &[u8]) -> io::Result<()> {
-    print(out, key)?;
-    for byte in bytes {
-        print!(out; "{byte:02x}")?;
-    }
-    print(out, b"\n")
-}
+// What a place without a packet has to hold. It is said here once more: a test of the library does not take its word for it.
+const ZEROS: Packet = Packet::Message {
+    from: 0,
+    to: 0,
+    number: 0,
+    doors: 0,
+};
 
 // Kind, from, to, number and, of a message, the doors as one number.
-pub fn print_packet(out: io::Stdout, key: &[u8], packet: Packet) -> io::Result<()> {
-    print(out, key)?;
-    match packet {
-        Packet::Message {
-            from,
-            to,
-            number,
-            doors,
-        } => {
-            print_number(out, b"3,", from as u64)?;
-            print_number(out, b",", to as u64)?;
-            print_number(out, b",", number as u64)?;
-            print_number(out, b",", doors)?;
-        }
-        Packet::Acknowledgement { from, to, number } => {
-            print_number(out, b"4,", from as u64)?;
-            print_number(out, b",", to as u64)?;
-            print_number(out, b",", number as u64)?;
+#[derive(Drop)]
+pub struct Shown(pub Packet);
+
+impl fmt::Display for Shown {
+    fn fmt<W: fmt::Write>(&self, f: &mut fmt::Formatter<W>) -> fmt::Result {
+        match self.0 {
+            Packet::Message {
+                from,
+                to,
+                number,
+                doors,
+            } => write!(f, "3,{from},{to},{number},{doors}"),
+            Packet::Acknowledgement { from, to, number } => write!(f, "4,{from},{to},{number}"),
         }
     }
-    Ok(())
 }
 
-// 0 for a place of zeros, otherwise 1.
-fn held(packet: Packet) -> u64
-    ensures { result < 2 }
-{
-    match packet {
-        Packet::Message {
-            from,
-            to,
-            number,
-            doors,
-        } => {
-            if doors != 0 {
-                return 1;
+// How many packets a frame has, or its refusal, and how many of the places hold a packet.
+#[derive(Drop)]
+pub struct Line<'a>(pub &'a Result<Frame, Refusal>);
+
+impl fmt::Display for Line<'_> {
+    fn fmt<W: fmt::Write>(&self, f: &mut fmt::Formatter<W>) -> fmt::Result {
+        match self.0 {
+            Ok(frame) => {
+                let filled = frame.packets.iter().filter(|p| **p != ZEROS).count();
+                write!(f, "count={} filled={filled}", frame.count)
             }
-            let ends = from as u64 + to as u64;
-            if ends + number as u64 == 0 { 0 } else { 1 }
+            Err(refusal) => write!(f, "{refusal} filled=0"),
         }
-        Packet::Acknowledgement { .. } => 1,
     }
-}
-
-fn filled(frame: Frame) -> u64 {
-    let packets = frame.packets;
-    let mut n: u64 = 0;
-    let mut k = 0;
-    while k < CAPACITY {
-        let slot = packets[k];
-        let packet = slot.packet;
-        n += held(packet);
-        k += 1;
-    }
-    n
-}
-
-pub fn print_answer(out: io::Stdout, frame: Frame) -> io::Result<()> {
-    let count = frame.count;
-    match count {
-        Count::Is(n) => print_number(out, b"count=", n as u64)?,
-        Count::Refused(n) => print_number(out, b"refused=", n as u64)?,
-    }
-    print_number(out, b" filled=", filled(frame))
 }

@@ -1,77 +1,78 @@
 // A case: one step on one state, and its line.
-use crate::print::{
-    print, print_answer, print_column, print_count, print_place, print_set, print_step,
-};
-use crate::same::{rewritten, same};
+use crate::print::{Answered, ColumnAt, Named, PacketAt, Set};
+use crate::same::{rewritten, same_from};
 use crate::state::State;
 use bank::bank::Step;
 use bank::step::perform;
-use std::io;
+use std::{fmt, io};
 
 // The step that halts the columns of a set.
 pub fn strip(set: u16) -> Step {
     Step::Halt(set as u32)
 }
 
+#[derive(Drop)]
+pub struct Case<'a> {
+    name: &'a str,
+    before: State,
+    step: Step,
+    answer: Answered,
+    pub after: State,
+}
+
 // The beginning of a line: the name, the step, the answer, whether the state is as it was, and which columns are not.
-// Answers the state after the step.
-pub fn stepped(out: io::Stdout, name: &[u8], s: State, x: Step) -> io::Result<State> {
-    let mut heads = s.heads;
-    let mut doors = s.doors;
-    let before = s.bank;
-    let r = perform(before, x, &mut heads, &mut doors);
-    let bank = r.bank;
-    let given = r.answer;
-    let after = State { bank, heads, doors };
-    print(out, name)?;
-    print(out, b", ")?;
-    print_step(out, x)?;
-    print(out, b": ")?;
-    print_answer(out, given)?;
-    if same(s, after) {
-        print(out, b", unchanged")?;
-    } else {
-        print_set(
-            out,
-            b", changed, rewritten ",
-            rewritten(before, bank) as u32,
-        )?;
+impl fmt::Display for Case<'_> {
+    fn fmt<W: fmt::Write>(&self, f: &mut fmt::Formatter<W>) -> fmt::Result {
+        let answer = &self.answer;
+        write!(f, "{}, {}: {answer}", self.name, Named(self.step))?;
+        if self.before == self.after {
+            return write!(f, ", unchanged");
+        }
+        let places = rewritten(&self.before.bank, &self.after.bank);
+        write!(f, ", changed, rewritten {}", Set(u32::from(places)))
     }
-    Ok(after)
 }
 
-// A line of the answer alone.
-pub fn answer(out: io::Stdout, name: &[u8], s: State, x: Step) -> io::Result<()> {
-    stepped(out, name, s, x)?;
-    print(out, b"\n")
-}
-
-// A line with the count and column i after the step.
-pub fn effect(out: io::Stdout, name: &[u8], s: State, x: Step, i: usize) -> io::Result<State> {
-    let after = stepped(out, name, s, x)?;
-    print_count(out, after)?;
-    print_column(out, after, i)?;
-    print(out, b"\n")?;
-    Ok(after)
-}
-
-// The same with the packet at a place, whether it is taken or free, and the last packet.
-pub fn effect_at(
-    out: io::Stdout,
-    name: &[u8],
-    s: State,
-    x: Step,
-    i: usize,
-    place: usize,
-) -> io::Result<State> {
-    let after = stepped(out, name, s, x)?;
-    let b = after.bank;
-    print_count(out, after)?;
-    print_column(out, after, i)?;
-    print_place(out, after, place)?;
-    if 0 < b.count {
-        print_place(out, after, b.count - 1)?;
+impl Case<'_> {
+    // The step, taken in the state.
+    pub fn run(name: &str, before: State, step: Step) -> Case<'_> {
+        let mut network = before.network;
+        let given = perform(before.bank, step, &mut network);
+        let bank = given.unwrap_or(before.bank);
+        Case {
+            name,
+            before,
+            step,
+            answer: Answered(given.err()),
+            after: State { bank, network },
+        }
     }
-    print(out, b"\n")?;
-    Ok(after)
+
+    // Whether the tree and every word of both arrays from `first` on are as they were.
+    pub fn keeps_from(&self, first: usize) -> bool {
+        same_from(&self.before, &self.after, first)
+    }
+
+    // A line of the answer alone.
+    pub fn answer(&self, out: io::Stdout) -> io::Result<()> {
+        println!(out; "{self}")
+    }
+
+    // A line with the count and column i after the step.
+    pub fn effect(&self, out: io::Stdout, i: usize) -> io::Result<()> {
+        let column = ColumnAt(&self.after, i);
+        println!(out; "{self}, count {}{column}", self.after.bank.count)
+    }
+
+    // The same with the packet at a place, whether it is taken or free, and the last packet.
+    pub fn effect_at(&self, out: io::Stdout, i: usize, place: usize) -> io::Result<()> {
+        let count = self.after.bank.count;
+        let column = ColumnAt(&self.after, i);
+        let packet = PacketAt(&self.after, place);
+        print!(out; "{self}, count {count}{column}{packet}")?;
+        if 0 < count {
+            print!(out; "{}", PacketAt(&self.after, count - 1))?;
+        }
+        println!(out)
+    }
 }

@@ -1,8 +1,8 @@
 // A bank whose root is not its lowest column, and of which no two columns have the same record, sender or page: five columns with root 2. It is
 // at rest, whoever is watched.
 use crate::state::{C0, C1, C2, C3, State, halted, member, root};
-use bank::bank::{Bank, NO_COLUMN};
-use column::packet::{CAPACITY, Number};
+use bank::bank::{Bank, NO_COLUMN, Network};
+use column::packet::Number;
 use column::state::Column;
 use column::tree::{ASCENDING, Tree};
 
@@ -19,15 +19,16 @@ pub const TREE_OF_FIVE: Tree = Tree {
     watch: false,
 };
 
-// The column with this record, which that column sent, and this page.
+// The column with this record, which that column sent, and this page. `member` sets other fields, which no parameter can name.
 fn holding(c: Column, number: Number, doors: u64, sender: usize, mask: u8, pending: u8) -> Column {
-    let mut d = c;
-    d.number = number;
-    d.doors = doors;
-    d.sender = sender;
-    d.mask = mask;
-    d.pending = pending;
-    d
+    Column {
+        number,
+        doors,
+        sender,
+        mask,
+        pending,
+        ..c
+    }
 }
 
 // The columns as given, and 0 and 3 halted, 0 while it sent, awaited and owed, and each having noted the other.
@@ -44,8 +45,7 @@ fn with_running(one: Column, two: Column, four: Column) -> State {
             columns,
             count: 0,
         },
-        heads: [0; CAPACITY],
-        doors: [0; CAPACITY],
+        network: Network::EMPTY,
     }
 }
 

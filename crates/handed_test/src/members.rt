@@ -1,116 +1,92 @@
 // Row 4 of the columns: each fault alone, with a step that is accepted without it.
-use crate::case::{answer, effect, effect_at, strip};
-use crate::print::print;
-use crate::state::{
-    C0, C1, C2, C3, State, acknowledgement, busy, halted, member, quiet, root, with_column,
-    with_count, with_words,
-};
+use crate::case::{Case, strip};
+use crate::state::{C0, C1, C2, C3, State, acknowledgement, busy, halted, member, quiet, root};
 use bank::bank::Step;
 use column::state::Column;
 use std::io;
 
+// A send of column 0, where column i is c beside those of a busy bank.
+fn sent(out: io::Stdout, name: &str, i: usize, c: Column) -> io::Result<()> {
+    Case::run(name, busy().with_column(i, c), Step::Send(0)).answer(out)
+}
+
 // Column i is c but for a fourth column in one of its sets.
-fn strangers(out: io::Stdout, whose: &[u8], i: usize, c: Column) -> io::Result<()> {
-    let mut in_send = c;
-    let mut in_awaited = c;
-    let mut in_owed = c;
-    let mut in_noted = c;
-    in_send.send |= C3;
-    in_awaited.awaited |= C3;
-    in_owed.owed |= C3;
-    in_noted.noted |= C3;
-    print(out, b"3 in send of ")?;
-    answer(out, whose, with_column(busy(), i, in_send), Step::Send(0))?;
-    print(out, b"3 in awaited of ")?;
-    answer(
-        out,
-        whose,
-        with_column(busy(), i, in_awaited),
-        Step::Send(0),
-    )?;
-    print(out, b"3 in owed of ")?;
-    answer(out, whose, with_column(busy(), i, in_owed), Step::Send(0))?;
-    print(out, b"3 in noted of ")?;
-    answer(out, whose, with_column(busy(), i, in_noted), Step::Send(0))
+fn strangers(out: io::Stdout, whose: &str, i: usize, c: Column) -> io::Result<()> {
+    let send = c.send | C3;
+    let awaited = c.awaited | C3;
+    let owed = c.owed | C3;
+    let noted = c.noted | C3;
+    let faulty = [
+        ("send", Column { send, ..c }),
+        ("awaited", Column { awaited, ..c }),
+        ("owed", Column { owed, ..c }),
+        ("noted", Column { noted, ..c }),
+    ];
+    for (set, d) in faulty {
+        print!(out; "3 in {set} of ")?;
+        sent(out, whose, i, d)?;
+    }
+    Ok(())
 }
 
 fn owing_themselves(out: io::Stdout) -> io::Result<()> {
-    let acting = with_column(busy(), 0, root(C1, C2, C0, 0));
-    let other = with_column(busy(), 1, member(C2, 0, C0 | C1, 0));
-    let stopped = with_column(busy(), 2, halted(member(0, 0, C1 | C2, 0)));
-    answer(out, b"the acting column owes itself", acting, Step::Send(0))?;
-    answer(
-        out,
-        b"another running column owes itself",
-        other,
-        Step::Send(0),
-    )?;
-    answer(out, b"a halted column owes itself", stopped, Step::Send(0))
+    let other = "another running column owes itself";
+    let stopped = halted(member(0, 0, C1 | C2, 0));
+    sent(out, "the acting column owes itself", 0, root(C1, C2, C0, 0))?;
+    sent(out, other, 1, member(C2, 0, C0 | C1, 0))?;
+    sent(out, "a halted column owes itself", 2, stopped)
 }
 
 fn goals(out: io::Stdout) -> io::Result<()> {
-    let s = with_column(quiet(), 1, member(C2, 0, C0, 0));
-    let own = with_column(busy(), 0, member(C1, C2, 0, 0));
-    let halted_whole = with_column(s, 0, halted(root(0, 0, 0, 0)));
-    let halted_own = with_column(s, 0, halted(member(0, 0, 0, 0)));
-    answer(out, b"the running root's goal is own", own, Step::Send(0))?;
-    effect(
+    let s = quiet().with_column(1, member(C2, 0, C0, 0));
+    let whole = s.with_column(0, halted(root(0, 0, 0, 0)));
+    let own = s.with_column(0, halted(member(0, 0, 0, 0)));
+    let send = Step::Send(1);
+    sent(
         out,
-        b"the halted root's goal is whole",
-        halted_whole,
-        Step::Send(1),
-        1,
+        "the running root's goal is own",
+        0,
+        member(C1, C2, 0, 0),
     )?;
-    answer(
-        out,
-        b"the halted root's goal is own",
-        halted_own,
-        Step::Send(1),
-    )
+    Case::run("the halted root's goal is whole", whole, send).effect(out, 1)?;
+    Case::run("the halted root's goal is own", own, send).answer(out)
 }
 
 // Each of document 01's steps but send is accepted: send of column 0 and order do not go together, so send has a state of its own, `sending`.
 pub fn ready() -> State {
-    let mut s = with_column(quiet(), 0, root(0, 0, C1, 0));
-    s = with_column(s, 1, member(0, 0, C0, C0));
-    s = with_words(s, 0, acknowledgement(1, 0, 5), 0);
-    with_count(s, 1)
+    quiet()
+        .with_column(0, root(0, 0, C1, 0))
+        .with_column(1, member(0, 0, C0, C0))
+        .with_words(0, acknowledgement(1, 0, 5), 0)
+        .with_count(1)
 }
 
 pub fn sending(s: State) -> State {
-    with_column(s, 0, root(C1, 0, C1, 0))
+    s.with_column(0, root(C1, 0, C1, 0))
 }
 
-fn every_step(out: io::Stdout, name: &[u8], s: State) -> io::Result<()> {
-    effect(out, name, s, Step::Order(9), 0)?;
-    effect(out, name, sending(s), Step::Send(0), 0)?;
-    effect(out, name, s, Step::Take(0), 0)?;
-    effect(out, name, s, Step::Ack(1), 1)?;
-    effect(out, name, s, Step::All(1), 1)?;
-    effect(out, name, s, Step::Note(1, 2), 1)?;
-    effect(out, name, s, strip(C1), 1)?;
+fn every_step(out: io::Stdout, name: &str, s: State) -> io::Result<()> {
+    Case::run(name, s, Step::Order(9)).effect(out, 0)?;
+    Case::run(name, sending(s), Step::Send(0)).effect(out, 0)?;
+    Case::run(name, s, Step::Take(0)).effect(out, 0)?;
+    for step in [Step::Ack(1), Step::All(1), Step::Note(1, 2), strip(C1)] {
+        Case::run(name, s, step).effect(out, 1)?;
+    }
     Ok(())
 }
 
 pub fn cases(out: io::Stdout) -> io::Result<()> {
-    let bad = halted(member(0, 0, C1, C3));
+    let bad = "ready but 3 in noted of a halted column";
+    let fault = ready().with_column(2, halted(member(0, 0, C1, C3)));
     let highest = halted(member(0, 0, C1, 32768));
-    effect_at(out, b"no fault", busy(), Step::Send(0), 0, 0)?;
-    strangers(out, b"the acting column", 0, root(C1, C2, 0, 0))?;
-    strangers(out, b"another running column", 1, member(C2, 0, C0, 0))?;
-    strangers(out, b"a halted column", 2, halted(member(0, 0, C1, 0)))?;
-    answer(
-        out,
-        b"15 in noted of a halted column",
-        with_column(busy(), 2, highest),
-        Step::Send(0),
-    )?;
+    let stopped = halted(member(0, 0, C1, 0));
+    Case::run("no fault", busy(), Step::Send(0)).effect_at(out, 0, 0)?;
+    strangers(out, "the acting column", 0, root(C1, C2, 0, 0))?;
+    strangers(out, "another running column", 1, member(C2, 0, C0, 0))?;
+    strangers(out, "a halted column", 2, stopped)?;
+    sent(out, "15 in noted of a halted column", 2, highest)?;
     owing_themselves(out)?;
     goals(out)?;
-    every_step(out, b"ready", ready())?;
-    every_step(
-        out,
-        b"ready but 3 in noted of a halted column",
-        with_column(ready(), 2, bad),
-    )
+    every_step(out, "ready", ready())?;
+    every_step(out, bad, fault)
 }

@@ -1,123 +1,126 @@
-// The parts of a line.
-use crate::state::State;
-use bank::bank::{Answer, Step};
+// The parts of a line. Each type prints other words: its impl is like the next in form alone.
+use crate::state::{ACKNOWLEDGING, State};
+use bank::bank::Step;
+use column::error::Refusal;
 use column::packet::{CAPACITY, NUMBERS};
 use column::state::Column;
-use std::io;
+use std::fmt;
 
-pub fn print(out: io::Stdout, text: &[u8]) -> io::Result<()> {
-    out.write_all(text)
-}
+// A set's members in braces. pair_example has a set of its own; its print.rt says why.
+#[derive(Drop)]
+pub struct Set(pub u32);
 
-pub fn print_number(out: io::Stdout, key: &[u8], n: u64) -> io::Result<()> {
-    print(out, key)?;
-    print!(out; "{n}")
-}
-
-pub fn print_step(out: io::Stdout, x: Step) -> io::Result<()> {
-    match x {
-        Step::Order(given) => print_number(out, b"order ", given)?,
-        Step::Send(i) => print_number(out, b"send ", i as u64)?,
-        Step::Take(place) => print_number(out, b"take ", place as u64)?,
-        Step::Ack(i) => print_number(out, b"ack ", i as u64)?,
-        Step::All(i) => print_number(out, b"all ", i as u64)?,
-        Step::Note(i, j) => {
-            print_number(out, b"note ", i as u64)?;
-            print_number(out, b" ", j as u64)?;
+impl fmt::Display for Set {
+    fn fmt<W: fmt::Write>(&self, f: &mut fmt::Formatter<W>) -> fmt::Result {
+        let set = self.0;
+        let members = (0..32u32).filter(|i| (set >> i) % 2 == 1);
+        write!(f, "{{")?;
+        for (before, member) in members.enumerate() {
+            if 0 < before {
+                write!(f, ",")?;
+            }
+            write!(f, "{member}")?;
         }
-        Step::Halt(set) => print_set(out, b"halt ", set)?,
-        Step::Back(j) => print_number(out, b"back ", j as u64)?,
-        Step::Write(i, offset, value) => {
-            print_number(out, b"write ", i as u64)?;
-            print_number(out, b" ", offset as u64)?;
-            print_number(out, b" ", value as u64)?;
+        write!(f, "}}")
+    }
+}
+
+// By what a call is refused, if it is.
+#[derive(Drop)]
+pub struct Answered(pub Option<Refusal>);
+
+impl fmt::Display for Answered {
+    fn fmt<W: fmt::Write>(&self, f: &mut fmt::Formatter<W>) -> fmt::Result {
+        match self.0 {
+            None => write!(f, "ok"),
+            Some(refusal) => write!(f, "refused {}", refusal.number()),
         }
     }
-    Ok(())
 }
 
-pub fn print_answer(out: io::Stdout, a: Answer) -> io::Result<()> {
-    match a {
-        Answer::Done => print(out, b"ok")?,
-        Answer::Refused(n) => print_number(out, b"refused ", n as u64)?,
+// A step's name and what it names.
+#[derive(Drop)]
+pub struct Named(pub Step);
+
+impl fmt::Display for Named {
+    fn fmt<W: fmt::Write>(&self, f: &mut fmt::Formatter<W>) -> fmt::Result {
+        match self.0 {
+            Step::Order(doors) => write!(f, "order {doors}"),
+            Step::Send(i) => write!(f, "send {i}"),
+            Step::Take(place) => write!(f, "take {place}"),
+            Step::Ack(i) => write!(f, "ack {i}"),
+            Step::All(i) => write!(f, "all {i}"),
+            Step::Note(i, j) => write!(f, "note {i} {j}"),
+            Step::Halt(set) => write!(f, "halt {}", Set(set)),
+            Step::Back(j) => write!(f, "back {j}"),
+            Step::Write(i, offset, value) => write!(f, "write {i} {offset} {value}"),
+        }
     }
-    Ok(())
 }
 
-pub fn print_flag(out: io::Stdout, flag: bool, yes: &[u8], no: &[u8]) -> io::Result<()> {
-    if flag {
-        print(out, yes)?;
-    } else {
-        print(out, no)?;
+// What a column holds.
+#[derive(Drop)]
+struct Held(Column);
+
+impl fmt::Display for Held {
+    fn fmt<W: fmt::Write>(&self, f: &mut fmt::Formatter<W>) -> fmt::Result {
+        let c = self.0;
+        let runs = if c.running { "runs" } else { "halted" };
+        let goal = if c.whole { "whole" } else { "own" };
+        write!(f, "{runs} number {} doors {}", c.number, c.doors)?;
+        write!(f, " send {}", Set(u32::from(c.send)))?;
+        write!(f, " awaited {}", Set(u32::from(c.awaited)))?;
+        write!(f, " owed {}", Set(u32::from(c.owed)))?;
+        write!(f, " noted {}", Set(u32::from(c.noted)))?;
+        write!(f, " {goal} sender {}", c.sender)?;
+        write!(f, " mask {} pending {}", c.mask, c.pending)
     }
-    Ok(())
 }
 
-// Answers whether a member has been printed, this one or, by `comma`, one before it.
-fn print_member(out: io::Stdout, set: u32, i: usize, comma: bool) -> io::Result<bool> {
-    if 32 <= i {
-        return Ok(comma);
+// A packet's head.
+#[derive(Drop)]
+struct Head(u64);
+
+impl fmt::Display for Head {
+    fn fmt<W: fmt::Write>(&self, f: &mut fmt::Formatter<W>) -> fmt::Result {
+        let head = self.0;
+        let kind = if head < ACKNOWLEDGING {
+            "message"
+        } else {
+            "acknowledgement"
+        };
+        let from = head / (NUMBERS * 256) % 256;
+        let to = head / NUMBERS % 256;
+        write!(f, "{kind} {from}>{to} number {}", head % NUMBERS)
     }
-    if (set >> i) % 2 == 0 {
-        return Ok(comma);
+}
+
+// The column in a place of the bank, if there is such a place.
+#[derive(Drop)]
+pub struct ColumnAt<'a>(pub &'a State, pub usize);
+
+impl fmt::Display for ColumnAt<'_> {
+    fn fmt<W: fmt::Write>(&self, f: &mut fmt::Formatter<W>) -> fmt::Result {
+        let i = self.1;
+        if i < 16 {
+            write!(f, ", column {i} {}", Held(self.0.bank.columns[i]))?;
+        }
+        Ok(())
     }
-    print_flag(out, comma, b",", b"")?;
-    print_number(out, b"", i as u64)?;
-    Ok(true)
 }
 
-pub fn print_set(out: io::Stdout, key: &[u8], set: u32) -> io::Result<()> {
-    print(out, key)?;
-    print(out, b"{")?;
-    let mut comma = false;
-    for i in 0..32usize {
-        comma = print_member(out, set, i, comma)?;
+// The packet at a place of the network, if there is such a place.
+#[derive(Drop)]
+pub struct PacketAt<'a>(pub &'a State, pub usize);
+
+impl fmt::Display for PacketAt<'_> {
+    fn fmt<W: fmt::Write>(&self, f: &mut fmt::Formatter<W>) -> fmt::Result {
+        let place = self.1;
+        if place < CAPACITY {
+            let doors = self.0.network.doors[place];
+            let head = Head(self.0.network.heads[place]);
+            write!(f, ", place {place} {head} doors {doors}")?;
+        }
+        Ok(())
     }
-    print(out, b"}")
-}
-
-fn print_fields(out: io::Stdout, c: Column) -> io::Result<()> {
-    print_flag(out, c.running, b" runs", b" halted")?;
-    print_number(out, b" number ", c.number as u64)?;
-    print_number(out, b" doors ", c.doors)?;
-    print_set(out, b" send ", c.send as u32)?;
-    print_set(out, b" awaited ", c.awaited as u32)?;
-    print_set(out, b" owed ", c.owed as u32)?;
-    print_set(out, b" noted ", c.noted as u32)?;
-    print_flag(out, c.whole, b" whole", b" own")?;
-    print_number(out, b" sender ", c.sender as u64)?;
-    print_number(out, b" mask ", c.mask as u64)?;
-    print_number(out, b" pending ", c.pending as u64)
-}
-
-pub fn print_column(out: io::Stdout, s: State, i: usize) -> io::Result<()> {
-    let b = s.bank;
-    if i < 16 {
-        print_number(out, b", column ", i as u64)?;
-        print_fields(out, b.columns[i])?;
-    }
-    Ok(())
-}
-
-pub fn print_count(out: io::Stdout, s: State) -> io::Result<()> {
-    let b = s.bank;
-    print_number(out, b", count ", b.count as u64)
-}
-
-pub fn print_place(out: io::Stdout, s: State, k: usize) -> io::Result<()> {
-    if k < CAPACITY {
-        let head = s.heads[k];
-        print_number(out, b", place ", k as u64)?;
-        print_flag(
-            out,
-            head < NUMBERS * 65536,
-            b" message ",
-            b" acknowledgement ",
-        )?;
-        print_number(out, b"", head / (NUMBERS * 256) % 256)?;
-        print_number(out, b">", head / NUMBERS % 256)?;
-        print_number(out, b" number ", head % NUMBERS)?;
-        print_number(out, b" doors ", s.doors[k])?;
-    }
-    Ok(())
 }

@@ -1,18 +1,17 @@
 -- Journals of columns as text, and two of them compared: Point 11 of document 02.
-use Rattle.std.specs.Prelude.{ℕ, zero, suc, Bool, true, false, not, ◌&&◌, ◌||◌, cond, eqb, ltb, length}
+use Rattle.std.specs.Prelude.{ℕ, zero, suc, Bool, true, false, not, ◌&&◌, ◌||◌, cond, eqb, ltb, length, Result}
 use mathlib.Core.List.{List, [], ◌∷◌, ◌++◌, Memᴰ}
-use Rattle.column.specs.Refusals.{first, Given, given, refused}
+use Rattle.column.specs.Refusals.{first, Given, given, refused, meant}
 use Rattle.column.specs.Columns.{numbers}
 use Rattle.text.specs.Text.{bytes, column_key, newline, comma, decimal, Reading, read, unread, numeral, starts_with, after_key}
 use Rattle.text.specs.Pieces.{Cut, ended, unended, cut, pieces, keyed}
 use Rattle.list.specs.Closing.{Listed, placed}
+use Rattle.column.specs.declared.error.Refusal.{Refusal}
 use Rattle.journals.specs.declared.line.Way.{Way}
 use Rattle.journals.specs.declared.line.Way.TheVariants.{Sent, Got}
+use Rattle.journals.specs.declared.line.Kind.{Kind}
+use Rattle.journals.specs.declared.line.Kind.TheVariants.{Message, Acknowledgement}
 use Rattle.journals.specs.declared.line.Line.{Line}
-use Rattle.journals.specs.declared.line.LineAnswer.{LineAnswer}
-use Rattle.journals.specs.declared.line.LineAnswer.TheVariants as answer
-use Rattle.journals.specs.declared.comparison.Compared.{Compared}
-use Rattle.journals.specs.declared.comparison.Compared.TheVariants as compared_is
 
 abbrev pub sent_key : List ℕ
 sent_key = bytes "sent="
@@ -22,13 +21,8 @@ got_key = bytes "got="
 
 -- ---- a line
 
-abbrev pub line : Way → ℕ → ℕ → ℕ → Line
+abbrev pub line : Way → Kind → ℕ → ℕ → Line
 line way kind other number = record { way = way; kind = kind; other = other; number = number }
-
--- the values of each case of `LineAnswer`
-abbrev pub line_meant : LineAnswer → Given Line
-line_meant (answer.Is x) = given x
-line_meant (answer.Refused n) = refused n
 
 -- "Kind is 1 for messages and 2 for acknowledgements"
 abbrev pub message_kind : ℕ
@@ -37,13 +31,27 @@ message_kind = 1
 abbrev pub acknowledgement_kind : ℕ
 acknowledgement_kind = 2
 
+abbrev pub kind_number : Kind → ℕ
+kind_number Message = message_kind
+kind_number Acknowledgement = acknowledgement_kind
+
+-- the kind of a number
+abbrev pub kind_of_number : ℕ → Given Kind
+kind_of_number kind = cond (eqb kind message_kind) (given Message) (cond (eqb kind acknowledgement_kind) (given Acknowledgement) (refused 19))
+
 -- "at most 4,294,967,295", "the other column and the owner are 0 to 15 and differ"
 abbrev pub good_line : ℕ → ℕ → ℕ → ℕ → Bool
 good_line owner kind other number =
     (eqb kind message_kind || eqb kind acknowledgement_kind) && (ltb other 16 && (not (eqb other owner) && ltb number numbers))
 
+-- the line of a kind
+abbrev pub line_with : Way → ℕ → ℕ → Given Kind → Given Line
+line_with way other number (given kind) = given (line way kind other number)
+line_with way other number (refused n) = refused n
+
 unfoldable pub line_judged : ℕ → Way → Reading ℕ → Reading ℕ → Reading ℕ → Given Line
-line_judged owner way (read kind) (read other) (read number) = cond (good_line owner kind other number) (given (line way kind other number)) (refused 19)
+line_judged owner way (read kind) (read other) (read number) =
+    cond (good_line owner kind other number) (line_with way other number (kind_of_number kind)) (refused 19)
 line_judged owner way (read kind) (read other) unread = refused 19
 line_judged owner way (read kind) unread number = refused 19
 line_judged owner way unread other number = refused 19
@@ -121,8 +129,14 @@ same_way Sent Got = false
 same_way Got Sent = false
 same_way Got Got = true
 
+abbrev pub same_kind : Kind → Kind → Bool
+same_kind Message Message = true
+same_kind Message Acknowledgement = false
+same_kind Acknowledgement Message = false
+same_kind Acknowledgement Acknowledgement = true
+
 abbrev pub same_line : Line → Line → Bool
-same_line x y = same_way x.way y.way && (eqb x.kind y.kind && (eqb x.other y.other && eqb x.number y.number))
+same_line x y = same_way x.way y.way && (same_kind x.kind y.kind && (eqb x.other y.other && eqb x.number y.number))
 
 -- a list has a line
 unfoldable pub has_line : List Entry → Line → Bool
@@ -193,7 +207,7 @@ way_key Sent = sent_key
 way_key Got = got_key
 
 unfoldable pub line_text : Line → List ℕ
-line_text x = way_key x.way ++ (decimal x.kind ++ (comma ∷ (decimal x.other ++ (comma ∷ decimal x.number))))
+line_text x = way_key x.way ++ (decimal (kind_number x.kind) ++ (comma ∷ (decimal x.other ++ (comma ∷ decimal x.number))))
 
 unfoldable pub lines_text : List Line → List ℕ
 lines_text [] = []
@@ -203,9 +217,8 @@ abbrev pub journal_text : ℕ → List Line → List ℕ
 journal_text owner l = column_key ++ (decimal owner ++ (newline ∷ lines_text l))
 
 -- what the call answers, and the whole buffer after it
-abbrev pub compared_meant : Compared → List ℕ → Listed
-compared_meant (compared_is.Length size) out = record { answer = given size; buffer = out }
-compared_meant (compared_is.Refused n) out = record { answer = refused n; buffer = out }
+abbrev pub compared_meant : Result ℕ Refusal → List ℕ → Listed
+compared_meant r out = record { answer = meant r; buffer = out }
 
 -- no line twice
 unfoldable pub Once : List Line → Type 0

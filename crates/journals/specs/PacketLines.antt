@@ -4,21 +4,23 @@ use Rattle.column.specs.Packets.{sender, receiver, number_of}
 use Rattle.column.specs.declared.packet.Packet.{Packet}
 use Rattle.column.specs.declared.packet.Packet.TheVariants.{Message, Acknowledgement}
 use Rattle.text.specs.Text.{column_key, newline, field}
-use Rattle.journals.specs.Journals.{message_kind, acknowledgement_kind, line, line_text}
+use Rattle.journals.specs.Journals.{line, line_text}
+use Rattle.journals.specs.declared.line.Kind.{Kind}
+use Rattle.journals.specs.declared.line.Kind.TheVariants as kind-is
 use Rattle.journals.specs.declared.line.Way.TheVariants.{Sent, Got}
 use Rattle.journals.specs.declared.line.Line.{Line}
 
 -- "Kind is 1 for messages and 2 for acknowledgements of either width."
-abbrev pub kind_of : Packet → ℕ
-kind_of (Message from to number doors) = message_kind
-kind_of (Acknowledgement from to number) = acknowledgement_kind
+abbrev pub packet_kind : Packet → Kind
+packet_kind (Message from to number doors) = kind-is.Message
+packet_kind (Acknowledgement from to number) = kind-is.Acknowledgement
 
 -- "`sent=` or `got=` with kind, other column and number"
 abbrev pub sent_line : Packet → Line
-sent_line p = line Sent (kind_of p) (receiver p) (number_of p)
+sent_line p = line Sent (packet_kind p) (receiver p) (number_of p)
 
 abbrev pub got_line : Packet → Line
-got_line p = line Got (kind_of p) (sender p) (number_of p)
+got_line p = line Got (packet_kind p) (sender p) (number_of p)
 
 -- "Its first line is `column=` with its owner."
 abbrev pub owner_bytes : ℕ → List ℕ

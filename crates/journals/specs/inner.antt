@@ -1,5 +1,5 @@
 pub mod Chains
-pub mod ReadJournals
-pub mod JournalKeys
+pub mod KeyedLines
 pub mod LineWords
-pub mod MissingTexts
+pub mod ReadJournals
+pub mod ReadTexts

@@ -1,7 +1,7 @@
 pub mod FieldLaws
 pub mod JournalLaws
 pub mod LineWordLaws
-pub mod JournalKeyLaws
+pub mod KeyedLineLaws
 pub mod KeyLaws
 pub mod ChainLaws
 pub mod MissingLaws

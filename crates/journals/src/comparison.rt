@@ -1,45 +1,27 @@
-// Two columns' journals compared.
-ghost use Rattle.std.specs.Prelude.{◌≤◌, ◌≡◌, leb, length};
+// Two columns' journals compared. The two come apart: each is asked about the other, in either order.
+ghost use Rattle.std.specs.Prelude.{◌+◌, ◌≤◌, ◌≡◌, leb, length};
 ghost use Rattle.list.specs.Closing.{placed};
-ghost use Rattle.journals.specs.inner.JournalKeys.{lines_limit};
 ghost use Rattle.journals.specs.Journals.{missing_text, pair_compared, compared, compared_meant};
-ghost use Rattle.journals.specs.inner.ReadJournals.{journal_in, Holds, Ready, missing_size};
+ghost use Rattle.journals.specs.inner.ReadTexts.{journal_said, both_heard, missing_of};
 
-use crate::index::{INDEX, both_heard, chain};
-use crate::journal::{Heading, LINES, read_journal};
-use crate::missing::{missing_length, put_missing};
-
-#[derive(Clone, Copy)]
-pub enum Compared {
-    Length(usize),
-    Refused(u8),
-}
+use crate::index::Index;
+use crate::indexed::IndexedJournal;
+use crate::journal::ReadJournal;
+use crate::lines::{KeyedLine, LINES};
+use column::error::Refusal;
 
 // Whether what is missing has room. It is never longer than both texts, so that in as much room nothing is counted.
-fn has_room(
-    one: &[u8],
-    a: usize,
-    mine: &[u64],
-    sizes: &[u16],
-    index: &[u64],
-    two: &[u8],
-    b: usize,
-    theirs: &[u64],
-    their_sizes: &[u16],
-    their_index: &[u64],
-    room: usize,
-) -> bool
-    requires { Ready one.now a mine.now sizes.now index.now × Ready two.now b theirs.now their_sizes.now their_index.now }
-    ensures { result ≡ leb (missing_size (journal_in a one.now) (journal_in b two.now)) room }
+fn has_room(one: &IndexedJournal, two: &IndexedJournal, room: usize) -> bool
+    ensures { result ≡ leb (length (missing_of one.now.journal two.now.journal) + length (missing_of two.now.journal one.now.journal)) room }
 {
-    if one.len() + two.len() <= room {
+    if one.journal.text.len() + two.journal.text.len() <= room {
         return true;
     }
-    let first = missing_length(a, b, mine, sizes, theirs, their_index);
+    let first = one.missing_length(two);
     if room < first {
         return false;
     }
-    let second = missing_length(b, a, theirs, their_sizes, mine, index);
+    let second = two.missing_length(one);
     if room - first < second {
         return false;
     }
@@ -48,107 +30,50 @@ fn has_room(
 
 // 11 is known before the first byte is written.
 fn write_missing(
-    one: &[u8],
-    a: usize,
-    mine: &[u64],
-    sizes: &[u16],
-    index: &[u64],
-    two: &[u8],
-    b: usize,
-    theirs: &[u64],
-    their_sizes: &[u16],
-    their_index: &[u64],
+    one: &IndexedJournal,
+    two: &IndexedJournal,
     out: &mut [u8],
-) -> Compared
-    requires { Ready one.now a mine.now sizes.now index.now × Ready two.now b theirs.now their_sizes.now their_index.now }
-    ensures { compared_meant result out.new ≡ placed out.old 0 (missing_text (journal_in a one.now) (journal_in b two.now)) }
+) -> Result<usize, Refusal>
+    ensures { compared_meant result out.new ≡ placed out.old 0 (missing_text (journal_said one.now.journal) (journal_said two.now.journal)) }
 {
-    if !has_room(
-        one,
-        a,
-        mine,
-        sizes,
-        index,
-        two,
-        b,
-        theirs,
-        their_sizes,
-        their_index,
-        out.len(),
-    ) {
-        return Compared::Refused(11);
+    if !has_room(one, two, out.len()) {
+        return Err(Refusal::NoRoom);
     }
-    let end = put_missing(one, a, b, mine, sizes, theirs, their_index, out, 0);
-    let last = put_missing(two, b, a, theirs, their_sizes, mine, index, out, end);
-    Compared::Length(last)
+    let end = one.put_missing(two, out, 0);
+    Ok(two.put_missing(one, out, end))
 }
 
-// The lines of journals that were read, with their words and sizes.
-fn compare_read(
-    one: &[u8],
-    a: usize,
-    mine: &[u64],
-    sizes: &[u16],
-    two: &[u8],
-    b: usize,
-    theirs: &[u64],
-    their_sizes: &[u16],
-    out: &mut [u8],
-) -> Compared
-    requires { Holds one.now a mine.now sizes.now × (length mine.now ≤ lines_limit) × Holds two.now b theirs.now their_sizes.now × (length theirs.now ≤ lines_limit) }
-    ensures { compared_meant result out.new ≡ pair_compared (journal_in a one.now) (journal_in b two.now) out.old }
+// Whether everything that one of two got from the other was sent by the other.
+fn both_heard(one: &IndexedJournal, two: &IndexedJournal) -> bool
+    ensures { result ≡ both_heard (journal_said one.now.journal) (journal_said two.now.journal) }
 {
-    if a == b {
-        return Compared::Refused(19);
+    one.heard(two) && two.heard(one)
+}
+
+// Two journals that were read.
+fn compare_read(one: ReadJournal, two: ReadJournal, out: &mut [u8]) -> Result<usize, Refusal>
+    ensures { compared_meant result out.new ≡ pair_compared (journal_said one.entry) (journal_said two.entry) out.old }
+{
+    if one.owner == two.owner {
+        return Err(Refusal::MalformedJournal);
     }
-    let mut index = [0u64; INDEX];
-    let mut their_index = [0u64; INDEX];
-    if !(chain(mine, &mut index) & chain(theirs, &mut their_index)) {
-        return Compared::Refused(20);
+    let mut index = Index::EMPTY;
+    let mut other_index = Index::EMPTY;
+    let one = IndexedJournal::new(one, &mut index)?;
+    let two = IndexedJournal::new(two, &mut other_index)?;
+    if !both_heard(&one, &two) {
+        return Err(Refusal::UnsentLine);
     }
-    if !both_heard(a, mine, &index, b, theirs, &their_index) {
-        return Compared::Refused(21);
-    }
-    write_missing(
-        one,
-        a,
-        mine,
-        sizes,
-        &index,
-        two,
-        b,
-        theirs,
-        their_sizes,
-        &their_index,
-        out,
-    )
+    write_missing(&one, &two, out)
 }
 
 // The lines of what one of two columns sent to the other and the other never got, from the buffer's start; answers their length.
-pub fn compare(one: &[u8], two: &[u8], out: &mut [u8]) -> Compared
+pub fn compare(one: &[u8], two: &[u8], out: &mut [u8]) -> Result<usize, Refusal>
     ensures { compared_meant result out.new ≡ compared one.now two.now out.old }
 {
-    let mut keys_one = [0u64; LINES];
-    let mut sizes_one = [0u16; LINES];
-    let mut keys_two = [0u64; LINES];
-    let mut sizes_two = [0u16; LINES];
-    match read_journal(one, &mut keys_one, &mut sizes_one) {
-        Heading::Refused(n) => Compared::Refused(n),
-        Heading::Is(a, from, n) => match read_journal(two, &mut keys_two, &mut sizes_two) {
-            Heading::Refused(m) => Compared::Refused(m),
-            Heading::Is(b, start, m) => {
-                compare_read(
-                    &one[from..],
-                    a,
-                    &keys_one[..n],
-                    &sizes_one[..n],
-                    &two[start..],
-                    b,
-                    &keys_two[..m],
-                    &sizes_two[..m],
-                    out,
-                )
-            }
-        },
-    }
+    let mut lines = [KeyedLine::NONE; LINES];
+    let mut other_lines = [KeyedLine::NONE; LINES];
+    let one = ReadJournal::read(one, &mut lines)?;
+    let two = ReadJournal::read(two, &mut other_lines)?;
+    compare_read(one, two, out)
 }

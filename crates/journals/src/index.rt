@@ -1,114 +1,79 @@
-// Which words a list has: the words of one remainder are chained, the newest first.
-ghost use Rattle.std.specs.Prelude.{◌+◌, ◌≤◌, ◌<◌, ◌≡◌, ◌&&◌, length};
-ghost use Rattle.journals.specs.inner.Chains.{buckets, Indexed, Placed, among, Chained};
-ghost use Rattle.journals.specs.inner.LineWords.{heard_key, heard_keys};
-ghost use Rattle.journals.specs.inner.MissingTexts.{missed_key};
+// Which words a journal has: the words of one remainder are chained, the newest first. How many of the lines are chained comes beside them while they are. That there
+// are no more lines than places is asked as a fact: it is one of the text that was read.
+ghost use Rattle.std.specs.Prelude.{◌+◌, ◌%◌, ◌≤◌, ◌<◌, ◌≡◌, length};
+ghost use Rattle.journals.specs.inner.KeyedLines.{keys_in, lines_limit};
+ghost use Rattle.journals.specs.inner.Chains.{buckets, Indexed, among, Chained};
 
-use crate::journal::LINES;
-use crate::word::{GOT, SENT, about, turn};
+use crate::lines::{KeyedLine, LINES};
 
 // How many remainders there are: a prime, so that words of one pattern spread.
-const BUCKETS: u64 = 4093;
+const BUCKETS: usize = 4093;
 
-// An index has a head for each remainder, and after the heads a link for each word.
-const HEADS: usize = BUCKETS as usize;
-
-pub const INDEX: usize = HEADS + LINES;
-
-// Chains word n, which is not among the n before it.
-fn add(keys: &[u64], n: usize, index: &mut [u64])
-    requires { (n < length keys.now) × (buckets + n < length index.old) × Indexed keys.now n index.old }
-    ensures { Indexed keys.now (n + 1) index.new }
-{
-    let bucket = (keys[n] % BUCKETS) as usize;
-    index[HEADS + n] = index[bucket];
-    index[bucket] = (n as u64) + 1;
+// A place is one more than that of the line, and 0 is none: as an option each would take twice the room. No heap, and so no map.
+#[derive(Drop)]
+pub struct Index {
+    // For each remainder the place of its last word.
+    pub heads: [u16; BUCKETS],
+    // For each word the place of the one before it with its remainder. With two bytes, as a head has, a step of a chain would take an instruction more.
+    pub links: [usize; LINES],
+    // Each word once more, without its size. Through the lines, a step of a chain would take two instructions more.
+    pub keys: [u64; LINES],
 }
 
-// Whether a word is among the first n, which are chained.
-fn has(keys: &[u64], n: usize, index: &[u64], key: u64) -> bool
-    requires { (n ≤ length keys.now) × (buckets + n ≤ length index.now) × Indexed keys.now n index.now }
-    ensures { result ≡ among keys.now n key }
+// The remainder of a word.
+fn bucket_of(key: u64) -> usize
+    ensures { result ≡ key % buckets }
 {
-    let bucket = (key % BUCKETS) as usize;
-    let mut i = index[bucket] as usize;
-    while 0 < i {
-        if keys[i - 1] == key {
-            return true;
+    (key % BUCKETS as u64) as usize
+}
+
+impl Index {
+    // An index of no word.
+    pub const EMPTY: Index = Index {
+        heads: [0; BUCKETS],
+        links: [0; LINES],
+        keys: [0; LINES],
+    };
+
+    // Chains word n, which is not among the n before it.
+    fn add(&mut self, lines: &[KeyedLine], n: usize)
+        requires { (n < length lines.now) × (length lines.now ≤ lines_limit) × Indexed (keys_in lines.now) n self.old }
+        ensures { Indexed (keys_in lines.now) (n + 1) self.new }
+    {
+        let key = lines[n].key;
+        let bucket = bucket_of(key);
+        self.keys[n] = key;
+        self.links[n] = self.heads[bucket] as usize;
+        self.heads[bucket] = (n + 1) as u16;
+    }
+
+    // Whether a word is among the first n, which are chained. The lines and n are for the contract alone.
+    pub fn has(&self, lines: &[KeyedLine], n: usize, key: u64) -> bool
+        requires { (n ≤ length lines.now) × (length lines.now ≤ lines_limit) × Indexed (keys_in lines.now) n self.now }
+        ensures { result ≡ among (keys_in lines.now) n key }
+    {
+        // A chain ends at place 0: it is followed, and nothing is counted.
+        let mut next = self.heads[bucket_of(key)] as usize;
+        while 0 < next {
+            if self.keys[next - 1] == key {
+                return true;
+            }
+            next = self.links[next - 1];
         }
-        i = index[HEADS + (i - 1)] as usize;
+        false
     }
-    false
-}
 
-// Chains all words, as long as none of them is there twice.
-pub fn chain(keys: &[u64], index: &mut [u64]) -> bool
-    requires { (buckets + length keys.now ≤ length index.old) × Indexed keys.now 0 index.old }
-    ensures { Chained result keys.now index.new }
-{
-    let mut i: usize = 0;
-    while i < keys.len() {
-        if has(keys, i, index, keys[i]) {
-            return false;
+    // Chains all words, as long as none of them is there twice.
+    pub fn chain(&mut self, lines: &[KeyedLine]) -> bool
+        requires { (length lines.now ≤ lines_limit) × Indexed (keys_in lines.now) 0 self.old }
+        ensures { Chained result (keys_in lines.now) self.new }
+    {
+        for (n, line) in lines.iter().enumerate() {
+            if self.has(lines, n, line.key) {
+                return false;
+            }
+            self.add(lines, n);
         }
-        add(keys, i, index);
-        i += 1;
+        true
     }
-    true
-}
-
-// A word is no line that a got from b, or b has sent it.
-fn heard_one(a: usize, b: usize, key: u64, theirs: &[u64], index: &[u64]) -> bool
-    requires { (a < 16) × Placed theirs.now index.now }
-    ensures { result ≡ heard_key a b theirs.now key }
-{
-    if !about(b, GOT, key) {
-        return true;
-    }
-    has(theirs, theirs.len(), index, turn(SENT, a, key))
-}
-
-// Everything that a got from b was sent by b.
-fn all_heard(a: usize, b: usize, keys: &[u64], theirs: &[u64], index: &[u64]) -> bool
-    requires { (a < 16) × Placed theirs.now index.now }
-    ensures { result ≡ heard_keys a b keys.now (length keys.now) theirs.now }
-{
-    let mut i: usize = 0;
-    while i < keys.len() {
-        if !heard_one(a, b, keys[i], theirs, index) {
-            return false;
-        }
-        i += 1;
-    }
-    true
-}
-
-// Everything that one of two got from the other was sent by the other.
-pub fn both_heard(
-    a: usize,
-    mine: &[u64],
-    index: &[u64],
-    b: usize,
-    theirs: &[u64],
-    their_index: &[u64],
-) -> bool
-    requires { (a < 16) × Placed mine.now index.now × (b < 16) × Placed theirs.now their_index.now }
-    ensures { result ≡ (heard_keys a b mine.now (length mine.now) theirs.now && heard_keys b a theirs.now (length theirs.now) mine.now) }
-{
-    if !all_heard(a, b, mine, theirs, their_index) {
-        return false;
-    }
-    all_heard(b, a, theirs, mine, index)
-}
-
-// A word is a line that a sent to b, and b never got it.
-pub fn missed_one(a: usize, b: usize, key: u64, theirs: &[u64], index: &[u64]) -> bool
-    requires { (a < 16) × Placed theirs.now index.now }
-    ensures { result ≡ missed_key a b theirs.now key }
-{
-    if !about(b, SENT, key) {
-        return false;
-    }
-    let got = has(theirs, theirs.len(), index, turn(GOT, a, key));
-    !got
 }

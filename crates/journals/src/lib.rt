@@ -3,7 +3,8 @@
 
 pub mod comparison;
 mod index;
+mod indexed;
 mod journal;
 pub mod line;
-mod missing;
+mod lines;
 mod word;

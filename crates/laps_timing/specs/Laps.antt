@@ -1,23 +1,18 @@
 -- What the timing programs share. No paper names it.
-use Rattle.std.specs.Prelude.{ℕ, ◌+◌, ◌-◌, ◌*◌, ◌%◌, false, ◌&&◌, cond, List, [], ◌∷◌, leb, ltb}
+use Rattle.std.specs.Prelude.{ℕ, ◌+◌, ◌-◌, ◌*◌, ◌%◌, false, ◌&&◌, cond, List, [], ◌∷◌, map, leb, ltb}
 use Rattle.std.specs.Int.Bits.{bit_or}
 use Rattle.column.specs.declared.tree.Tree.{Tree}
+use Rattle.column.specs.Trees.{ascending}
 
 -- ---- the tree
 
--- the parents of a heap, and the sequence that ascends, a byte joined to every number
-abbrev pub parents_with : ℕ → List ℕ
-parents_with r =
-    r ∷ r ∷ r ∷ bit_or r 1 ∷ bit_or r 1 ∷ bit_or r 2 ∷ bit_or r 2 ∷ bit_or r 3 ∷ bit_or r 3 ∷ bit_or r 4 ∷ bit_or r 4 ∷ bit_or r 5 ∷ bit_or r 5 ∷ bit_or r 6
-    ∷ bit_or r 6 ∷ bit_or r 7 ∷ []
+-- the parents of a heap
+abbrev pub parents : List ℕ
+parents = 0 ∷ 0 ∷ 0 ∷ 1 ∷ 1 ∷ 2 ∷ 2 ∷ 3 ∷ 3 ∷ 4 ∷ 4 ∷ 5 ∷ 5 ∷ 6 ∷ 6 ∷ 7 ∷ []
 
-abbrev pub sequence_with : ℕ → List ℕ
-sequence_with r =
-    r ∷ bit_or r 1 ∷ bit_or r 2 ∷ bit_or r 3 ∷ bit_or r 4 ∷ bit_or r 5 ∷ bit_or r 6 ∷ bit_or r 7 ∷ bit_or r 8 ∷ bit_or r 9 ∷ bit_or r 10 ∷ bit_or r 11
-    ∷ bit_or r 12 ∷ bit_or r 13 ∷ bit_or r 14 ∷ bit_or r 15 ∷ []
-
+-- the heap with the sequence that ascends, a byte joined to every number
 abbrev pub heap_with : ℕ → ℕ → Tree
-heap_with columns r = record { columns = columns; root = r; up = parents_with r; first = sequence_with r; watch = false }
+heap_with columns r = record { columns = columns; root = r; up = map (bit_or r) parents; first = map (bit_or r) ascending; watch = false }
 
 -- ---- the fold
 

@@ -1,10 +1,11 @@
 // What the timing programs share: the tree of their laps, the number that they read, and the fold of what a lap left into one number.
 #![tactic(auto)]
 
-ghost use Rattle.std.specs.Prelude.{◌≡◌};
-ghost use Rattle.laps_timing.specs.Laps.{parents_with, sequence_with, heap_with, folded, number_of};
+ghost use Rattle.std.specs.Prelude.{◌≡◌, map};
+ghost use Rattle.std.specs.Int.Bits.{bit_or};
+ghost use Rattle.laps_timing.specs.Laps.{heap_with, folded, number_of};
 
-use column::tree::Tree;
+use column::tree::{ASCENDING, Tree};
 
 // A sum is below it, so that one more lap is held.
 const RANGE: u64 = 16777216;
@@ -15,53 +16,20 @@ const FACTOR: u64 = 31;
 // Of a number eight digits are kept, so that one more is held.
 const KEPT: u64 = 100000000;
 
-fn parents(r: u8) -> [u8; 16]
-    ensures { result ≡ parents_with r }
+// The parents of a heap: that of columns 2k + 1 and 2k + 2 is k.
+const PARENTS: [u8; 16] = [0, 0, 0, 1, 1, 2, 2, 3, 3, 4, 4, 5, 5, 6, 6, 7];
+
+// A byte, joined to each of the numbers.
+fn joined(byte: u8, mut numbers: [u8; 16]) -> [u8; 16]
+    ensures { result ≡ map (bit_or byte) numbers }
 {
-    [
-        r,
-        r,
-        r,
-        r | 1,
-        r | 1,
-        r | 2,
-        r | 2,
-        r | 3,
-        r | 3,
-        r | 4,
-        r | 4,
-        r | 5,
-        r | 5,
-        r | 6,
-        r | 6,
-        r | 7,
-    ]
+    for n in numbers.iter_mut() {
+        *n = byte | *n;
+    }
+    numbers
 }
 
-fn sequence(r: u8) -> [u8; 16]
-    ensures { result ≡ sequence_with r }
-{
-    [
-        r,
-        r | 1,
-        r | 2,
-        r | 3,
-        r | 4,
-        r | 5,
-        r | 6,
-        r | 7,
-        r | 8,
-        r | 9,
-        r | 10,
-        r | 11,
-        r | 12,
-        r | 13,
-        r | 14,
-        r | 15,
-    ]
-}
-
-// The columns as a heap: the parent of columns 2k + 1 and 2k + 2 is k. A byte is joined to every number of the tree: as 0 it changes none, and as
+// The columns as a heap. A byte is joined to every number of the tree: as 0 it changes none, and as
 // one that is read it leaves no number known when the program is compiled, so that no test of the tree can be made then.
 pub fn heap(columns: usize, read: u8) -> Tree
     ensures { result ≡ heap_with columns read }
@@ -69,8 +37,8 @@ pub fn heap(columns: usize, read: u8) -> Tree
     Tree {
         columns,
         root: read as usize,
-        up: parents(read),
-        first: sequence(read),
+        up: joined(read, PARENTS),
+        first: joined(read, ASCENDING),
         watch: false,
     }
 }
@@ -82,18 +50,17 @@ pub fn fold(sum: u64, n: u64) -> u64
     (sum % RANGE * FACTOR + n % RANGE) % RANGE
 }
 
-// The number that a text begins with, its last nine digits where it has more.
+// The number that a text begins with, its last nine digits where it has more. By hand, since the library's `parse` refuses a number too large for its
+// type, and a text that goes on behind it.
 pub fn number(text: &[u8]) -> u64
     ensures { result ≡ number_of text.now }
 {
     let mut n: u64 = 0;
-    let mut i: usize = 0;
-    while i < text.len() {
-        match text[i] {
-            48..=57 => n = n % KEPT * 10 + (text[i] - 48) as u64,
+    for byte in text {
+        match *byte {
+            b'0'..=b'9' => n = n % KEPT * 10 + (*byte - b'0') as u64,
             _ => return n,
         }
-        i += 1;
     }
     n
 }

@@ -1,14 +1,13 @@
 -- The closing list of a column, after document 01, "The closing list" and the example of "The script program".
-use Rattle.std.specs.Prelude.{ℕ, zero, suc, ◌+◌, not, cond, List, [], ◌∷◌, ◌++◌, eqb, leb, length}
+use Rattle.std.specs.Prelude.{ℕ, zero, suc, ◌+◌, not, cond, List, [], ◌∷◌, ◌++◌, eqb, leb, length, Result}
 use Rattle.std.specs.Int.Count.{ones}
-use Rattle.column.specs.Refusals.{first, earlier, Given, given, refused}
+use Rattle.column.specs.Refusals.{first, earlier, Given, given, refused, meant}
 use Rattle.column.specs.Sets.{has}
 use Rattle.column.specs.Columns.{validity_refusal}
+use Rattle.column.specs.declared.error.Refusal.{Refusal}
 use Rattle.column.specs.declared.tree.Tree.{Tree}
 use Rattle.column.specs.declared.state.Column.{Column}
 use Rattle.text.specs.Text.{column_key, number_key, occupied_key, doors_key, newline, field, written, divided}
-use Rattle.list.specs.declared.list.Listing.{Listing}
-use Rattle.list.specs.declared.list.Listing.TheVariants.{Length, Refused}
 
 -- "the longest list is 229"
 abbrev pub longest_list : ℕ
@@ -32,13 +31,8 @@ pub record Listed : Type 0 where
   pub answer : Given ℕ
   pub buffer : List ℕ
 
--- the values of each case of `Listing`
-abbrev pub listing_meant : Listing → Given ℕ
-listing_meant (Length size) = given size
-listing_meant (Refused n) = refused n
-
-abbrev pub listed_meant : Listing → List ℕ → Listed
-listed_meant r buffer = record { answer = listing_meant r; buffer = buffer }
+abbrev pub listed_meant : Result ℕ Refusal → List ℕ → Listed
+listed_meant r buffer = record { answer = meant r; buffer = buffer }
 
 -- "Written into a lent buffer from a given place on; other bytes keep their values, and the call answers the list's length."
 -- Row 11: "the list doesn't fit from its place"

@@ -1,6 +1,6 @@
 -- How many halts lose the order, after document 02, Point 13.
 use Rattle.std.specs.Prelude.{ℕ, zero, suc, ◌+◌, ◌^◌, Bool, true, false, not, ◌&&◌, ◌||◌, cond, List, [], ◌∷◌, eqb, ltb, replicate}
-use Rattle.column.specs.Refusals.{first, earlier}
+use Rattle.column.specs.Refusals.{first, earlier, Given, given_unless}
 use Rattle.column.specs.Trees.{every, tree_refusal}
 use Rattle.column.specs.declared.tree.Tree.{Tree}
 use Rattle.bank.specs.Banks.{State, state, column_at, runs, capacity, fresh_bank}
@@ -63,21 +63,26 @@ unfoldable pub counted : (ℕ → Bool) → ℕ → ℕ
 counted f zero = 0
 counted f (suc k) = counted f k + one_if (f k)
 
-abbrev pub losses : ℕ → ℕ → ℕ → ℕ → Losses
-losses refusal kept lost none = record { refusal = refusal; kept = kept; lost = lost; none = none }
+abbrev pub losses : ℕ → ℕ → ℕ → Losses
+losses kept lost none = record { kept = kept; lost = lost; none = none }
 
 -- "how many sets end with record 1, how many with record 0, and how many with no column running", of the first sets
 abbrev pub counted_to : State → ℕ → Losses
 counted_to s sets =
-    losses 0 (counted (λ m. ends_with 1 (ended s m).bank) sets) (counted (λ m. ends_with 0 (ended s m).bank) sets)
+    losses (counted (λ m. ends_with 1 (ended s m).bank) sets) (counted (λ m. ends_with 0 (ended s m).bank) sets)
     (counted (λ m. nobody_runs (ended s m).bank) sets)
 
 -- "for every set of columns"
 abbrev pub counted_of : State → Losses
 counted_of s = counted_to s (2 ^ s.bank.tree.columns)
 
-abbrev pub refused_losses : ℕ → Losses
-refused_losses n = losses n 0 0 0
+-- where the losses are refused no set is counted
+abbrev pub no_losses : Losses
+no_losses = losses 0 0 0
 
 unfoldable pub losses_of : Tree → ℕ → Losses
-losses_of t steps = cond (eqb (losses_refusal t) 0) (counted_of (begun t steps)) (refused_losses (losses_refusal t))
+losses_of t steps = cond (eqb (losses_refusal t) 0) (counted_of (begun t steps)) no_losses
+
+-- the counts, or by which number they are refused
+abbrev pub losses_given : Tree → ℕ → Given Losses
+losses_given t steps = given_unless (losses_refusal t) (losses_of t steps)

@@ -1,32 +1,52 @@
 // A table with a step count as text, and the counts of its losses or the refusal that answers them.
-ghost use Rattle.std.specs.Prelude.{◌≤◌, ◌≡◌, length, drop};
+ghost use Rattle.std.specs.Prelude.{◌≤◌, ◌≡◌, length};
+ghost use Rattle.column.specs.Refusals.{meant};
 ghost use Rattle.text.specs.Text.{number_meant, Writes, Puts};
-ghost use Rattle.losses_text.specs.LossTexts.{step_count, counts_text, asked_text, losses_text};
-ghost use Rattle.losses_text.specs.inner.LossAnswers.{longest_counts};
+ghost use Rattle.losses_text.specs.LossTexts.{step_count, counts_text, losses_text};
+ghost use Rattle.losses_text.specs.inner.LossAnswers.{longest_counts, asked_given, losses_in};
 
-use bank::bank::Answer;
+use column::error::Refusal;
 use column::tree::Tree;
-use losses::count::{Losses, count_losses, losses_refusal};
+use losses::count::{Losses, check_losses, count_losses};
 use table::table::{LIMIT, read_table};
-use text::reading::{Number, read_keyed};
-use text::search::find;
+use text::reading::read_keyed;
+use text::search::line_end;
 use text::writing::put_field;
 
 // Room for three lines of the longest number that is counted, 256.
 pub const COUNTS: usize = 27;
 
 // The step count of a text that is its line, with the byte 10, and nothing else.
-fn step_count(text: &[u8]) -> Number
+fn step_count(text: &[u8]) -> Option<usize>
     ensures { number_meant result ≡ step_count text.now }
 {
-    let end = find(text, 0, text.len(), b'\n');
-    if end == text.len() {
-        return Number::Unread;
-    }
+    let end = line_end(text, 0)?;
     if end + 1 != text.len() {
-        return Number::Unread;
+        return None;
     }
-    read_keyed(&text[0..end], b"after=", 3)
+    read_keyed(&text[..end], b"after=", 3)
+}
+
+// What is asked of a tree by what follows its table; or 2, 3, 23, 13.
+fn asked(t: Tree, rest: &[u8]) -> Result<Losses, Refusal>
+    ensures { meant result ≡ asked_given t rest.now }
+{
+    check_losses(t)?;
+    let steps = step_count(rest).ok_or(Refusal::MalformedLine)?;
+    count_losses(t, steps)
+}
+
+// What is asked by an input; 13 of one past the limit, what its table is refused with, or 2, 3, 23, 13. `begin` of `script` begins alike; what they share is a
+// test and a call.
+fn losses_of(input: &[u8]) -> Result<Losses, Refusal>
+    ensures { meant result ≡ losses_in input.now }
+{
+    if LIMIT < input.len() {
+        return Err(Refusal::MalformedLine);
+    }
+    let table = read_table(input)?;
+    let rest = input.get(table.end..).unwrap_or_default();
+    asked(table.tree, rest)
 }
 
 fn put_counts(out: &mut [u8], l: Losses) -> usize
@@ -37,36 +57,14 @@ fn put_counts(out: &mut [u8], l: Losses) -> usize
     put_field(out, none, b"none=", l.none as u64)
 }
 
-// What is asked of a tree whose table ends at a place of the input.
-fn put_asked(t: Tree, input: &[u8], at: usize, out: &mut [u8]) -> usize
-    requires { longest_counts ≤ length out.old }
-    ensures { Writes result out.new out.old 0 (asked_text t (drop at input.now)) }
-{
-    let n = losses_refusal(t);
-    if n != 0 {
-        return put_field(out, 0, b"refused=", n as u64);
-    }
-    if input.len() <= at {
-        return put_field(out, 0, b"refused=", 13);
-    }
-    match step_count(&input[at..]) {
-        Number::Unread => put_field(out, 0, b"refused=", 13),
-        Number::Is(steps) => put_counts(out, count_losses(t, steps)),
-    }
-}
-
+// `fastest_text` answers alike, what it reads and with room of its own. What both share is the call that puts a refusal.
 fn put_answer(input: &[u8], out: &mut [u8]) -> usize
     requires { longest_counts ≤ length out.old }
     ensures { Writes result out.new out.old 0 (losses_text input.now) }
 {
-    if LIMIT < input.len() {
-        return put_field(out, 0, b"refused=", 13);
-    }
-    let table = read_table(input);
-    let answer = table.answer;
-    match answer {
-        Answer::Refused(n) => put_field(out, 0, b"refused=", n as u64),
-        Answer::Done => put_asked(table.tree, input, table.end, out),
+    match losses_of(input) {
+        Ok(losses) => put_counts(out, losses),
+        Err(refusal) => put_field(out, 0, b"refused=", u64::from(refusal.number())),
     }
 }
 

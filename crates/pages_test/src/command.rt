@@ -1,94 +1,106 @@
-// A command is five bytes: a letter, and four numbers of a byte each.
-use crate::print::{print_answer, print_byte, print_line, print_number};
-use bank::bank::{Bank, Step, Words};
+// What a command asks, and what is answered.
+use bank::bank::{Bank, Network, Step};
 use bank::dispatch::dispatch;
 use bank::page::{line_up, read};
 use bank::step::perform;
+use column::error::Refusal;
 use column::page::PAGE_SIZE;
 use std::io;
 
-#[derive(Clone, Copy)]
-pub struct Command {
-    pub letter: u8,
-    pub x: u8,
-    pub y: u8,
-    pub z: u8,
-    pub value: u8,
+// The bytes of a command.
+pub const COMMAND_SIZE: usize = 5;
+
+pub enum Command {
+    // The page of a column, a byte to a line, and its line.
+    Page(usize),
+    // The byte of a column's page at an offset.
+    Read(usize, usize),
+    // At most so many steps, as the bank takes them itself.
+    Dispatch(usize),
+    Perform(Step),
 }
 
-// A number of two bytes, low first.
-fn number(low: u8, high: u8) -> u32 {
-    low as u32 + 256 * high as u32
-}
-
-// The offset of a read or a write at column x.
-fn offset_of(c: Command) -> usize {
-    number(c.y, c.z) as usize
-}
-
-// The step of a letter; of any other than these a write.
-fn step(c: Command) -> Step {
-    let letter = c.letter;
-    let i = c.x as usize;
-    let set = number(c.x, c.y);
-    match letter {
-        b'o' => Step::Order(set as u64),
-        b's' => Step::Send(i),
-        b't' => Step::Take(set as usize),
-        b'a' => Step::Ack(i),
-        b'g' => Step::All(i),
-        b'n' => Step::Note(i, c.y as usize),
-        b'h' => Step::Halt(set),
-        b'b' => Step::Back(i),
-        _ => Step::Write(i, offset_of(c), c.value),
+// A letter, and four numbers of a byte each; a number of two bytes has the low one first. Any other letter than these is that of a write.
+// A match, since each letter makes a command of its own parts: a table of functions would hide which.
+impl From<[u8; COMMAND_SIZE]> for Command {
+    fn from(bytes: [u8; COMMAND_SIZE]) -> Command {
+        let [letter, x, y, z, value] = bytes;
+        let i = x as usize;
+        let set = u16::from_le_bytes([x, y]);
+        let offset = u16::from_le_bytes([y, z]) as usize;
+        match letter {
+            b'p' => Command::Page(i),
+            b'r' => Command::Read(i, offset),
+            b'd' => Command::Dispatch(set as usize),
+            b'o' => Command::Perform(Step::Order(set as u64)),
+            b's' => Command::Perform(Step::Send(i)),
+            b't' => Command::Perform(Step::Take(set as usize)),
+            b'a' => Command::Perform(Step::Ack(i)),
+            b'g' => Command::Perform(Step::All(i)),
+            b'n' => Command::Perform(Step::Note(i, y as usize)),
+            b'h' => Command::Perform(Step::Halt(set as u32)),
+            b'b' => Command::Perform(Step::Back(i)),
+            _ => Command::Perform(Step::Write(i, offset, value)),
+        }
     }
 }
 
-// The whole page, a byte to a line.
-fn show_page(out: io::Stdout, b: Bank, i: usize, heads: &Words) -> io::Result<()> {
-    for offset in 0..PAGE_SIZE {
-        print_byte(out, b"byte=", read(b, i, offset, heads))?;
+fn show_byte(out: io::Stdout, byte: Result<u8, Refusal>) -> io::Result<()> {
+    match byte {
+        Ok(value) => println!(out; "byte={value}"),
+        Err(refusal) => println!(out; "{refusal}"),
     }
-    print_line(out, line_up(b, i, heads))
 }
 
-fn run(
-    out: io::Stdout,
-    b: Bank,
-    limit: usize,
-    heads: &mut Words,
-    doors: &mut Words,
-) -> io::Result<Bank> {
-    let r = dispatch(b, limit, heads, doors);
-    let a = r.answer;
-    print_answer(out, a)?;
-    print_number(out, b"steps=", r.steps as u64)?;
-    Ok(r.bank)
+// A bank with the arrays that it is lent.
+#[derive(Drop)]
+pub struct Station {
+    pub bank: Bank,
+    pub network: Network,
 }
 
-// Its answer is printed; the bank after it.
-pub fn obey(
-    out: io::Stdout,
-    b: Bank,
-    c: Command,
-    heads: &mut Words,
-    doors: &mut Words,
-) -> io::Result<Bank> {
-    let letter = c.letter;
-    let i = c.x as usize;
-    if letter == b'p' {
-        show_page(out, b, i, heads)?;
-        return Ok(b);
+impl Station {
+    fn show_page(&self, out: io::Stdout, i: usize) -> io::Result<()> {
+        for offset in 0..PAGE_SIZE {
+            show_byte(out, read(self.bank, i, offset, &self.network.heads))?;
+        }
+        match line_up(self.bank, i, &self.network.heads) {
+            Ok(true) => println!(out; "line=up"),
+            Ok(false) => println!(out; "line=down"),
+            Err(refusal) => println!(out; "{refusal}"),
+        }
     }
-    if letter == b'r' {
-        print_byte(out, b"byte=", read(b, i, offset_of(c), heads))?;
-        return Ok(b);
+
+    fn dispatch(&mut self, out: io::Stdout, limit: usize) -> io::Result<()> {
+        match dispatch(self.bank, limit, &mut self.network) {
+            Ok(done) => {
+                self.bank = done.bank;
+                println!(out; "ok\nsteps={}", done.steps)
+            }
+            Err(refusal) => println!(out; "{refusal}\nsteps=0"),
+        }
     }
-    if letter == b'd' {
-        return run(out, b, number(c.x, c.y) as usize, heads, doors);
+
+    fn perform(&mut self, out: io::Stdout, step: Step) -> io::Result<()> {
+        match perform(self.bank, step, &mut self.network) {
+            Ok(bank) => {
+                self.bank = bank;
+                println!(out; "ok")
+            }
+            Err(refusal) => println!(out; "{refusal}"),
+        }
     }
-    let r = perform(b, step(c), heads, doors);
-    let a = r.answer;
-    print_answer(out, a)?;
-    Ok(r.bank)
+
+    // The command is obeyed, and its answer printed.
+    pub fn obey(&mut self, out: io::Stdout, command: Command) -> io::Result<()> {
+        match command {
+            Command::Page(i) => self.show_page(out, i),
+            Command::Read(i, offset) => show_byte(
+                out,
+                read(self.bank, i, offset, &self.network.heads),
+            ),
+            Command::Dispatch(limit) => self.dispatch(out, limit),
+            Command::Perform(step) => self.perform(out, step),
+        }
+    }
 }

@@ -4,7 +4,6 @@
 
 mod command;
 mod input;
-mod print;
 
 use std::io;
 

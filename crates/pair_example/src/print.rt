@@ -1,61 +1,34 @@
-// The parts of a line: a key and its value.
+// The parts of a line.
+use std::fmt;
 
-use std::io;
+// Two digits for each byte.
+#[derive(Drop)]
+pub struct Hex<'a>(pub &'a [u8]);
 
-pub fn print(out: io::Stdout, text: &[u8]) -> io::Result<()> {
-    out.write_all(text)
-}
-
-pub fn print_number(out: io::Stdout, key: &[u8], n: u64) -> io::Result<()> {
-    print(out, key)?;
-    print!(out; "{n}")
-}
-
-pub fn print_line(out: io::Stdout, key: &[u8], n: u64) -> io::Result<()> {
-    print_number(out, key, n)?;
-    print(out, b"\n")
-}
-
-pub fn print_bytes(out: io::Stdout, key: &[u8], bytes: &[u8]) -> io::Result<()> {
-    print(out, key)?;
-    for byte in bytes {
-        print!(out; "{byte:02x}")?;
-    }
-    print(out, b"\n")
-}
-
-pub fn wide(byte: u8) -> u64 {
-    byte as u64
-}
-
-// Byte 0 first, as a packet has them.
-pub fn print_doors(out: io::Stdout, doors: u64) -> io::Result<()> {
-    let mut bytes = [0u8; 8];
-    let mut rest = doors;
-    for i in 0..8 {
-        bytes[i] = (rest % 256) as u8;
-        rest = rest / 256;
-    }
-    print_bytes(out, b"doors=", &bytes)
-}
-
-// A comma is before each but the first.
-fn print_member(out: io::Stdout, first: bool, n: u64) -> io::Result<()> {
-    if !first {
-        print(out, b",")?;
-    }
-    print!(out; "{n}")
-}
-
-// The columns whose bits are set, lowest first.
-pub fn print_set(out: io::Stdout, key: &[u8], set: u16) -> io::Result<()> {
-    print(out, key)?;
-    let mut first = true;
-    for i in 0..16u64 {
-        if (set >> i) % 2 == 1 {
-            print_member(out, first, i)?;
-            first = false;
+impl fmt::Display for Hex<'_> {
+    fn fmt<W: fmt::Write>(&self, f: &mut fmt::Formatter<W>) -> fmt::Result {
+        for byte in self.0 {
+            write!(f, "{byte:02x}")?;
         }
+        Ok(())
     }
-    Ok(())
+}
+
+// The columns whose bits are set, lowest first, with a comma before each but the first. That of handed_test has braces: what both share would be a
+// public type of the core, which prints no sets.
+#[derive(Drop)]
+pub struct Set(pub u16);
+
+impl fmt::Display for Set {
+    fn fmt<W: fmt::Write>(&self, f: &mut fmt::Formatter<W>) -> fmt::Result {
+        let set = self.0;
+        let members = (0..16u32).filter(|i| (set >> i) % 2 == 1);
+        for (before, member) in members.enumerate() {
+            if 0 < before {
+                write!(f, ",")?;
+            }
+            write!(f, "{member}")?;
+        }
+        Ok(())
+    }
 }

@@ -1,8 +1,9 @@
 // A tree of five columns and what the core answers of it, beside the sentences of document 01.
-use crate::print::{print, print_line, print_number, print_set, wide};
-use column::topology::{Members, children, subtree, subtrees};
+use crate::print::Set;
+use column::error::Refusal;
+use column::topology::{children, subtree, subtrees};
 use column::tree::{ASCENDING, Tree};
-use std::io;
+use std::{fmt, io};
 
 // Column 2 is the root. Its children are 0 and 3; 1 is the child of 0, and 4 that of 1.
 const TREE: Tree = Tree {
@@ -13,55 +14,47 @@ const TREE: Tree = Tree {
     watch: false,
 };
 
-fn print_members(out: io::Stdout, name: &[u8], answer: Members) -> io::Result<()> {
-    print(out, name)?;
-    match answer {
-        Members::Set(set) => print_set(out, b"=", set)?,
-        Members::Refused(n) => print_number(out, b" refused=", wide(n))?,
+// What the core answers with a set.
+#[derive(Drop)]
+struct Members(Result<u16, Refusal>);
+
+impl fmt::Display for Members {
+    fn fmt<W: fmt::Write>(&self, f: &mut fmt::Formatter<W>) -> fmt::Result {
+        match self.0 {
+            Ok(set) => write!(f, "={}", Set(set)),
+            Err(refusal) => write!(f, " {refusal}"),
+        }
     }
-    Ok(())
 }
 
 fn show_column(out: io::Stdout, c: usize) -> io::Result<()> {
     let t = TREE;
-    print_number(out, b"column=", c as u64)?;
+    print!(out; "column={c}")?;
     if c < t.columns {
-        print_number(out, b" up=", wide(t.up[c]))?;
+        print!(out; " up={}", t.up[c])?;
     }
     let below = children(t, c);
-    print_members(out, b" children", below)?;
-    if let Members::Set(set) = below {
-        print_members(out, b" subtrees", subtrees(t, set))?;
+    print!(out; " children{}", Members(below))?;
+    if let Ok(set) = below {
+        print!(out; " subtrees{}", Members(subtrees(t, set)))?;
     }
-    print_members(out, b" subtree", subtree(t, c))?;
-    print(out, b"\n")
+    println!(out; " subtree{}", Members(subtree(t, c)))
 }
 
 fn show_set(out: io::Stdout, set: u16) -> io::Result<()> {
-    print_set(out, b"set=", set)?;
-    print_members(out, b" subtrees", subtrees(TREE, set))?;
-    print(out, b"\n")
+    let below = Members(subtrees(TREE, set));
+    println!(out; "set={} subtrees{below}", Set(set))
 }
 
 // The tree has no column 5: alone and in a set it is refused with 4.
 pub fn show(out: io::Stdout) -> io::Result<()> {
-    let t = TREE;
-    print_line(out, b"columns=", t.columns as u64)?;
-    print_line(out, b"root=", t.root as u64)?;
-    print(
-        out,
-        b"The subtree of a column is the column with the subtrees of its children:\n",
-    )?;
-    show_column(out, 0)?;
-    show_column(out, 1)?;
-    show_column(out, 2)?;
-    show_column(out, 3)?;
-    show_column(out, 4)?;
-    show_column(out, 5)?;
-    print(
-        out,
-        b"The subtrees of a list are its first member's with those of the rest:\n",
-    )?;
+    println!(out; "columns={}", TREE.columns)?;
+    println!(out; "root={}", TREE.root)?;
+    println!(out; "The subtree of a column is the column with the subtrees of its children:")?;
+    for c in 0..6 {
+        show_column(out, c)?;
+    }
+    println!(out; "The subtrees of a list are its first member's with those of the rest:")?;
     show_set(out, 1 << 1 | 1 << 3)?;
     show_set(out, 1 << 1 | 1 << 5)
 }

@@ -1,13 +1,13 @@
 -- The lines of a script after its table, after document 01, "The script program".
-use Rattle.std.specs.Prelude.{ℕ, ◌+◌, ◌-◌, ◌*◌, Bool, true, ◌&&◌, ◌||◌, cond, List, [], ◌∷◌, eqb, leb, ltb, length}
+use Rattle.std.specs.Prelude.{ℕ, ◌+◌, ◌-◌, ◌*◌, Bool, true, ◌&&◌, ◌||◌, cond, List, [], ◌∷◌, Option, Some, None, eqb, leb, ltb, length}
 use Rattle.column.specs.Sets.{insert}
 use Rattle.column.specs.Packets.{low_value}
 use Rattle.text.specs.Text.{order_key, send_key, take_key, ack_key, all_key, note_key, halt_key, back_key, list_key, run_key, Reading, read, unread, is_digit, numeral, after_key}
 use Rattle.text.specs.Pieces.{pieces, numerals, keyed}
 use Rattle.bank.specs.declared.bank.Step.{Step}
 use Rattle.bank.specs.declared.bank.Step.TheVariants.{Order, Send, Take, Ack, All, Note, Halt, Back}
-use Rattle.script.specs.declared.line.Parsed as parsed
-use Rattle.script.specs.declared.line.Parsed.TheVariants as parsed-is
+use Rattle.script.specs.declared.line.Command as line
+use Rattle.script.specs.declared.line.Command.TheVariants as line-is
 
 -- what a line asks for
 pub data Command : Type 0 where
@@ -15,12 +15,16 @@ pub data Command : Type 0 where
   list : ℕ → Command
   dispatch : ℕ → Command
 
--- the values of each case of `Parsed`
-abbrev pub parsed_meant : parsed.Parsed → Reading Command
-parsed_meant (parsed-is.Perform x) = read (perform x)
-parsed_meant (parsed-is.List i) = read (list i)
-parsed_meant (parsed-is.Dispatch limit) = read (dispatch limit)
-parsed_meant parsed-is.Unread = unread
+-- the values of each case of the code's enum
+abbrev pub command_meant : line.Command → Command
+command_meant (line-is.Perform x) = perform x
+command_meant (line-is.List i) = list i
+command_meant (line-is.Dispatch limit) = dispatch limit
+
+-- what `parse` answers
+abbrev pub parsed_meant : Option line.Command → Reading Command
+parsed_meant (Some c) = read (command_meant c)
+parsed_meant None = unread
 
 -- ---- "`order=` with 16 lowercase hexadecimal digits (byte 0 first)"
 

@@ -1,34 +1,34 @@
-// The text that a line of a script answers.
+// The text that a line of a script answers. The buffer and the place in it go apart for speed, as in `text::writing`, so that no type holds them and each function
+// that writes asks for the room of the longest text. A place in the buffer and the number of a column have nothing to do with one another.
 ghost use Rattle.std.specs.Prelude.{◌+◌, ◌≤◌, length};
+ghost use Rattle.column.specs.Refusals.{refusal_number};
 ghost use Rattle.list.specs.Closing.{longest_list};
-ghost use Rattle.text.specs.Text.{refused_text, Writes};
+ghost use Rattle.text.specs.Text.{step_ok, refused_text, Writes};
 ghost use Rattle.script.specs.Scripts.{steps_text};
-ghost use Rattle.script.specs.inner.ScriptLines.{WritesStep, WritesDispatch, WritesColumn};
+ghost use Rattle.script.specs.inner.ScriptLines.{WritesColumn};
 
-use bank::bank::Answer;
-use bank::unchecked_for_script::Tested;
+use column::error::Refusal;
 use column::state::Column;
 use list::list::put_list;
 use text::writing::{put_all, put_field};
 
-pub(crate) fn put_refused(out: &mut [u8], at: usize, n: u8) -> usize
+pub(crate) fn put_refused(out: &mut [u8], at: usize, refusal: Refusal) -> usize
     requires { at + longest_list ≤ length out.old }
-    ensures { Writes result out.new out.old at (refused_text n) }
+    ensures { Writes result out.new out.old at (refused_text (refusal_number refusal)) }
 {
-    put_field(out, at, b"refused=", n as u64)
+    put_field(out, at, b"refused=", u64::from(refusal.number()))
 }
 
-pub(crate) fn put_step(answer: Answer, out: &mut [u8], at: usize) -> usize
+// What an accepted step says.
+pub(crate) fn put_step(out: &mut [u8], at: usize) -> usize
     requires { at + longest_list ≤ length out.old }
-    ensures { WritesStep result out.new out.old at answer }
+    ensures { Writes result out.new out.old at step_ok }
 {
-    match answer {
-        Answer::Done => put_all(out, at, b"step=ok\n"),
-        Answer::Refused(n) => put_refused(out, at, n),
-    }
+    put_all(out, at, b"step=ok\n")
 }
 
-fn put_steps(steps: usize, out: &mut [u8], at: usize) -> usize
+// What a dispatch of so many steps says.
+pub(crate) fn put_steps(out: &mut [u8], at: usize, steps: usize) -> usize
     requires { at + longest_list ≤ length out.old }
     ensures { Writes result out.new out.old at (steps_text steps) }
 {
@@ -36,38 +36,27 @@ fn put_steps(steps: usize, out: &mut [u8], at: usize) -> usize
     put_all(out, end, b"step=ok\n")
 }
 
-pub(crate) fn put_dispatched(answer: Answer, steps: usize, out: &mut [u8], at: usize) -> usize
-    requires { at + longest_list ≤ length out.old }
-    ensures { WritesDispatch result out.new out.old at steps answer }
-{
-    match answer {
-        Answer::Done => put_steps(steps, out, at),
-        Answer::Refused(n) => put_refused(out, at, n),
-    }
-}
-
-// The list of column i, whose place is c, of a bank that has so many columns and of which v is known. A number that no place has is taken as that number less a
+// The list of column i, whose place is c, of a bank that has so many columns and of which this is known. A number that no place has is taken as that number less a
 // multiple of 16.
 pub(crate) fn put_column(
-    v: Tested,
+    out: &mut [u8],
+    at: usize,
+    known: Result<u16, Refusal>,
     columns: usize,
     i: usize,
     c: Column,
-    out: &mut [u8],
-    at: usize,
 ) -> usize
     requires { at + longest_list ≤ length out.old }
-    ensures { WritesColumn result out.new out.old at v columns i c }
+    ensures { WritesColumn result out.new out.old at known columns i c }
 {
-    let n = v.refusal;
-    if n != 0 {
-        return put_refused(out, at, n);
+    if let Err(refusal) = known {
+        return put_refused(out, at, refusal);
     }
     if columns <= i {
-        return put_refused(out, at, 4);
+        return put_refused(out, at, Refusal::OutOfBank);
     }
     if !c.running {
-        return put_refused(out, at, 5);
+        return put_refused(out, at, Refusal::Halted);
     }
     put_list(out, at, i % 16, c)
 }

@@ -5,5 +5,5 @@ mod answer;
 pub mod bank_list;
 mod hexadecimal;
 pub mod line;
+mod one_line;
 pub mod script;
-mod whole_line;

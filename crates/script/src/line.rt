@@ -1,153 +1,91 @@
 // A line of a script.
-ghost use Rattle.std.specs.Prelude.{◌≤◌, ◌≡◌};
+ghost use Rattle.std.specs.Prelude.{◌≡◌};
 ghost use Rattle.column.specs.Sets.{insert};
 ghost use Rattle.text.specs.Text.{read, order_key, note_key, halt_key, after_key};
-ghost use Rattle.text.specs.Pieces.{pieces, numerals, keyed};
-ghost use Rattle.script.specs.Lines.{parsed_meant, asking, doors_in, note_in, member_of, halt_after, halt_in, command_of};
-ghost use Rattle.script.specs.inner.ScriptLines.{asked};
+ghost use Rattle.text.specs.Pieces.{pieces, numerals};
+ghost use Rattle.script.specs.Lines.{parsed_meant, doors_in, note_in, member_of, halt_after, halt_in, command_of};
 
-use crate::hexadecimal::{Doors, read_doors};
+use crate::hexadecimal::read_doors;
 use bank::bank::Step;
-use text::reading::{Number, read_keyed, read_numeral, starts_with};
-use text::search::find;
-
-// The set of column 16, which no bank has.
-const SIXTEEN: u32 = 65536;
+use text::reading::{read_keyed, read_numeral};
 
 // What a line asks for.
 #[derive(Clone, Copy)]
-pub enum Parsed {
+pub enum Command {
     Perform(Step),
     List(usize),
     Dispatch(usize),
-    Unread,
 }
 
-// What is asked with one number, a column, a place or a limit.
-#[derive(Clone, Copy)]
-enum Asked {
-    Send,
-    Take,
-    Ack,
-    All,
-    Back,
-    List,
-    Run,
-}
-
-fn command(kind: Asked, n: usize) -> Parsed
-    ensures { parsed_meant result ≡ read (asked kind n) }
-{
-    match kind {
-        Asked::Send => Parsed::Perform(Step::Send(n)),
-        Asked::Take => Parsed::Perform(Step::Take(n)),
-        Asked::Ack => Parsed::Perform(Step::Ack(n)),
-        Asked::All => Parsed::Perform(Step::All(n)),
-        Asked::Back => Parsed::Perform(Step::Back(n)),
-        Asked::List => Parsed::List(n),
-        Asked::Run => Parsed::Dispatch(n),
-    }
-}
-
-fn numbered(line: &[u8], key: &[u8], width: usize, kind: Asked) -> Parsed
-    requires { width ≤ 4 }
-    ensures { parsed_meant result ≡ asking (asked kind) (keyed key.now width line.now) }
-{
-    match read_keyed(line, key, width) {
-        Number::Is(n) => command(kind, n),
-        Number::Unread => Parsed::Unread,
-    }
-}
-
-fn order(line: &[u8]) -> Parsed
+fn order(line: &[u8]) -> Option<Command>
     ensures { parsed_meant result ≡ doors_in (after_key order_key line.now) }
 {
-    if !starts_with(line, b"order=") {
-        return Parsed::Unread;
-    }
-    match read_doors(&line[6..]) {
-        Doors::Are(doors) => Parsed::Perform(Step::Order(doors)),
-        Doors::Unread => Parsed::Unread,
-    }
+    let doors = read_doors(line.strip_prefix(b"order=")?)?;
+    Some(Command::Perform(Step::Order(doors)))
 }
 
-// A second comma is no digit, so that what follows the first is read only where there is no other.
-fn note(line: &[u8]) -> Parsed
+// Two columns divided by a comma. A second comma is no digit, so that what follows the first is read only where there is no other.
+fn note_columns(text: &[u8]) -> Option<Command>
+    ensures { parsed_meant result ≡ note_in (read text.now) }
+{
+    let comma = text.iter().position(|byte| *byte == b',')?;
+    let i = read_numeral(&text[..comma], 2)?;
+    let j = read_numeral(&text[comma + 1..], 2)?;
+    Some(Command::Perform(Step::Note(i, j)))
+}
+
+fn note(line: &[u8]) -> Option<Command>
     ensures { parsed_meant result ≡ note_in (after_key note_key line.now) }
 {
-    if !starts_with(line, b"note=") {
-        return Parsed::Unread;
-    }
-    let end = line.len();
-    let comma = find(line, 5, end, b',');
-    if comma == end {
-        return Parsed::Unread;
-    }
-    match read_numeral(&line[5..comma], 2) {
-        Number::Unread => Parsed::Unread,
-        Number::Is(i) => match read_numeral(&line[comma + 1..], 2) {
-            Number::Unread => Parsed::Unread,
-            Number::Is(j) => Parsed::Perform(Step::Note(i, j)),
-        },
-    }
+    note_columns(line.strip_prefix(b"note=")?)
 }
 
-// A number that no bank has joins the set as member 16.
+// A number that no bank has joins the set as member 16, which no bank has either.
 fn with_member(m: u32, n: usize) -> u32
     ensures { result ≡ insert m (member_of n) }
 {
-    if n < 16 {
-        return m | (1u32 << n);
-    }
-    m | SIXTEEN
+    m | (1u32 << n.min(16))
 }
 
 // The numerals of a text divided by commas, as a set.
-fn members_in(text: &[u8]) -> Parsed
+fn members_in(text: &[u8]) -> Option<Command>
     ensures { parsed_meant result ≡ halt_after 0 (numerals (pieces text.now)) }
 {
     let mut set: u32 = 0;
-    let mut from: usize = 0;
-    while from <= text.len() {
-        let to = find(text, from, text.len(), b',');
-        match read_numeral(&text[from..to], 2) {
-            Number::Is(n) => set = with_member(set, n),
-            Number::Unread => return Parsed::Unread,
-        }
-        from = to + 1;
+    for piece in text.split(|byte| *byte == b',') {
+        set = with_member(set, read_numeral(piece, 2)?);
     }
-    Parsed::Perform(Step::Halt(set))
+    Some(Command::Perform(Step::Halt(set)))
 }
 
-fn halt(line: &[u8]) -> Parsed
+fn halt(line: &[u8]) -> Option<Command>
     ensures { parsed_meant result ≡ halt_in (after_key halt_key line.now) }
 {
-    if !starts_with(line, b"halt=") {
-        return Parsed::Unread;
-    }
-    members_in(&line[5..])
+    members_in(line.strip_prefix(b"halt=")?)
 }
 
-// What a line asks for, its byte 10 left out; `Unread` where it is of no form. No two keys but `ack=` and `all=` begin with the same byte.
-pub fn parse(line: &[u8]) -> Parsed
+// What a line asks for, its byte 10 left out; nothing where it is of no form. No two keys but `ack=` and `all=` begin with the same byte. Document 01 asks that
+// lines are matched by single bytes into a step, so it is a `match`, of which no two arms read the same.
+#[tactic(auto, using(crate::specs::laws::LineLaws::keyed_lines), unfolding(crate::specs::Lines::asking))]
+pub fn parse(line: &[u8]) -> Option<Command>
     ensures { parsed_meant result ≡ command_of line.now }
 {
     if line.len() < 2 {
-        return Parsed::Unread;
+        return None;
     }
     match line[0] {
         b'o' => order(line),
-        b's' => numbered(line, b"send=", 2, Asked::Send),
-        b't' => numbered(line, b"take=", 3, Asked::Take),
+        b's' => Some(Command::Perform(Step::Send(read_keyed(line, b"send=", 2)?))),
+        b't' => Some(Command::Perform(Step::Take(read_keyed(line, b"take=", 3)?))),
         b'a' => match line[1] {
-            b'c' => numbered(line, b"ack=", 2, Asked::Ack),
-            _ => numbered(line, b"all=", 2, Asked::All),
+            b'c' => Some(Command::Perform(Step::Ack(read_keyed(line, b"ack=", 2)?))),
+            _ => Some(Command::Perform(Step::All(read_keyed(line, b"all=", 2)?))),
         },
         b'n' => note(line),
         b'h' => halt(line),
-        b'b' => numbered(line, b"back=", 2, Asked::Back),
-        b'l' => numbered(line, b"list=", 2, Asked::List),
-        b'r' => numbered(line, b"run=", 4, Asked::Run),
-        _ => Parsed::Unread,
+        b'b' => Some(Command::Perform(Step::Back(read_keyed(line, b"back=", 2)?))),
+        b'l' => Some(Command::List(read_keyed(line, b"list=", 2)?)),
+        b'r' => Some(Command::Dispatch(read_keyed(line, b"run=", 4)?)),
+        _ => None,
     }
 }

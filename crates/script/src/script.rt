@@ -1,23 +1,23 @@
 // A script's run: the table's answer, then each line's, last whether the bank is at rest. A caller lends a buffer, prints the texts that were
-// written into it and lends it again, so that no buffer bounds what a script prints.
+// written into it and lends it again, so that no buffer bounds what a script prints. The buffer and the place in it go apart, as in `answer`.
 ghost use Rattle.std.specs.Prelude.{◌+◌, ◌≤◌, ◌<◌, ◌≡◌, length};
 ghost use Rattle.bank.specs.Banks.{state};
 ghost use Rattle.list.specs.Closing.{longest_list};
 ghost use Rattle.script.specs.Scripts.{rest_text};
 ghost use Rattle.script.specs.Advances.{progress_of, start_run, Advanced, buffer_size, fill};
 ghost use Rattle.text.specs.Text.{Writes};
-ghost use Rattle.script.specs.inner.ScriptLines.{ReadsLine, AdvancedFirst, run_to, Reaches, Fills};
+ghost use Rattle.script.specs.inner.ScriptLines.{ReadsLine, Begins, AdvancedFirst, run_to, Reaches, Fills};
 
-use crate::answer::{put_column, put_refused, put_step};
-use crate::line::{Parsed, parse};
-use crate::whole_line::{by_place, whole_line};
-use bank::bank::{Answer, Bank, NO_COLUMN, Words, fresh};
+use crate::answer::put_refused;
+use crate::line::{Command, parse};
+use crate::one_line::answer_line;
+use bank::bank::{Bank, Network, fresh};
 use bank::rest::at_rest;
-use bank::unchecked_for_script::{acting, step_on, test_bank, untested};
+use column::error::Refusal;
 use column::tree::{ASCENDING, Tree};
 use list::list::LONGEST;
 use table::table::{LIMIT, read_table};
-use text::search::find;
+use text::search::line_end;
 use text::writing::put_all;
 
 // What a run is lent for its texts.
@@ -26,6 +26,7 @@ pub const BUFFER: usize = 16384;
 // Up to here the longest text fits.
 const ROOM: usize = BUFFER - LONGEST;
 
+// Two flags, since a run that is over prints nothing, whether its table is read or not.
 #[derive(Clone, Copy)]
 pub struct Run {
     pub bank: Bank,
@@ -35,15 +36,22 @@ pub struct Run {
     pub begun: bool,
     // Nothing more is printed.
     pub over: bool,
-    // How many bytes of the lent buffer are the text to print.
+    // How many bytes of the lent buffer are the text to print. The buffer is the caller's, and no part of the run.
     pub length: usize,
 }
 
 #[derive(Clone, Copy)]
 struct NextLine {
-    parsed: Parsed,
+    command: Option<Command>,
     // Where the line after it begins.
     next: usize,
+}
+
+// A fresh bank, and where its table ends.
+#[derive(Clone, Copy)]
+struct Begun {
+    bank: Bank,
+    position: usize,
 }
 
 // A run whose table is read.
@@ -59,108 +67,92 @@ fn run_to(bank: Bank, position: usize, over: bool, length: usize) -> Run
     }
 }
 
-fn put_rest(b: Bank, heads: &Words, doors: &Words, out: &mut [u8], at: usize) -> usize
+fn put_rest(b: Bank, network: &Network, out: &mut [u8], at: usize) -> usize
     requires { at + longest_list ≤ length out.old }
-    ensures { Writes result out.new out.old at (rest_text (state b heads.now doors.now)) }
+    ensures { Writes result out.new out.old at (rest_text (state b network.now.heads network.now.doors)) }
 {
-    if at_rest(b, heads, doors) {
+    if at_rest(b, network) {
         return put_all(out, at, b"rest=yes\n");
     }
     put_all(out, at, b"rest=no\n")
 }
 
-// The line that begins at `start`; a last piece without byte 10 is unread.
+// The line that begins at `start`; a last piece without byte 10 is of no form. The input is lent whole, since the next line's place is one of it.
 fn next_line(input: &[u8], start: usize) -> NextLine
     requires { start < length input.now }
     ensures { ReadsLine result input.now start }
 {
-    let end = find(input, start, input.len(), b'\n');
-    if end == input.len() {
-        return NextLine {
-            parsed: Parsed::Unread,
-            next: end,
-        };
+    match line_end(input, start) {
+        Some(end) => NextLine {
+            command: parse(&input[start..end]),
+            next: end + 1,
+        },
+        None => NextLine {
+            command: None,
+            next: input.len(),
+        },
     }
-    let parsed = parse(&input[start..end]);
-    let next = end + 1;
-    NextLine { parsed, next }
 }
 
-// The next lines, until all are read or the buffer is full. The bank is a local all through them. It is tested before a line that goes by place where that is
-// the first of this call or follows one that does not; after a line that goes by place no more is tested than what this can have changed.
-fn lines(r: Run, input: &[u8], heads: &mut Words, doors: &mut Words, out: &mut [u8]) -> Run
+// The next lines, until all are read or the buffer is full. The bank is a local all through them, of which nothing is known at first. A `while`, since a line ends
+// where its byte 10 is, and how much room it leaves is known once it is answered. The run, the input and the network are lent anew at each call of `fill`.
+fn lines(r: Run, input: &[u8], network: &mut Network, out: &mut [u8]) -> Run
     requires { buffer_size ≤ length out.old }
-    ensures { Reaches result heads.new doors.new out.new input.now r (state r.bank heads.old doors.old) out.old }
+    ensures { Reaches result network.new.heads network.new.doors out.new input.now r (state r.bank network.old.heads network.old.doors) out.old }
 {
     let mut bank = r.bank;
+    let mut known = None;
     let mut position = r.position;
     let mut at = r.length;
-    let mut v = untested();
     while (at <= ROOM) & (position < input.len()) {
-        let read = next_line(input, position);
-        position = read.next;
-        let parsed = read.parsed;
-        if !by_place(parsed) {
-            let done = whole_line(bank, parsed, heads, doors, out, at);
-            bank = done.bank;
-            at = done.end;
-            v = untested();
-        } else {
-            if !v.known {
-                v = test_bank(bank, heads);
-            }
-            let t = bank.tree;
-            match parsed {
-                Parsed::Perform(x) => {
-                    let i = acting(t, x, heads);
-                    let done = step_on(v, t, x, i, bank.columns[i % 16], bank.count, heads, doors);
-                    let c = done.column;
-                    bank.columns[i % 16] = c;
-                    bank.count = done.count;
-                    v.refusal = done.refusal;
-                    let answer = done.answer;
-                    at = put_step(answer, out, at);
-                }
-                Parsed::List(i) => at = put_column(v, t.columns, i, bank.columns[i % 16], out, at),
-                Parsed::Dispatch(_) | Parsed::Unread => at = put_refused(out, at, 13),
-            }
-        }
+        let line = next_line(input, position);
+        position = line.next;
+        at = answer_line(&mut bank, &mut known, line.command, network, out, at);
     }
     run_to(bank, position, false, at)
 }
 
 // After the table.
-fn later(r: Run, input: &[u8], heads: &mut Words, doors: &mut Words, out: &mut [u8]) -> Run
+fn later(r: Run, input: &[u8], network: &mut Network, out: &mut [u8]) -> Run
     requires { buffer_size ≤ length out.old }
-    ensures { Fills result heads.new doors.new out.new input.now r (state r.bank heads.old doors.old) out.old }
+    ensures { Fills result network.new.heads network.new.doors out.new input.now r (state r.bank network.old.heads network.old.doors) out.old }
 {
-    let run = lines(r, input, heads, doors, out);
+    let run = lines(r, input, network, out);
     if ROOM < run.length {
         return run;
     }
-    let at = put_rest(run.bank, heads, doors, out, run.length);
+    let at = put_rest(run.bank, network, out, run.length);
     run_to(run.bank, run.position, true, at)
+}
+
+// The fresh bank of the table that an input begins with, and where the table ends; 13 of an input past the limit, or what the table is refused with.
+// `losses_of` of `losses_text` begins alike; what they share is a test and a call.
+fn begin(input: &[u8]) -> Result<Begun, Refusal>
+    ensures { Begins result input.now }
+{
+    if LIMIT < input.len() {
+        return Err(Refusal::MalformedLine);
+    }
+    let table = read_table(input)?;
+    let bank = fresh(table.tree)?;
+    Ok(Begun {
+        bank,
+        position: table.end,
+    })
 }
 
 fn first(r: Run, input: &[u8], out: &mut [u8]) -> Run
     requires { longest_list ≤ length out.old }
     ensures { AdvancedFirst result out.new out.old input.now r }
 {
-    if LIMIT < input.len() {
-        let length = put_refused(out, 0, 13);
-        return run_to(r.bank, r.position, true, length);
-    }
-    let table = read_table(input);
-    let answer = table.answer;
-    match answer {
-        Answer::Refused(n) => {
-            let length = put_refused(out, 0, n);
-            run_to(r.bank, r.position, true, length)
-        }
-        Answer::Done => {
+    match begin(input) {
+        Ok(begun) => {
             let length = put_all(out, 0, b"table=ok\n");
-            let made = fresh(table.tree);
-            run_to(made.bank, table.end, false, length)
+            run_to(begun.bank, begun.position, false, length)
+        }
+        Err(refusal) => {
+            let length = put_refused(out, 0, refusal);
+            run_to(r.bank, r.position, true, length)
         }
     }
 }
@@ -170,17 +162,13 @@ pub fn start() -> Run
     ensures { result ≡ start_run }
 {
     Run {
-        bank: Bank {
-            tree: Tree {
-                columns: 0,
-                root: 0,
-                up: [0; 16],
-                first: ASCENDING,
-                watch: false,
-            },
-            columns: [NO_COLUMN; 16],
-            count: 0,
-        },
+        bank: Bank::empty(Tree {
+            columns: 0,
+            root: 0,
+            up: [0; 16],
+            first: ASCENDING,
+            watch: false,
+        }),
         position: 0,
         begun: false,
         over: false,
@@ -190,14 +178,8 @@ pub fn start() -> Run
 
 // The run after its next texts, which are the first `length` bytes of `out`: all, or as many until less room is left than the longest
 // takes; a run that is over has none left.
-pub fn fill(
-    r: Run,
-    input: &[u8],
-    heads: &mut Words,
-    doors: &mut Words,
-    out: &mut [u8; BUFFER],
-) -> Run
-    ensures { Advanced result heads.new doors.new out.new out.old (fill input.now (progress_of r heads.old doors.old out.old)) }
+pub fn fill(r: Run, input: &[u8], network: &mut Network, out: &mut [u8; BUFFER]) -> Run
+    ensures { Advanced result network.new.heads network.new.doors out.new out.old (fill input.now (progress_of r network.old.heads network.old.doors out.old)) }
 {
     let mut run = r;
     run.length = 0;
@@ -205,11 +187,11 @@ pub fn fill(
         return run;
     }
     if run.begun {
-        return later(run, input, heads, doors, out);
+        return later(run, input, network, out);
     }
     let begun = first(run, input, out);
     if begun.over {
         return begun;
     }
-    later(begun, input, heads, doors, out)
+    later(begun, input, network, out)
 }

@@ -8,7 +8,7 @@ ghost use Rattle.std.specs.Io.KnownBytes.{Consumes, IsAtEnd};
 use std::io::{Read, Result};
 
 // Reads until `bytes` is full, the input ends or a read fails. Answers how many bytes are at the start of `bytes`, and the error of the read that failed:
-// with no error they are all of the input, unless it fills `bytes`.
+// with no error they are all of the input, unless it fills `bytes`. A loop over `read`, since std's `read_exact` does not say what it read before an error.
 pub fn read_full<R: Read>(input: &mut R, bytes: &mut [u8]) -> (usize, Result<()>)
     ensures fits { IsPrefixLen result.0 bytes.new }
     ensures read { Consumes (R.remaining input.old) (R.remaining input.new) (take result.0 bytes.new) }

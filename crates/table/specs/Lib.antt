@@ -1,4 +1,5 @@
 pub mod Tables
+pub mod TableReads
 pub mod inner
 pub mod laws
 pub mod examples

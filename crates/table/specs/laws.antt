@@ -1,3 +1,5 @@
+pub mod HeldLaws
+pub mod PieceLaws
 pub mod NumberListLaws
 pub mod TableLaws
 pub mod TableTexts

@@ -1,243 +1,194 @@
 // A bank's table as text: three lines that give a tree, and where there are more of its own, the tree's sequence and whom columns watch.
-ghost use Rattle.std.specs.Prelude.{◌≤◌, false, length, drop, ◌≡◌};
-ghost use Rattle.bank.specs.Steps.{answered, refused};
-ghost use Rattle.text.specs.Text.{read, starts_with};
-ghost use Rattle.table.specs.Tables.{sequence_line, watch_line, further_lines, counted_refusal, placed_at, no_tree, read_table};
-ghost use Rattle.table.specs.inner.HeldTables.{sequence_meant, held_from, watch_meant, watch_from, further_meant, further_from, unlisted_read, watched_read, tree_judged, held_judged, lines_judged};
+ghost use Rattle.std.specs.Prelude.{◌≤◌, length, ◌≡◌, IfSome};
+ghost use Rattle.column.specs.Refusals.{refusal_of};
+ghost use Rattle.table.specs.Tables.{sequence_line, watch_line, further_lines, table_of, counted_refusal, read_table};
+ghost use Rattle.table.specs.TableReads.{table_meant};
+ghost use Rattle.table.specs.inner.Held.{held};
+ghost use Rattle.table.specs.inner.HeldTables.{sequence_held, watch_held, further_held, lines_held, tree_of_lines, listed_in};
 
-use crate::number_list::{NO_LIST, NumberList, numbers_of};
-use bank::bank::Answer;
-use column::precedence::{earlier, refuse_if};
-use column::topology::tree_refusal;
+use crate::number_list::{NumberList, numbers_of};
+use column::error::Refusal;
+use column::topology::check_tree;
 use column::tree::{ASCENDING, Tree};
-use text::reading::{Number, read_keyed, starts_with};
-use text::search::find;
-use text::three_lines::{LineEnds, find_three_lines};
+use text::reading::{read_keyed, starts_with};
+use text::search::line_end;
+use text::three_lines::find_three_lines;
 
 // The longest input of a program that is given a table.
 pub const LIMIT: usize = 65536;
 
-// The line of the sequence, where the table has it: whether it is of its form, whether it is there, its numbers, and the place after it.
+// What is read of a text, and how many bytes of it that takes.
 #[derive(Clone, Copy)]
-struct SequenceRead {
-    good: bool,
-    named: bool,
-    list: NumberList,
-    end: usize,
+struct Parsed<T> {
+    value: T,
+    size: usize,
 }
 
-// The line of the watch, where the table has it: whether it is of its form, whether senders are watched, and the place after it.
+// The numbers of the sequence, where the table has it, and whether senders are watched.
 #[derive(Clone, Copy)]
-struct WatchRead {
-    good: bool,
+struct FurtherLines {
+    listed: Option<NumberList>,
+    watch: bool,
+}
+
+// What the lines of a table say, and the place after them.
+#[derive(Clone, Copy)]
+struct Lines {
+    columns: usize,
+    root: usize,
+    parents: NumberList,
+    listed: Option<NumberList>,
     watch: bool,
     end: usize,
 }
 
-// The lines after the third: whether they are of their form, whether the sequence is there, its numbers, the watch, and the place after them.
-#[derive(Clone, Copy)]
-struct FurtherRead {
-    good: bool,
-    named: bool,
-    list: NumberList,
-    watch: bool,
-    end: usize,
+impl Lines {
+    // The tree of these numbers, in the sequence of its own or the ascending one.
+    fn tree(self) -> Tree
+        ensures { result ≡ tree_of_lines self }
+    {
+        Tree {
+            columns: self.columns,
+            root: self.root,
+            up: self.parents.numbers,
+            first: match self.listed {
+                Some(list) => list.numbers,
+                None => ASCENDING,
+            },
+            watch: self.watch,
+        }
+    }
+
+    // How many columns the sequence lists.
+    fn listed_count(self) -> usize
+        ensures { result ≡ listed_in self }
+    {
+        match self.listed {
+            Some(list) => list.count,
+            None => self.columns,
+        }
+    }
 }
 
-// The bytes of `watch=root` and of `watch=sender`, with their ends.
-const WATCHES_ROOT: usize = 11;
-
-const WATCHES_SENDER: usize = 13;
-
-// A tree and the place after its table, where it is not refused.
+// A tree and the place after its table.
 #[derive(Clone, Copy)]
 pub struct Table {
-    pub answer: Answer,
     pub tree: Tree,
     pub end: usize,
 }
 
-// Whether the input has a key from a place on.
-fn begins(input: &[u8], at: usize, key: &[u8]) -> bool
-    requires { at ≤ length input.now }
-    ensures { result ≡ starts_with key.now (drop at input.now) }
+// The sequence of a table, in what follows its third line.
+#[tactic(auto, unfolding(crate::specs::Tables::sequence_line))]
+fn read_sequence(rest: &[u8]) -> Option<Parsed<Option<NumberList>>>
+    ensures line { result ≡ held sequence_held (sequence_line rest.now) }
+    ensures within { IfSome result (λ s. s.size ≤ length rest.now) }
 {
-    starts_with(&input[at..], key)
+    if !starts_with(rest, b"first=") {
+        return Some(Parsed {
+            value: None,
+            size: 0,
+        });
+    }
+    let end = line_end(rest, 0)?;
+    let list = numbers_of(&rest[..end], b"first=")?;
+    Some(Parsed {
+        value: Some(list),
+        size: end + 1,
+    })
 }
 
-fn unlisted(good: bool, end: usize) -> SequenceRead
-    ensures { result ≡ unlisted_read good end }
+// The watch of a table, in what follows the lines before it.
+#[tactic(auto, unfolding(crate::specs::Tables::watch_line))]
+fn read_watch(rest: &[u8]) -> Option<Parsed<bool>>
+    ensures line { result ≡ held watch_held (watch_line rest.now) }
+    ensures within { IfSome result (λ w. w.size ≤ length rest.now) }
 {
-    SequenceRead {
-        good,
-        named: false,
-        list: NO_LIST,
-        end,
+    if !starts_with(rest, b"watch=") {
+        return Some(Parsed {
+            value: false,
+            size: 0,
+        });
     }
+    if starts_with(rest, b"watch=root\n") {
+        return Some(Parsed {
+            value: false,
+            size: b"watch=root\n".len(),
+        });
+    }
+    if starts_with(rest, b"watch=sender\n") {
+        return Some(Parsed {
+            value: true,
+            size: b"watch=sender\n".len(),
+        });
+    }
+    None
 }
 
-// The sequence of a table whose third line ends at a place of the input.
-fn read_sequence(input: &[u8], at: usize) -> SequenceRead
-    requires { at ≤ length input.now }
-    ensures { (sequence_meant result ≡ held_from at (sequence_line (drop at input.now))) × (result.end ≤ length input.now) }
+// The lines of a table after its third.
+fn read_further(rest: &[u8]) -> Option<Parsed<FurtherLines>>
+    ensures lines { result ≡ held further_held (further_lines rest.now) }
+    ensures within { IfSome result (λ f. f.size ≤ length rest.now) }
 {
-    if !begins(input, at, b"first=") {
-        return unlisted(true, at);
-    }
-    let to = find(input, at, input.len(), b'\n');
-    if to == input.len() {
-        return unlisted(false, at);
-    }
-    let line = numbers_of(&input[at..to], b"first=");
-    let list = line.list;
-    let end = to + 1;
-    SequenceRead {
-        good: line.good,
-        named: true,
-        list,
-        end,
-    }
+    let sequence = read_sequence(rest)?;
+    let watch = read_watch(&rest[sequence.size..])?;
+    let value = FurtherLines {
+        listed: sequence.value,
+        watch: watch.value,
+    };
+    Some(Parsed {
+        value,
+        size: sequence.size + watch.size,
+    })
 }
 
-fn watched(good: bool, watch: bool, end: usize) -> WatchRead
-    ensures { result ≡ watched_read good watch end }
+// The lines that the input begins with, where they are of a table's form.
+fn read_lines(input: &[u8]) -> Option<Lines>
+    ensures { result ≡ held lines_held (table_of input.now) }
 {
-    WatchRead { good, watch, end }
-}
-
-// The watch of a table whose lines before it end at a place of the input.
-fn read_watch(input: &[u8], at: usize) -> WatchRead
-    requires { at ≤ length input.now }
-    ensures { watch_meant result ≡ watch_from at (watch_line (drop at input.now)) }
-{
-    if !begins(input, at, b"watch=") {
-        return watched(true, false, at);
-    }
-    if begins(input, at, b"watch=root\n") {
-        return watched(true, false, at + WATCHES_ROOT);
-    }
-    if begins(input, at, b"watch=sender\n") {
-        return watched(true, true, at + WATCHES_SENDER);
-    }
-    watched(false, false, at)
-}
-
-// The lines of a table after its third, which ends at a place of the input.
-fn read_further(input: &[u8], at: usize) -> FurtherRead
-    requires { at ≤ length input.now }
-    ensures { further_meant result ≡ further_from at (further_lines (drop at input.now)) }
-{
-    let s = read_sequence(input, at);
-    let w = read_watch(input, s.end);
-    let list = s.list;
-    FurtherRead {
-        good: s.good & w.good,
-        named: s.named,
-        list,
-        watch: w.watch,
-        end: w.end,
-    }
-}
-
-fn refused(number: u8) -> Table
-    ensures { answered result.answer (placed_at result.tree result.end) ≡ refused number no_tree }
-{
-    Table {
-        answer: Answer::Refused(number),
-        tree: Tree {
-            columns: 0,
-            root: 0,
-            up: [0; 16],
-            first: ASCENDING,
-            watch: false,
-        },
-        end: 0,
-    }
-}
-
-// By which number a tree is refused whose table has so many parents and lists so many columns.
-fn counted_refusal(tree: Tree, parents: usize, listed: usize) -> u8
-    ensures { result ≡ counted_refusal tree parents listed }
-{
-    let mut n = refuse_if(0, tree.columns == 0, 2);
-    n = refuse_if(n, 16 < tree.columns, 2);
-    n = refuse_if(n, parents != tree.columns, 3);
-    n = refuse_if(n, listed != tree.columns, 3);
-    earlier(n, tree_refusal(tree))
-}
-
-fn judge(tree: Tree, parents: usize, listed: usize, end: usize) -> Table
-    ensures { answered result.answer (placed_at result.tree result.end) ≡ tree_judged tree parents listed end }
-{
-    let n = counted_refusal(tree, parents, listed);
-    if n != 0 {
-        return refused(n);
-    }
-    Table {
-        answer: Answer::Done,
-        tree,
-        end,
-    }
-}
-
-// What parents and the lines after them make of the columns and the root.
-fn join(columns: usize, root: usize, parents: NumberList, further: FurtherRead) -> Table
-    ensures { answered result.answer (placed_at result.tree result.end) ≡ held_judged columns root (read parents) (further_meant further) }
-{
-    if !further.good {
-        return refused(1);
-    }
-    let up = parents.numbers;
-    let list = further.list;
-    let first = list.numbers;
-    let tree = Tree {
+    let ends = find_three_lines(input)?;
+    let columns = read_keyed(&input[..ends.one], b"columns=", 2)?;
+    let root = read_keyed(&input[ends.one + 1..ends.two], b"root=", 2)?;
+    let parents = numbers_of(&input[ends.two + 1..ends.three], b"up=")?;
+    let start = ends.three + 1;
+    let further = read_further(&input[start..])?;
+    Some(Lines {
         columns,
         root,
-        up,
-        first,
-        watch: further.watch,
-    };
-    if further.named {
-        return judge(tree, parents.count, list.count, further.end);
-    }
-    judge(tree, parents.count, columns, further.end)
+        parents,
+        listed: further.value.listed,
+        watch: further.value.watch,
+        end: start + further.size,
+    })
 }
 
-// The table of three lines, and of what follows them from a place of the input on.
-fn read_lines(one: &[u8], two: &[u8], three: &[u8], input: &[u8], at: usize) -> Table
-    requires { at ≤ length input.now }
-    ensures { answered result.answer (placed_at result.tree result.end) ≡ lines_judged one.now two.now three.now (drop at input.now) at }
+// 2 or 3 of a tree whose table has so many parents and lists so many columns. `check_note_alone` of `column` has this form, and asks other things.
+fn check_counted(tree: Tree, parents: usize, listed: usize) -> Result<(), Refusal>
+    ensures { refusal_of result ≡ counted_refusal tree parents listed }
 {
-    match read_keyed(one, b"columns=", 2) {
-        Number::Unread => refused(1),
-        Number::Is(columns) => match read_keyed(two, b"root=", 2) {
-            Number::Unread => refused(1),
-            Number::Is(root) => {
-                let line = numbers_of(three, b"up=");
-                if !line.good {
-                    return refused(1);
-                }
-                let parents = line.list;
-                join(columns, root, parents, read_further(input, at))
-            }
-        },
+    if tree.columns == 0 {
+        return Err(Refusal::ColumnCount);
     }
+    if 16 < tree.columns {
+        return Err(Refusal::ColumnCount);
+    }
+    if parents != tree.columns {
+        return Err(Refusal::NoTree);
+    }
+    if listed != tree.columns {
+        return Err(Refusal::NoTree);
+    }
+    check_tree(tree)
 }
 
 // The tree of the table that the input begins with, and the place after it; or 1, 2 or 3.
-pub fn read_table(input: &[u8]) -> Table
-    ensures { answered result.answer (placed_at result.tree result.end) ≡ read_table input.now }
+pub fn read_table(input: &[u8]) -> Result<Table, Refusal>
+    ensures { table_meant result ≡ read_table input.now }
 {
-    match find_three_lines(input) {
-        LineEnds::Fewer => refused(1),
-        LineEnds::At(one, two, three) => {
-            read_lines(
-                &input[0..one],
-                &input[one + 1..two],
-                &input[two + 1..three],
-                input,
-                three + 1,
-            )
-        }
-    }
+    let lines = read_lines(input).ok_or(Refusal::MalformedTable)?;
+    let tree = lines.tree();
+    check_counted(tree, lines.parents.count, lines.listed_count())?;
+    Ok(Table {
+        tree,
+        end: lines.end,
+    })
 }

@@ -2,7 +2,8 @@
 use Rattle.std.specs.Prelude.{ℕ, ◌+◌, ◌-◌, ◌<◌, cond, List, [], ◌∷◌, eqb, take, drop, length}
 use Rattle.text.specs.Text.{newline, comma, Reading, read, unread, numeral, after_key}
 use Rattle.text.specs.declared.three_lines.LineEnds.{LineEnds}
-use Rattle.text.specs.declared.three_lines.LineEnds.TheVariants as ends
+use Rattle.std.specs.declared.option.Option.{Option}
+use Rattle.std.specs.declared.option.Option.TheVariants.{Some, None}
 
 -- a text up to its first byte 10, and what follows; or a text without one
 pub data Cut : Type 0 where
@@ -84,11 +85,11 @@ lines_at s one two three = record {
   rest = drop (three + 1) s;
 }
 
-abbrev pub ends_meant : LineEnds → List ℕ → Reading ThreeLines
-ends_meant (ends.At one two three) s = read (lines_at s one two three)
-ends_meant ends.Fewer s = unread
+abbrev pub ends_meant : Option LineEnds → List ℕ → Reading ThreeLines
+ends_meant (Some e) s = read (lines_at s e.one e.two e.three)
+ends_meant None s = unread
 
 -- each end is a place of the text after the one before it
-abbrev pub Rising : LineEnds → List ℕ → Type 0
-Rising (ends.At one two three) s = (one < two) × (two < three) × (three < length s)
-Rising ends.Fewer s = Unit {0}
+abbrev pub Rising : Option LineEnds → List ℕ → Type 0
+Rising (Some e) s = (e.one < e.two) × (e.two < e.three) × (e.three < length s)
+Rising None s = Unit {0}

@@ -4,8 +4,8 @@ use Rattle.std.specs.Prelude.{ℕ, zero, suc, ◌+◌, ◌-◌, ◌*◌, ◌/◌
 use Prim.Native.Char.{code}
 use Prim.Native.String.{String}
 use Prim.Native.String as string
-use Rattle.text.specs.declared.reading.Number.{Number}
-use Rattle.text.specs.declared.reading.Number.TheVariants.{Is, Unread}
+use Rattle.std.specs.declared.option.Option.{Option}
+use Rattle.std.specs.declared.option.Option.TheVariants.{Some, None}
 
 -- ---- fixed byte strings
 
@@ -169,10 +169,10 @@ starts_with (k ∷ key) (b ∷ l) = eqb k b && starts_with key l
 unfoldable pub after_key : List ℕ → List ℕ → Reading (List ℕ)
 after_key key l = cond (starts_with key l) (read (drop (length key) l)) unread
 
--- the values of each case of `Number`
-abbrev pub number_meant : Number → Reading ℕ
-number_meant (Is number) = read number
-number_meant Unread = unread
+-- what a reader of numerals answers
+abbrev pub number_meant : Option ℕ → Reading ℕ
+number_meant (Some number) = read number
+number_meant None = unread
 
 -- a writer that was lent `old` wrote w from `at` on: it left `new`, and answers the place after w
 pub record Writes (r : ℕ) (new old : List ℕ) (at : ℕ) (w : List ℕ) : Type 0 where

@@ -12,6 +12,7 @@ use Rattle.column.specs.declared.tree.Tree.{Tree}
 use Rattle.column.specs.declared.state.Column.{Column}
 use Rattle.column.specs.declared.packet.Packet.{Packet}
 use Rattle.agreement.proofs.relation.Model.{In, Empty, State, Runs, count, Becomes, Holds}
+use Rattle.agreement.proofs.relation.Move.{noting}
 use Rattle.agreement.proofs.relation.Members.{children_inside, root_child, child_descends}
 use Rattle.agreement.proofs.invariant.Invariant.{number, Unserved, Covered, pending, reached, Local, Coverage, Truthful, Outstanding, message_sent, acknowledgement_owed, acknowledgement_sent, Invariant}
 use Rattle.agreement.proofs.invariant.InvariantCarried.{steady}
@@ -20,20 +21,7 @@ use Rattle.agreement.proofs.invariant.Packets.{outstanding_cases}
 
 -- a column with other sets
 abbrev pub adjusted : Column → ℕ → ℕ → ℕ → ℕ → Column
-adjusted c send awaited owed noted =
-    record {
-      running = c.running;
-      number = c.number;
-      doors = c.doors;
-      send = send;
-      awaited = awaited;
-      owed = owed;
-      noted = noted;
-      whole = c.whole;
-      sender = c.sender;
-      mask = c.mask;
-      pending = c.pending;
-    }
+adjusted c send awaited owed noted = record (noting c send awaited noted) { owed = owed }
 
 module _ (t : Tree) (tree : IsTree t) {s : State} (a : ℕ) (inv : Invariant t s) (ra : Runs s a) where
   abbrev c : Column

@@ -2,7 +2,7 @@
 use Prim.Native.Nat.{ℕ}
 use native.Mathlib.Omega.{arith}
 use mathlib.Core.Path.{◌≡◌, refl, sym, subst}
-use mathlib.Core.Logic.{◌≢◌, ⊎_elim, inl, inr}
+use mathlib.Core.Logic.{◌≢◌, ◌⊎◌, ⊎_elim, inl, inr}
 use mathlib.Core.Bool.{true, false}
 use Rattle.column.specs.laws.Cases.{truth}
 use Rattle.column.specs.Sets.{join, insert, without}
@@ -15,7 +15,7 @@ use Rattle.column.specs.declared.packet.Packet.TheVariants.{Message}
 use Rattle.agreement.proofs.relation.Model.{In, State, Runs, post, Becomes, Holds, post_cases, post_old, post_new}
 use Rattle.agreement.proofs.relation.Move.{serving, noting}
 use Rattle.agreement.proofs.relation.Members.{insert_cases, insert_old, insert_new, without_in, without_other, without_cases, join_cases, join_left, join_right, under_cases, below_child}
-use Rattle.agreement.proofs.invariant.Invariant.{Covered, pending, reached, Truthful, message_truthful, message_sent, acknowledgement_owed, acknowledgement_sent, Invariant}
+use Rattle.agreement.proofs.invariant.Invariant.{Unserved, Covered, pending, reached, Truthful, message_truthful, message_sent, acknowledgement_owed, acknowledgement_sent, Invariant}
 use Rattle.agreement.proofs.invariant.Packets.{outstanding_cases}
 use Rattle.agreement.proofs.invariant.Adjusting.{adjust, silent}
 
@@ -31,24 +31,32 @@ module _ (t : Tree) (tree : IsTree t) {s : State} (a : ℕ) (inv : Invariant t s
   abbrev c : Column
   c = s.columns a
 
-  pub keep_send_self : {s' : State} → In c.send a →
-      Becomes s s' a (serving c (without c.send a) c.awaited) s.network s.orders → Invariant t s'
-  keep_send_self m b = adjust t tree a inv ra
+  -- only the set to send to changes: who joins it is a child of one not yet served, and who runs in the subtree of such a one stays covered
+  keep_serving : {s' : State} (send : ℕ) →
+      ((q : ℕ) → In send q → In c.send q ⊎ ((j : ℕ) × Unserved c j × In (children t j) q)) →
+      ((q p : ℕ) → Unserved c q → Runs s p → Under t q p → Covered t s (serving c send c.awaited) p) →
+      Becomes s s' a (serving c send c.awaited) s.network s.orders → Invariant t s'
+  keep_serving send sends covers b = adjust t tree a inv ra
       record {
-        sends = λ q k. inl (without_in c.send a k);
+        sends = sends;
         awaits = λ q k. inl k;
         owes = λ o. ((inv.locals a ra).shuns o).root_owes;
         notes = λ q k. k;
         halts = (inv.coverages a ra).noted_halted;
         parts = (inv.locals a ra).apart;
-        covers = λ q p u h v. ⊎_elim
-            (λ k. ⊎_elim (λ z. pending q (inl z) v)
-            (λ e. reached ((inv.coverages a ra).settled (self_whole t a inv ra m) (self_root t a inv ra m) p h
-            (subst (λ (x : ℕ). Under t x p) e v)))
-            (without_cases c.send a k))
-            (λ k. pending q (inr k) v) u;
+        covers = covers;
       }
       b (silent t tree a inv ra (λ q k. k) (λ p k. k))
+
+  pub keep_send_self : {s' : State} → In c.send a →
+      Becomes s s' a (serving c (without c.send a) c.awaited) s.network s.orders → Invariant t s'
+  keep_send_self m = keep_serving (without c.send a) (λ q k. inl (without_in c.send a k))
+      (λ q p u h v. ⊎_elim
+      (λ k. ⊎_elim (λ z. pending q (inl z) v)
+      (λ e. reached ((inv.coverages a ra).settled (self_whole t a inv ra m) (self_root t a inv ra m) p h
+      (subst (λ (x : ℕ). Under t x p) e v)))
+      (without_cases c.send a k))
+      (λ k. pending q (inr k) v) u)
 
   -- the subtree of a halted column x is x and the subtrees of its children
   halted_covers : {c' : Column} (x p : ℕ) → ¬ Runs s x → ((q : ℕ) → In (children t x) q → In c'.send q) →
@@ -58,22 +66,14 @@ module _ (t : Tree) (tree : IsTree t) {s : State} (a : ℕ) (inv : Invariant t s
 
   pub keep_send_noted : {s' : State} (x : ℕ) → In c.send x → In c.noted x →
       Becomes s s' a (serving c (join (without c.send x) (children t x)) c.awaited) s.network s.orders → Invariant t s'
-  keep_send_noted x m n b = adjust t tree a inv ra
-      record {
-        sends = λ q k. ⊎_elim (λ z. inl (without_in c.send x z)) (λ z. inr (x, inl m, z)) (join_cases (without c.send x) (children t x) k);
-        awaits = λ q k. inl k;
-        owes = λ o. ((inv.locals a ra).shuns o).root_owes;
-        notes = λ q k. k;
-        halts = (inv.coverages a ra).noted_halted;
-        parts = (inv.locals a ra).apart;
-        covers = λ q p u h v. ⊎_elim
-            (λ k. ⊎_elim (λ z. pending q (inl (join_left (without c.send x) (children t x) z)) v)
-            (λ e. halted_covers x p ((inv.coverages a ra).noted_halted x n) (λ y z. join_right (without c.send x) (children t x) z) h
-            (subst (λ (y : ℕ). Under t y p) e v))
-            (without_cases c.send x k))
-            (λ k. pending q (inr k) v) u;
-      }
-      b (silent t tree a inv ra (λ q k. k) (λ p k. k))
+  keep_send_noted x m n = keep_serving (join (without c.send x) (children t x))
+      (λ q k. ⊎_elim (λ z. inl (without_in c.send x z)) (λ z. inr (x, inl m, z)) (join_cases (without c.send x) (children t x) k))
+      (λ q p u h v. ⊎_elim
+      (λ k. ⊎_elim (λ z. pending q (inl (join_left (without c.send x) (children t x) z)) v)
+      (λ e. halted_covers x p ((inv.coverages a ra).noted_halted x n) (λ y z. join_right (without c.send x) (children t x) z) h
+      (subst (λ (y : ℕ). Under t y p) e v))
+      (without_cases c.send x k))
+      (λ k. pending q (inr k) v) u)
 
   -- those noted are halted, also with j noted
   halted_with : (j : ℕ) → ¬ Runs s j → (q : ℕ) → In (insert c.noted j) q → Runs s q → ⊥

@@ -22,7 +22,7 @@ use Rattle.column.specs.declared.state.Column.{Column}
 use Rattle.column.specs.declared.packet.Packet.{Packet}
 use Rattle.column.specs.declared.packet.Packet.TheVariants.{Message, Acknowledgement}
 use Rattle.agreement.proofs.relation.Model.{In, State, Runs, post, Taken, Becomes, Holds, holds_none, taken_held, taken_back, post_cases, others_back, others_receiver}
-use Rattle.agreement.proofs.relation.Move.{owing, Remaining, Returns, Event, Move, order, send_self, send_noted, send_message, take_acknowledgement, take_stale, take_equal, take_lower, take_left, take_higher, acknowledge, widen, note_awaited, note_other, halt, back}
+use Rattle.agreement.proofs.relation.Move.{owing, renewed, with_running, Remaining, Returns, Event, Move, order, send_self, send_noted, send_message, take_acknowledgement, take_stale, take_equal, take_lower, take_left, take_higher, acknowledge, widen, note_awaited, note_other, halt, back}
 use Rattle.agreement.proofs.relation.Members.{absent, in_single, insert_cases, without_in}
 use Rattle.agreement.proofs.invariant.Invariant.{Invariant, Fresh}
 use Rattle.agreement.proofs.invariant.InvariantCarried.{each}
@@ -116,6 +116,20 @@ module _ {t : Tree} {s : State} (tree : IsTree t) (inv : Invariant t s) (v : Val
     valid {owed = owed} hs ha ho hn n =
         record { send = hs; awaited = ha; owed = ho; noted = hn; owes_others = absent owed a n; root_whole = before.root_whole; sender = before.sender }
 
+    -- another set to send to and another goal: row 4 asks nothing of the number, of the doors, and of whether the column runs
+    sending_valid : {running whole : Bool} {number doors send : ℕ} → send < 2 ^ t.columns → (a ≡ t.root → whole ≡ true) →
+        Valid t a
+        (with_running running (renewed (s.columns a) number doors send (s.columns a).awaited (s.columns a).owed whole (s.columns a).sender))
+    sending_valid h w = record {
+      send = h;
+      awaited = before.awaited;
+      owed = before.owed;
+      noted = before.noted;
+      owes_others = before.owes_others;
+      root_whole = w;
+      sender = before.sender;
+    }
+
     owes_not_self : In (s.columns a).owed a → ⊥
     owes_not_self m = true≢false (sym m.holds ∙ before.owes_others)
 
@@ -190,18 +204,7 @@ module _ {t : Tree} {s : State} (tree : IsTree t) (inv : Invariant t s) (v : Val
 
   pub validity_kept : {s' : State} {e : Event} → Move t s s' e → Validity t s'
   validity_kept (order d r idle free b) =
-      let w = before t.root r in
-      validity_after b
-      (record {
-        send = children_lt t t.root;
-        awaited = w.awaited;
-        owed = w.owed;
-        noted = w.noted;
-        owes_others = w.owes_others;
-        root_whole = w.root_whole;
-        sender = w.sender;
-      })
-      unmoved (λ _ _ _. r)
+      validity_after b (sending_valid t.root r (children_lt t t.root) (before t.root r).root_whole) unmoved (λ _ _ _. r)
   validity_kept (send_self a x r e m b) =
       let w = before a r in
       validity_after b (valid a r (struck a r (s.columns a).send x w.send m) w.awaited w.owed w.noted (owes_not_self a r)) unmoved (λ _ _ _. r)
@@ -260,18 +263,7 @@ module _ {t : Tree} {s : State} (tree : IsTree t) (inv : Invariant t s) (v : Val
       (taken_packets taken) (λ _ _ _. r)
   validity_kept (acknowledge a x r m o b) = answered a r x m b
   validity_kept (widen a r n m h idle b) =
-      let w = before a r in
-      validity_after b
-      (record {
-        send = single_lt tree.root_below;
-        awaited = w.awaited;
-        owed = w.owed;
-        noted = w.noted;
-        owes_others = w.owes_others;
-        root_whole = λ _. refl;
-        sender = w.sender;
-      })
-      unmoved (λ _ _ _. r)
+      validity_after b (sending_valid a r (single_lt tree.root_below) (λ _. refl)) unmoved (λ _ _ _. r)
   validity_kept (note_awaited a j r h n m b) =
       let w = before a r in
       validity_after b
@@ -285,15 +277,6 @@ module _ {t : Tree} {s : State} (tree : IsTree t) (inv : Invariant t s) (v : Val
       unmoved (λ _ _ _. r)
   validity_kept (halt a r b) =
       let w = before a r in
-      validity_after b
-      (record {
-        send = w.send;
-        awaited = w.awaited;
-        owed = w.owed;
-        noted = w.noted;
-        owes_others = w.owes_others;
-        root_whole = w.root_whole;
-        sender = w.sender;
-      })
+      validity_after b (sending_valid a r w.send w.root_whole)
       (λ p m. inl (others_back a s.network m)) (λ p m e. absurd (others_receiver a s.network m e))
   validity_kept (back j l noted rest h n nr r k b) = returned j l noted h nr r k b rest.no_packet

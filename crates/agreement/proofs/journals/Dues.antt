@@ -17,6 +17,7 @@ use Rattle.column.specs.declared.packet.Packet.{Packet}
 use Rattle.column.specs.declared.packet.Packet.TheVariants.{Message, Acknowledgement}
 use Rattle.journals.specs.Journals.{line}
 use Rattle.journals.specs.declared.line.Way.TheVariants.{Sent, Got}
+use Rattle.journals.specs.declared.line.Kind.TheVariants as kind-is
 use Rattle.journals.specs.declared.line.Line.{Line}
 use Rattle.journals.specs.PacketLines.{sent_line}
 use Rattle.agreement.specs.Journals.{Journals, written, all_got, all_sent, Wrote, Proper}
@@ -92,17 +93,17 @@ module _ (t : Tree) where
     pub done : k ≡ c.number → Ahead c q → (c.whole ≡ true) × (i ≢ t.root) × Below t i q
 
   pub record Dues (i : ℕ) (c : Column) (l : List Line) : Type 0 where
-    pub owed_got : (p : ℕ) → In c.owed p → Memᴰ (line Got 1 p c.number) l
-    pub owed_open : (p : ℕ) → In c.owed p → Memᴰ (line Sent 2 p c.number) l → ⊥
-    pub served : (q k : ℕ) → Memᴰ (line Sent 1 q k) l → Served i c q k
+    pub owed_got : (p : ℕ) → In c.owed p → Memᴰ (line Got kind-is.Message p c.number) l
+    pub owed_open : (p : ℕ) → In c.owed p → Memᴰ (line Sent kind-is.Acknowledgement p c.number) l → ⊥
+    pub served : (q k : ℕ) → Memᴰ (line Sent kind-is.Message q k) l → Served i c q k
 
 pub record Recorded (t : Tree) (s : State) (j : Journals) : Type 0 where
   pub logged : Logged t.columns s.network j
   pub dues : (i : ℕ) → Runs s i → Dues t i (s.columns i) (j i)
   pub spread : AllSpread t s
 
-pub one_two : ◌≡◌ {A = ℕ} 1 2 → ⊥
-one_two e = omega arith
+pub one_two : kind-is.Message ≡ kind-is.Acknowledgement → ⊥
+one_two e = cc
 
 module _ (t : Tree) (i : ℕ) where
   -- nobody more is owed, and nobody more is ahead
@@ -124,27 +125,27 @@ module _ (t : Tree) (i : ℕ) where
       served = λ q k w. ⊎_elim (d.served q k) (λ z. absurd (got_sent (sym e ∙ sym (way_of z.1)))) (wrote_cases j i x i w);
     }
 
-    pub dues_acknowledged : (r n : ℕ) → ((p : ℕ) → In c.owed p → p ≡ r → c.number ≡ n → ⊥) → Dues t i c (written j i (line Sent 2 r n) i)
+    pub dues_acknowledged : (r n : ℕ) → ((p : ℕ) → In c.owed p → p ≡ r → c.number ≡ n → ⊥) → Dues t i c (written j i (line Sent kind-is.Acknowledgement r n) i)
     dues_acknowledged r n f = record {
-      owed_got = λ p m. wrote_old j i (line Sent 2 r n) i (d.owed_got p m);
-      owed_open = λ p m w. ⊎_elim (d.owed_open p m) (λ z. f p m (other_of z.1) (number_of_lem z.1)) (wrote_cases j i (line Sent 2 r n) i w);
-      served = λ q k w. ⊎_elim (d.served q k) (λ z. absurd (one_two (kind_of_lem z.1))) (wrote_cases j i (line Sent 2 r n) i w);
+      owed_got = λ p m. wrote_old j i (line Sent kind-is.Acknowledgement r n) i (d.owed_got p m);
+      owed_open = λ p m w. ⊎_elim (d.owed_open p m) (λ z. f p m (other_of z.1) (number_of_lem z.1)) (wrote_cases j i (line Sent kind-is.Acknowledgement r n) i w);
+      served = λ q k w. ⊎_elim (d.served q k) (λ z. absurd (one_two (kind_of_lem z.1))) (wrote_cases j i (line Sent kind-is.Acknowledgement r n) i w);
     }
 
-    pub dues_served : (x n : ℕ) → Served t i c x n → Dues t i c (written j i (line Sent 1 x n) i)
+    pub dues_served : (x n : ℕ) → Served t i c x n → Dues t i c (written j i (line Sent kind-is.Message x n) i)
     dues_served x n f = record {
-      owed_got = λ p m. wrote_old j i (line Sent 1 x n) i (d.owed_got p m);
-      owed_open = λ p m w. ⊎_elim (d.owed_open p m) (λ z. one_two (sym (kind_of_lem z.1))) (wrote_cases j i (line Sent 1 x n) i w);
+      owed_got = λ p m. wrote_old j i (line Sent kind-is.Message x n) i (d.owed_got p m);
+      owed_open = λ p m w. ⊎_elim (d.owed_open p m) (λ z. one_two (sym (kind_of_lem z.1))) (wrote_cases j i (line Sent kind-is.Message x n) i w);
       served = λ q k w. ⊎_elim (d.served q k)
           (λ z. subst (λ (y : ℕ). Served t i c y k) (sym (other_of z.1)) (subst (λ (y : ℕ). Served t i c x y) (sym (number_of_lem z.1)) f))
-          (wrote_cases j i (line Sent 1 x n) i w);
+          (wrote_cases j i (line Sent kind-is.Message x n) i w);
     }
 
 -- ---- a packet is put, or not
 
 module _ (j : Journals) (p : Packet) where
   pub logged_posted : {columns : ℕ} {l : List Packet} → Logged columns l j → Proper columns (sender p) (sent_line p) → (Wrote j (sender p) (sent_line p) → ⊥)
-      → ((q n : ℕ) → line Sent 2 q n ≡ sent_line p → Wrote j (sender p) (line Got 1 q n))
+      → ((q n : ℕ) → line Sent kind-is.Acknowledgement q n ≡ sent_line p → Wrote j (sender p) (line Got kind-is.Message q n))
       → (b : Bool) → Logged columns (cond b (l ++ (p ∷ [])) l) (all_sent j (cond b (p ∷ []) []))
   unfolding all_sent
   logged_posted g c n f true = logged_put g p c n f

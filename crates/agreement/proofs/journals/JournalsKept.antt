@@ -20,6 +20,7 @@ use Rattle.column.specs.declared.packet.Packet.TheVariants.{Message, Acknowledge
 use Rattle.journals.specs.Journals.{line}
 use Rattle.journals.specs.PacketLines.{got_line}
 use Rattle.journals.specs.declared.line.Way.TheVariants.{Sent, Got}
+use Rattle.journals.specs.declared.line.Kind.TheVariants as kind-is
 use Rattle.journals.specs.declared.line.Line.{Line}
 use Rattle.agreement.specs.Journals.{Journals, written, all_got, all_sent, Wrote, Proper, Consistent}
 use Rattle.agreement.proofs.relation.Model.{In, Empty, State, Runs, post, Taken, Becomes, taken_held}
@@ -80,10 +81,9 @@ module _ (t : Tree) (tree : IsTree t) {s : State} {j : Journals} (inv : Invarian
     ahead_fewer f h q (beyond y k u) = beyond y (h y k) u
 
     -- an answer to a message
-    turned : (q k : ℕ) → Wrote j q (line Sent 1 a k) → Proper t.columns a (line Sent 2 q k)
-    turned q k w = let z = g.logged.proper q a 1 k w in record {
+    turned : (q k : ℕ) → Wrote j q (line Sent kind-is.Message a k) → Proper t.columns a (line Sent kind-is.Acknowledgement q k)
+    turned q k w = let z = g.logged.proper q a kind-is.Message k w in record {
       owner_below = z.other_below;
-      kinds = inr refl;
       other_below = z.owner_below;
       other_apart = λ e. z.other_apart (sym e);
       number_fits = z.number_fits;
@@ -95,9 +95,9 @@ module _ (t : Tree) (tree : IsTree t) {s : State} {j : Journals} (inv : Invarian
         → Recorded t s' (all_sent j (posted s (Acknowledgement a r c.number)))
     unfolding post
     acknowledging r m b sp = record {
-      logged = logged_as b (logged_posted j p g.logged (turned r c.number (g.logged.heard a r 1 c.number (here.owed_got r m))) (here.owed_open r m)
-          (λ q n e. subst (λ (x : ℕ). Wrote j a (line Got 1 x n)) (sym (other_of e))
-          (subst (λ (x : ℕ). Wrote j a (line Got 1 r x)) (sym (number_of_lem e)) (here.owed_got r m))) (s.columns r).running);
+      logged = logged_as b (logged_posted j p g.logged (turned r c.number (g.logged.heard a r kind-is.Message c.number (here.owed_got r m))) (here.owed_open r m)
+          (λ q n e. subst (λ (x : ℕ). Wrote j a (line Got kind-is.Message x n)) (sym (other_of e))
+          (subst (λ (x : ℕ). Wrote j a (line Got kind-is.Message r x)) (sym (number_of_lem e)) (here.owed_got r m))) (s.columns r).running);
       dues = dues_each b (posted_other j p (s.columns r).running) (λ _.
           posted_mine j p (Dues t a (owing c (without c.owed r))) adjust
           (dues_acknowledged t a j adjust r c.number (λ x k e _. without_other c.owed r k e)) (s.columns r).running);
@@ -111,9 +111,9 @@ module _ (t : Tree) (tree : IsTree t) {s : State} {j : Journals} (inv : Invarian
         adjust = dues_adjusted t a here (λ x k. without_in c.owed r k) (ahead_fewer (λ y k. k) (λ y k. k))
 
     -- a message got whose number the column has now: its sender is owed
-    owing_new : (q k d : ℕ) {l : List Packet} → Taken s.network (Message q a k d) l → Wrote (written j a (line Got 1 q k)) a (line Sent 2 q k) → ⊥
+    owing_new : (q k d : ℕ) {l : List Packet} → Taken s.network (Message q a k d) l → Wrote (written j a (line Got kind-is.Message q k)) a (line Sent kind-is.Acknowledgement q k) → ⊥
     owing_new q k d taken w = ⊎_elim (λ z. g.logged.not_got (Message q a k d) (taken_held taken) (g.logged.acknowledged a q k z))
-        (λ z. got_sent (sym (way_of z.1))) (wrote_cases j a (line Got 1 q k) a w)
+        (λ z. got_sent (sym (way_of z.1))) (wrote_cases j a (line Got kind-is.Message q k) a w)
 
     recorded_send : {s' : State} (x : ℕ) → x ≢ a → In c.send x
         → Becomes s s' a (serving c (without c.send x) (insert c.awaited x)) (post s (Message a x c.number c.doors) s.network) s.orders
@@ -130,16 +130,15 @@ module _ (t : Tree) (tree : IsTree t) {s : State} {j : Journals} (inv : Invarian
         p : Packet
         p = Message a x c.number c.doors
 
-        good : Proper t.columns a (line Sent 1 x c.number)
+        good : Proper t.columns a (line Sent kind-is.Message x c.number)
         good = record {
           owner_below = inv.inside a ra;
-          kinds = inl refl;
           other_below = (inv.locals a ra).members x (inl m);
           other_apart = ne;
           number_fits = fits a;
         }
 
-        new : Wrote j a (line Sent 1 x c.number) → ⊥
+        new : Wrote j a (line Sent kind-is.Message x c.number) → ⊥
         new w =
             let z = (here.served x c.number w).done refl (to_send x m (subtree_self t tree x)) in
             (g.spread a ra).outside z.0 z.1 x (inl m) z.2
@@ -161,13 +160,13 @@ module _ (t : Tree) (tree : IsTree t) {s : State} {j : Journals} (inv : Invarian
 
     recorded_lower : {s' : State} (q k d : ℕ) {l : List Packet} → k < c.number → Taken s.network (Message q a k d) l
         → Becomes s s' a c (post s (Acknowledgement a q k) l) s.orders → AllSpread t s'
-        → Recorded t s' (all_sent (written j a (line Got 1 q k)) (posted s (Acknowledgement a q k)))
+        → Recorded t s' (all_sent (written j a (line Got kind-is.Message q k)) (posted s (Acknowledgement a q k)))
     unfolding post
     recorded_lower q k d lt taken b sp = record {
       logged = logged_as b (logged_posted j₁ p (logged_got g.logged taken) (turned q k (g.logged.was_sent (Message q a k d) (taken_held taken))) (owing_new q k d taken)
-          (λ x n e. subst (λ (y : ℕ). Wrote j₁ a (line Got 1 y n)) (sym (other_of e))
-          (subst (λ (y : ℕ). Wrote j₁ a (line Got 1 q y)) (sym (number_of_lem e)) (wrote_new j a (line Got 1 q k)))) (s.columns q).running);
-      dues = dues_each b (λ i n. posted_other j₁ p (s.columns q).running i n ∙ written_other j a (line Got 1 q k) i n) (λ _.
+          (λ x n e. subst (λ (y : ℕ). Wrote j₁ a (line Got kind-is.Message y n)) (sym (other_of e))
+          (subst (λ (y : ℕ). Wrote j₁ a (line Got kind-is.Message q y)) (sym (number_of_lem e)) (wrote_new j a (line Got kind-is.Message q k)))) (s.columns q).running);
+      dues = dues_each b (λ i n. posted_other j₁ p (s.columns q).running i n ∙ written_other j a (line Got kind-is.Message q k) i n) (λ _.
           posted_mine j₁ p (Dues t a c) got
           (dues_acknowledged t a j₁ got q k (λ x m e f. omega (arith, lt, f))) (s.columns q).running);
       spread = sp;
@@ -177,22 +176,22 @@ module _ (t : Tree) (tree : IsTree t) {s : State} {j : Journals} (inv : Invarian
         p = Acknowledgement a q k
 
         j₁ : Journals
-        j₁ = written j a (line Got 1 q k)
+        j₁ = written j a (line Got kind-is.Message q k)
 
         got : Dues t a c (j₁ a)
-        got = dues_got t a j here (line Got 1 q k) refl
+        got = dues_got t a j here (line Got kind-is.Message q k) refl
 
     recorded_equal : {s' : State} (q d : ℕ) {l : List Packet} → Taken s.network (Message q a c.number d) l
-        → Becomes s s' a (owing c (insert c.owed q)) l s.orders → AllSpread t s' → Recorded t s' (written j a (line Got 1 q c.number))
+        → Becomes s s' a (owing c (insert c.owed q)) l s.orders → AllSpread t s' → Recorded t s' (written j a (line Got kind-is.Message q c.number))
     recorded_equal q d taken b sp = getting (Message q a c.number d) refl taken b sp record {
-      owed_got = λ p m. ⊎_elim (got.owed_got p) (λ e. subst (λ (y : ℕ). Wrote j₁ a (line Got 1 y c.number)) (sym e) (wrote_new j a x)) (insert_cases c.owed q m);
+      owed_got = λ p m. ⊎_elim (got.owed_got p) (λ e. subst (λ (y : ℕ). Wrote j₁ a (line Got kind-is.Message y c.number)) (sym e) (wrote_new j a x)) (insert_cases c.owed q m);
       owed_open = λ p m w. ⊎_elim (λ z. got.owed_open p z w)
-          (λ e. owing_new q c.number d taken (subst (λ (y : ℕ). Wrote j₁ a (line Sent 2 y c.number)) e w)) (insert_cases c.owed q m);
+          (λ e. owing_new q c.number d taken (subst (λ (y : ℕ). Wrote j₁ a (line Sent kind-is.Acknowledgement y c.number)) e w)) (insert_cases c.owed q m);
       served = λ y k w. let z = got.served y k w in record { at_most = z.at_most; own = z.own; done = λ e h. z.done e (ahead_fewer (λ y k. k) (λ y k. k) y h) };
     }
       where
         x : Line
-        x = line Got 1 q c.number
+        x = line Got kind-is.Message q c.number
 
         j₁ : Journals
         j₁ = written j a x
@@ -201,10 +200,10 @@ module _ (t : Tree) (tree : IsTree t) {s : State} {j : Journals} (inv : Invarian
         got = dues_got t a j here x refl
 
     recorded_higher : {s' : State} (q k d : ℕ) {l : List Packet} → c.number < k → Taken s.network (Message q a k d) l
-        → Becomes s s' a (renewed c k d (children t a) 0 (single q) (eqb a t.root) q) l s.orders → AllSpread t s' → Recorded t s' (written j a (line Got 1 q k))
+        → Becomes s s' a (renewed c k d (children t a) 0 (single q) (eqb a t.root) q) l s.orders → AllSpread t s' → Recorded t s' (written j a (line Got kind-is.Message q k))
     recorded_higher q k d lt taken b sp = getting (Message q a k d) refl taken b sp record {
-      owed_got = λ p m. subst (λ (y : ℕ). Wrote j₁ a (line Got 1 y k)) (sym (in_single q m)) (wrote_new j a x);
-      owed_open = λ p m w. owing_new q k d taken (subst (λ (y : ℕ). Wrote j₁ a (line Sent 2 y k)) (in_single q m) w);
+      owed_got = λ p m. subst (λ (y : ℕ). Wrote j₁ a (line Got kind-is.Message y k)) (sym (in_single q m)) (wrote_new j a x);
+      owed_open = λ p m w. owing_new q k d taken (subst (λ (y : ℕ). Wrote j₁ a (line Sent kind-is.Acknowledgement y k)) (in_single q m) w);
       served = λ y n w. let z = (got.served y n w).at_most in record {
         at_most = omega (arith, z, lt);
         own = λ e. absurd (omega (arith, z, lt, e));
@@ -213,7 +212,7 @@ module _ (t : Tree) (tree : IsTree t) {s : State} {j : Journals} (inv : Invarian
     }
       where
         x : Line
-        x = line Got 1 q k
+        x = line Got kind-is.Message q k
 
         j₁ : Journals
         j₁ = written j a x
@@ -244,12 +243,12 @@ module _ (t : Tree) (tree : IsTree t) {s : State} {j : Journals} (inv : Invarian
   recorded_move (send_message a x r e m n b) o sp = recorded_send a r x e m b sp
   recorded_move (take_acknowledgement a q k r e taken b) o sp =
       getting (Acknowledgement q a k) refl taken b sp
-      (dues_got t a j (dues_adjusted t a (g.dues a r) (λ p m. m) (ahead_fewer a r (λ y m. m) (λ y m. without_in (s.columns a).awaited q m))) (line Got 2 q k) refl)
+      (dues_got t a j (dues_adjusted t a (g.dues a r) (λ p m. m) (ahead_fewer a r (λ y m. m) (λ y m. without_in (s.columns a).awaited q m))) (line Got kind-is.Acknowledgement q k) refl)
   recorded_move (take_stale a q k r e taken b) o sp =
       getting (Acknowledgement q a k) refl taken b sp
-      (dues_got t a j (g.dues a r) (line Got 2 q k) refl)
+      (dues_got t a j (g.dues a r) (line Got kind-is.Acknowledgement q k) refl)
   recorded_move {s'} (take_equal a q k d {l} r e taken b) o sp =
-      subst (λ (y : ℕ). Recorded t s' (written j a (line Got 1 q y))) (sym e)
+      subst (λ (y : ℕ). Recorded t s' (written j a (line Got kind-is.Message q y))) (sym e)
       (recorded_equal a r q d (subst (λ (y : ℕ). Taken s.network (Message q a y d) l) e taken) b
       sp)
   recorded_move (take_lower a q k d r lt taken b) o sp = recorded_lower a r q k d lt taken b sp

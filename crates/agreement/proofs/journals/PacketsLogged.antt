@@ -15,8 +15,10 @@ use Rattle.bank.specs.laws.NetworkLaws.{others}
 use Rattle.journals.specs.Journals.{line, Once}
 use Rattle.journals.specs.declared.line.Way.{Way}
 use Rattle.journals.specs.declared.line.Way.TheVariants.{Sent, Got}
+use Rattle.journals.specs.declared.line.Kind.{Kind}
+use Rattle.journals.specs.declared.line.Kind.TheVariants as kind-is
 use Rattle.journals.specs.declared.line.Line.{Line}
-use Rattle.journals.specs.PacketLines.{kind_of, sent_line, got_line}
+use Rattle.journals.specs.PacketLines.{packet_kind, sent_line, got_line}
 use Rattle.agreement.specs.Journals.{Journals, written, Wrote, Proper}
 use Rattle.agreement.proofs.relation.Model.{Taken, first, later, Holds, holds_none, taken_held, taken_back, others_back}
 
@@ -123,7 +125,7 @@ pub alike : (p r : Packet) → receiver p ≡ receiver r → got_line p ≡ got_
 alike p r f e = (other_of e, λ i. line Sent (kind_of_lem e i) (f i) (number_of_lem e i))
 
 -- the line that the sender of p wrote, from the one by which its receiver got it
-pub sent_as : (j : Journals) (p : Packet) (i q kind n : ℕ) → i ≡ receiver p → line Got kind q n ≡ got_line p → Wrote j (sender p) (sent_line p)
+pub sent_as : (j : Journals) (p : Packet) (i q : ℕ) (kind : Kind) (n : ℕ) → i ≡ receiver p → line Got kind q n ≡ got_line p → Wrote j (sender p) (sent_line p)
     → Wrote j q (line Sent kind i n)
 sent_as j p i q kind n f e h =
     subst (λ (x : ℕ). Wrote j x (line Sent kind i n)) (sym (other_of e))
@@ -132,12 +134,12 @@ sent_as j p i q kind n f e h =
 -- ---- the network and the journals
 
 pub record Logged (columns : ℕ) (l : List Packet) (j : Journals) : Type 0 where
-  pub proper : (i q kind n : ℕ) → Wrote j i (line Sent kind q n) → Proper columns i (line Sent kind q n)
+  pub proper : (i q : ℕ) (kind : Kind) (n : ℕ) → Wrote j i (line Sent kind q n) → Proper columns i (line Sent kind q n)
   pub distinct : Distinct l
   pub was_sent : (p : Packet) → Holds l p → Wrote j (sender p) (sent_line p)
   pub not_got : (p : Packet) → Holds l p → Wrote j (receiver p) (got_line p) → ⊥
-  pub heard : (i q kind n : ℕ) → Wrote j i (line Got kind q n) → Wrote j q (line Sent kind i n)
-  pub acknowledged : (i q n : ℕ) → Wrote j i (line Sent 2 q n) → Wrote j i (line Got 1 q n)
+  pub heard : (i q : ℕ) (kind : Kind) (n : ℕ) → Wrote j i (line Got kind q n) → Wrote j q (line Sent kind i n)
+  pub acknowledged : (i q n : ℕ) → Wrote j i (line Sent kind-is.Acknowledgement q n) → Wrote j i (line Got kind-is.Message q n)
   pub once : (i : ℕ) → Once (j i)
 
 pub logged_none : (columns : ℕ) → Logged columns [] (λ i. [])
@@ -188,7 +190,7 @@ module _ {columns : ℕ} {l : List Packet} {j : Journals} (g : Logged columns l 
       d = distinct_taken t g.distinct
 
   -- a packet is put that its sender has not sent before; an acknowledgement answers a message that was got
-  pub logged_put : (p : Packet) → Proper columns (sender p) (sent_line p) → (Wrote j (sender p) (sent_line p) → ⊥) → ((q n : ℕ) → line Sent 2 q n ≡ sent_line p → Wrote j (sender p) (line Got 1 q n))
+  pub logged_put : (p : Packet) → Proper columns (sender p) (sent_line p) → (Wrote j (sender p) (sent_line p) → ⊥) → ((q n : ℕ) → line Sent kind-is.Acknowledgement q n ≡ sent_line p → Wrote j (sender p) (line Got kind-is.Message q n))
       → Logged columns (l ++ (p ∷ [])) (written j (sender p) (sent_line p))
   logged_put p fits new answers = record {
     proper = λ i q kind n w. ⊎_elim (g.proper i q kind n)
@@ -201,7 +203,7 @@ module _ {columns : ℕ} {l : List Packet} {j : Journals} (g : Logged columns l 
         (λ z. got_sent (way_of z.1)) (wrote_cases j a x (receiver r) w);
     heard = λ i q kind n w. wrote_old j a x q (⊎_elim (g.heard i q kind n) (λ z. absurd (got_sent (way_of z.1))) (wrote_cases j a x i w));
     acknowledged = λ i q n w. wrote_old j a x i (⊎_elim (g.acknowledged i q n)
-        (λ z. subst (λ (k : ℕ). Wrote j k (line Got 1 q n)) (sym z.0) (answers q n z.1)) (wrote_cases j a x i w));
+        (λ z. subst (λ (k : ℕ). Wrote j k (line Got kind-is.Message q n)) (sym z.0) (answers q n z.1)) (wrote_cases j a x i w));
     once = once_written j a x g.once new;
   }
     where
@@ -212,17 +214,16 @@ module _ {columns : ℕ} {l : List Packet} {j : Journals} (g : Logged columns l 
       x = sent_line p
 
       unheard : (r : Packet) → r ≡ p → Wrote j (receiver r) (got_line r) → ⊥
-      unheard r e w = new (subst (λ (y : Packet). Wrote j (sender y) (sent_line y)) e (g.heard (receiver r) (sender r) (kind_of r) (number_of r) w))
+      unheard r e w = new (subst (λ (y : Packet). Wrote j (sender y) (sent_line y)) e (g.heard (receiver r) (sender r) (packet_kind r) (number_of r) w))
 
   -- a line of either way
   pub logged_proper : (i : ℕ) (x : Line) → Wrote j i x → Proper columns i x
   logged_proper i x h = go x.way x.kind x.other x.number h
     where
-      go : (w : Way) (kind q n : ℕ) → Wrote j i (line w kind q n) → Proper columns i (line w kind q n)
+      go : (w : Way) (kind : Kind) (q n : ℕ) → Wrote j i (line w kind q n) → Proper columns i (line w kind q n)
       go Sent kind q n h = g.proper i q kind n h
       go Got kind q n h = let z = g.proper q i kind n (g.heard i q kind n h) in record {
         owner_below = z.other_below;
-        kinds = z.kinds;
         other_below = z.owner_below;
         other_apart = λ e. z.other_apart (sym e);
         number_fits = z.number_fits;

@@ -127,9 +127,32 @@ module _ (s : bank.State) (l : List ℕ) where
     abbrev served : Packet → ℕ
     served p = lowest (column_at s.bank (receiver p)).owed
 
+    -- an acknowledgement that is taken puts no packet, and is not left in its place
+    only_taken : (q a k : ℕ) → delivered s place (Acknowledgement q a k) ≡ accepted s'
+        → (d : Column) × (core.take t a (column_at s.bank a) (Acknowledgement q a k) ≡ core.accepted d [] false)
+    unfolding delivered acknowledgement_effect
+    only_taken q a k e =
+        let z = go (eqb k c.number) in (
+          z.0,
+          answers (take_refusal t a c p) c (acknowledgement_effect c q k)
+              (settles s s' (removed s place) a (take_refusal t a c p) c (acknowledgement_effect c q k) e)
+              ∙ z.1,
+        )
+      where
+        c : Column
+        c = column_at s.bank a
+
+        p : Packet
+        p = Acknowledgement q a k
+
+        go : (equal : Bool) → (d : Column) × (cond equal (core.accepted (with_sets c c.send (without c.awaited q) c.owed) [] false) (core.accepted c [] false)
+            ≡ core.accepted d [] false)
+        go true = (with_sets c c.send (without c.awaited q) c.owed, refl)
+        go false = (c, refl)
+
     arrived : (p : Packet) → packet_at s place ≡ p → delivered s place p ≡ accepted s'
         → to_running s (answered_with (core.take t (receiver p) (column_at s.bank (receiver p)) p)) ≡ put_by m (takes p (served p))
-    unfolding delivered message_effect receive_effect acknowledgement_effect to_running
+    unfolding delivered message_effect receive_effect to_running
     arrived (Message q a k d) at e =
         ap (λ (r : core.Result). to_running s (answered_with r)) (answers (take_refusal t a c p) c (message_effect t a c q k d)
         (settles s s' (removed s place) a (take_refusal t a c p) c (message_effect t a c q k d) e))
@@ -154,41 +177,13 @@ module _ (s : bank.State) (l : List ℕ) where
         go false false true z = refl
         go false false false z = running_one (Acknowledgement a (lowest c.owed) c.number)
             (lowest_below st a (acceptable t p sound).receiver_below (eqb-false c.owed 0 z))
-    arrived (Acknowledgement q a k) at e =
-        ap (λ (r : core.Result). to_running s (answered_with r)) (answers (take_refusal t a c p) c (acknowledgement_effect c q k)
-        (settles s s' (removed s place) a (take_refusal t a c p) c (acknowledgement_effect c q k) e))
-        ∙ go (eqb k c.number)
-      where
-        c : Column
-        c = column_at s.bank a
-
-        p : Packet
-        p = Acknowledgement q a k
-
-        go : (equal : Bool) → to_running s (answered_with
-            (cond equal (core.accepted (with_sets c c.send (without c.awaited q) c.owed) [] false) (core.accepted c [] false))) ≡ []
-        go true = refl
-        go false = refl
+    arrived (Acknowledgement q a k) at e = ap (λ (r : core.Result). to_running s (answered_with r)) (only_taken q a k e).1
 
     kept_or_got : (p : Packet) → packet_at s place ≡ p → delivered s place p ≡ accepted s' → cond (left_by s p) [] (p ∷ []) ≡ got_by m (takes p (served p))
-    unfolding delivered acknowledgement_effect
     kept_or_got (Message q a k d) at e =
         ap (λ (b : Bool). cond b [] (Message q a k d ∷ [])) (left_is s st place q a k d held at)
     kept_or_got (Acknowledgement q a k) at e =
-        ap (λ (r : core.Result). cond (history.leaves r) [] (p ∷ [])) (answers (take_refusal t a c p) c (acknowledgement_effect c q k)
-        (settles s s' (removed s place) a (take_refusal t a c p) c (acknowledgement_effect c q k) e))
-        ∙ go (eqb k c.number)
-      where
-        c : Column
-        c = column_at s.bank a
-
-        p : Packet
-        p = Acknowledgement q a k
-
-        go : (equal : Bool) → cond (history.leaves
-            (cond equal (core.accepted (with_sets c c.send (without c.awaited q) c.owed) [] false) (core.accepted c [] false))) [] (p ∷ []) ≡ p ∷ []
-        go true = refl
-        go false = refl
+        ap (λ (r : core.Result). cond (history.leaves r) [] (Acknowledgement q a k ∷ [])) (only_taken q a k e).1
 
   take_in : (place : ℕ) (s' : bank.State) → steps.take s place ≡ accepted s'
       → Valid s × (place < s.bank.count) × (delivered s place (packet_at s place) ≡ accepted s')

@@ -22,19 +22,7 @@ use Rattle.agreement.proofs.relation.Model.{In, Empty, State, Runs, post, Taken,
 -- a column with a new record, other sets, another goal and another sender of its record
 abbrev pub renewed : Column → ℕ → ℕ → ℕ → ℕ → ℕ → Bool → ℕ → Column
 renewed c number doors send awaited owed whole sender =
-    record {
-      running = c.running;
-      number = number;
-      doors = doors;
-      send = send;
-      awaited = awaited;
-      owed = owed;
-      noted = c.noted;
-      whole = whole;
-      sender = sender;
-      mask = c.mask;
-      pending = c.pending;
-    }
+    record c { number = number; doors = doors; send = send; awaited = awaited; owed = owed; whole = whole; sender = sender }
 
 abbrev pub serving : Column → ℕ → ℕ → Column
 serving c send awaited = with_sets c send awaited c.owed
@@ -43,36 +31,10 @@ abbrev pub owing : Column → ℕ → Column
 owing c owed = with_sets c c.send c.awaited owed
 
 abbrev pub noting : Column → ℕ → ℕ → ℕ → Column
-noting c send awaited noted =
-    record {
-      running = c.running;
-      number = c.number;
-      doors = c.doors;
-      send = send;
-      awaited = awaited;
-      owed = c.owed;
-      noted = noted;
-      whole = c.whole;
-      sender = c.sender;
-      mask = c.mask;
-      pending = c.pending;
-    }
+noting c send awaited noted = record (serving c send awaited) { noted = noted }
 
 abbrev pub with_running : Bool → Column → Column
-with_running running c =
-    record {
-      running = running;
-      number = c.number;
-      doors = c.doors;
-      send = c.send;
-      awaited = c.awaited;
-      owed = c.owed;
-      noted = c.noted;
-      whole = c.whole;
-      sender = c.sender;
-      mask = c.mask;
-      pending = c.pending;
-    }
+with_running running c = record c { running = running }
 
 abbrev pub halted : Column → Column
 halted = with_running false

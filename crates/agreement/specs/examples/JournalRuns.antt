@@ -20,6 +20,7 @@ use Rattle.bank.specs.declared.bank.Step.{Step}
 use Rattle.bank.specs.declared.bank.Step.TheVariants.{Order, Send, Take, All, Note, Halt, Back}
 use Rattle.journals.specs.Journals.{line}
 use Rattle.journals.specs.declared.line.Way.TheVariants.{Sent, Got}
+use Rattle.journals.specs.declared.line.Kind.TheVariants as kind-is
 use Rattle.journals.specs.declared.line.Line.{Line}
 use Rattle.agreement.specs.History.{World, told, run}
 use Rattle.agreement.specs.Agreement.{begin}
@@ -52,9 +53,9 @@ wrote = record {
 }
 
 pub journals_written : wrote ≡ record {
-  served = line Sent 1 1 1 ∷ line Got 2 1 1 ∷ [];
-  taken = line Got 1 0 1 ∷ line Sent 1 2 1 ∷ line Got 2 2 1 ∷ line Got 1 2 1 ∷ line Sent 2 2 1 ∷ [];
-  left = line Got 1 1 0 ∷ line Sent 2 1 0 ∷ line Got 1 0 1 ∷ [];
+  served = line Sent kind-is.Message 1 1 ∷ line Got kind-is.Acknowledgement 1 1 ∷ [];
+  taken = line Got kind-is.Message 0 1 ∷ line Sent kind-is.Message 2 1 ∷ line Got kind-is.Acknowledgement 2 1 ∷ line Got kind-is.Message 2 1 ∷ line Sent kind-is.Acknowledgement 2 1 ∷ [];
+  left = line Got kind-is.Message 1 0 ∷ line Sent kind-is.Acknowledgement 1 0 ∷ line Got kind-is.Message 0 1 ∷ [];
 }
 unfolding journals recorded all_got all_sent to_running run told perform every closed_up keeping padded places fresh_place bank_refusal packet_of put puts vanished fitting acted delivered rewriting halted halt_refusal climbs_in tree_refusal state_refusal selected count_trailing_zeros core.order_refusal core.send_refusal core.packet_refusal core.take_refusal core.ack_refusal core.all_refusal core.note_refusal core.order_effect core.send_effect core.acknowledgement_effect core.receive_effect core.message_effect core.ack_effect core.all_effect core.note_effect
 journals_written = refl

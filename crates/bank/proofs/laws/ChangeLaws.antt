@@ -1,9 +1,10 @@
 -- A change of one place and of the network is the step of the whole bank. Assumes nothing.
-use Rattle.std.specs.Prelude.{ℕ, zero, suc, ◌+◌, ◌-◌, ◌≤◌, ◌<◌, ◌≡◌, Bool, true, false, not, ◌⊎◌, List, [], ◌∷◌, eqb, ltb, set, get_or, length}
+use Rattle.std.specs.Prelude.{ℕ, zero, suc, ◌+◌, ◌-◌, ◌≤◌, ◌<◌, ◌≡◌, Bool, true, false, not, ◌⊎◌, List, [], ◌∷◌, eqb, ltb, set, get_or, length, Ok, Err}
+use Rattle.std.specs.Prelude as prelude
 use Rattle.std.proofs.Math.Path.{refl, sym, ap}
 use Rattle.std.proofs.Common.{ap₂, subst, ◌∙◌, true≢false, inl, inr, arith, get_or-set_same, eq-eqb, eqb-true, ltb-true, ltb-false}
 use Rattle.column.specs.laws.Cases.{truth}
-use Rattle.column.specs.Refusals.{first, earlier}
+use Rattle.column.specs.Refusals.{first, earlier, refusal_number}
 use Rattle.column.specs.Sets.{has, selected}
 use Rattle.column.specs.laws.SetLaws.{selected_has}
 use Rattle.column.specs.Packets.{receiver}
@@ -13,7 +14,7 @@ use Rattle.column.specs.laws.StateLaws.{acceptable, note_beyond}
 use Rattle.column.specs.Steps as core
 use Rattle.column.specs.Unchecked.{take_unchecked}
 use Rattle.column.specs.laws.UncheckedLaws.{take_unchecked_lem}
-use Rattle.column.specs.declared.outcome.Outcome as core-outcome
+use Rattle.column.specs.declared.error.Refusal.{Refusal}
 use Rattle.column.specs.declared.outcome.Answer as core-answer
 use Rattle.column.specs.declared.outcome.Answer.TheVariants as core_is
 use Rattle.column.specs.declared.tree.Tree.{Tree}
@@ -24,52 +25,18 @@ use Rattle.bank.specs.Banks.{State, state, column_at, runs, halted_of, packet_at
 use Rattle.bank.specs.laws.ValidityLaws.{Valid, acting_passes}
 use Rattle.bank.specs.Networks.{with_packet, put, puts, removed}
 use Rattle.bank.specs.inner.NetworkWords.{Appended, ClosedUp}
-use Rattle.bank.specs.Steps.{Result, accepted, refused, answered, outcome_meant, with_column, fitting, settled, acted, noted, delivered}
+use Rattle.bank.specs.Steps.{Result, accepted, refused, with_column, fitting, settled, acted, noted, delivered}
 use Rattle.bank.specs.Performs.{perform}
-use Rattle.bank.specs.laws.StepLaws.{fits, put_halted, put_running, put_full, put_count, settled_off, acted_refused, acted_settled}
-use Rattle.bank.specs.inner.Changes.{takes_off, Steady, Aimed, Becomes, stored, changed, change_by, RunningIs, core_step, is_refusal}
+use Rattle.bank.specs.laws.StepLaws.{some_number, fits, put_halted, put_running, put_full, put_count, takes_off, settled_off, acted_refused, acted_settled}
+use Rattle.bank.specs.inner.Changes.{Steady, Aimed, stored, changed, RunningIs, core_step}
 use Rattle.bank.specs.laws.Steady.{steady_cond, steady_send, steady_take, aimed_unless, aimed_send, aimed_ack, aimed_take}
 use Rattle.bank.specs.StepKinds.{is_own}
 use Rattle.bank.specs.Rest.{is_refused}
 use Rattle.bank.specs.inner.Moves.{acts}
 use Rattle.bank.specs.declared.bank.Bank.{Bank}
-use Rattle.bank.specs.declared.bank.Answer.{Answer}
-use Rattle.bank.specs.declared.bank.Answer.TheVariants.{Done, Refused}
-use Rattle.bank.specs.declared.bank.Outcome.{Outcome}
 use Rattle.bank.specs.declared.settling.Change.{Change}
 use Rattle.bank.specs.declared.bank.Step.{Step}
 use Rattle.bank.specs.declared.bank.Step.TheVariants.{Order, Send, Take, Ack, All, Note, Halt, Back, Write}
-
--- ---- what a change says of a bank
-
-module _ (b : Bank) (i : ℕ) (heads doors : List ℕ) where
-  -- the bank with column i and the count
-  abbrev with : Column → ℕ → State
-  with c n = state (record { tree = b.tree; columns = set b.columns i c; count = n }) heads doors
-
-  pub done_at : {r : Change} {c : Column} {n : ℕ} → Becomes r c n Done → changed b i r heads doors ≡ accepted (with c n)
-  done_at {r} {c} {n} k =
-      ap (λ (a : Answer). change_by a b (stored b i r) heads doors) k.answer_is
-      ∙ ap₂ (λ (c : Column) (n : ℕ). accepted (with c n)) k.column_is k.count_is
-
-  pub refused_at : {r : Change} {c : Column} {n m : ℕ} → Becomes r c n (Refused m) → changed b i r heads doors ≡ refused m (state b heads doors)
-  refused_at {r} k = ap (λ (a : Answer). change_by a b (stored b i r) heads doors) k.answer_is
-
-  module _ (r : Change) (o : Result State) where
-    -- a change that is refused is of no other bank
-    pub changed_refused : is_refusal r.answer ≡ true → changed b i r heads doors ≡ o → answered r.answer (state b heads doors) ≡ o
-    changed_refused e z = go r.answer e z
-      where
-        go : (a : Answer) → is_refusal a ≡ true → change_by a b (stored b i r) heads doors ≡ o → answered a (state b heads doors) ≡ o
-        go Done e z = absurd (true≢false (sym e))
-        go (Refused n) e z = z
-
-    pub changed_done : is_refusal r.answer ≡ false → changed b i r heads doors ≡ o → answered r.answer (state (stored b i r) heads doors) ≡ o
-    changed_done e z = go r.answer e z
-      where
-        go : (a : Answer) → is_refusal a ≡ false → change_by a b (stored b i r) heads doors ≡ o → answered a (state (stored b i r) heads doors) ≡ o
-        go Done e z = z
-        go (Refused n) e z = absurd (true≢false e)
 
 -- ---- a packet put
 
@@ -80,33 +47,34 @@ module _ (b : Bank) (i : ℕ) (heads doors : List ℕ) (c : Column) (count : ℕ
   abbrev next : State
   next = with_column s i c
 
-  counted : with b i heads doors c count ≡ next
-  counted = ap (with b i heads doors c) (sym count_is)
+  -- the bank with column i and so many packets
+  abbrev with : ℕ → List ℕ → List ℕ → State
+  with n h d = state (stored b i (record { column = c; count = n })) h d
 
-  pub settled_none : {r : Change} → Becomes r c count Done → count ≤ 512 → changed b i r heads doors ≡ settled s s i (core.accepted c [] false)
+  counted : with count heads doors ≡ next
+  counted = ap (λ n. with n heads doors) (sym count_is)
+
+  pub settled_none : count ≤ 512 → accepted (with count heads doors) ≡ settled s s i (core.accepted c [] false)
   unfolding puts
-  settled_none k room = done_at b i heads doors k ∙ ap accepted counted ∙ fits s next (omega (arith, room, count_is))
+  settled_none room = ap accepted counted ∙ fits s next (omega (arith, room, count_is))
 
   module _ (p : Packet) (running : ℕ) (running_is : RunningIs running b) (steady : c.running ≡ runs b i) (below : receiver p < b.tree.columns) where
     -- who runs is as before
     asked : has running (receiver p) ≡ runs next.bank (receiver p)
     asked = running_is (receiver p) below ∙ sym (set_keeps (λ (c : Column). c.running) no_column b.columns i c steady (receiver p))
 
-    pub delivered_halted : {r : Change} → Becomes r c count Done → has running (receiver p) ≡ false → count ≤ 512
-        → changed b i r heads doors ≡ fitting s (put next p)
-    delivered_halted k off room =
-        done_at b i heads doors k ∙ ap accepted counted ∙ put_halted s next p (sym asked ∙ off) (omega (arith, room, count_is))
+    pub delivered_halted : has running (receiver p) ≡ false → count ≤ 512 → accepted (with count heads doors) ≡ fitting s (put next p)
+    delivered_halted off room = ap accepted counted ∙ put_halted s next p (sym asked ∙ off) (omega (arith, room, count_is))
 
-    pub delivered_full : {r : Change} → Becomes r c count (Refused 9) → has running (receiver p) ≡ true → count ≡ 512
-        → changed b i r heads doors ≡ fitting s (put next p)
-    delivered_full k on full = refused_at b i heads doors k ∙ put_full s next p (sym asked ∙ on) (count_is ∙ full)
+    pub delivered_full : has running (receiver p) ≡ true → count ≡ 512 → refused 9 s ≡ fitting s (put next p)
+    delivered_full on full = put_full s next p (sym asked ∙ on) (count_is ∙ full)
 
-    pub delivered_put : {r : Change} {h d : List ℕ} → Appended p count heads doors h d → Becomes r c (count + 1) Done → has running (receiver p) ≡ true
-        → count < 512 → changed b i r h d ≡ fitting s (put next p)
-    delivered_put {h = h} {d = d} words k on room =
-        done_at b i h d k ∙ ap accepted put_is ∙ put_running s next p (sym asked ∙ on) (omega (arith, room, count_is))
+    pub delivered_put : {h d : List ℕ} → Appended p count heads doors h d → has running (receiver p) ≡ true
+        → count < 512 → accepted (with (count + 1) h d) ≡ fitting s (put next p)
+    delivered_put {h = h} {d = d} words on room =
+        ap accepted put_is ∙ put_running s next p (sym asked ∙ on) (omega (arith, room, count_is))
       where
-        put_is : with b i h d c (count + 1) ≡ with_packet next p
+        put_is : with (count + 1) h d ≡ with_packet next p
         put_is = rw (words.heads_are, words.doors_are, count_is)
 
   -- where the core puts a packet, and leaves the one that it was given or not
@@ -134,21 +102,16 @@ module _ (b : Bank) (i : ℕ) (heads doors : List ℕ) (place : ℕ) (c : Column
       let u = put (with_column gone i c) p in
       (u, sym (fits gone u (omega (arith, room, put_count (with_column gone i c) p))))
   accepted_off (core_is.Left p) e = absurd (true≢false (sym e))
-  accepted_off (core_is.Refused n) e = absurd (true≢false (sym e))
 
   pub removed_words : {count : ℕ} {h d : List ℕ} → b.count ≡ count → ClosedUp place count heads doors h d → state gone.bank h d ≡ gone
   removed_words e k = rw (k.heads_are, k.doors_are, e)
 
   -- with the packet off, what is said of the bank without it is said of the bank
-  pub changed_off : (a : core-answer.Answer) → takes_off a ≡ true → (r : Change) (h d : List ℕ)
+  pub changed_off : (a : core-answer.Answer) → takes_off a ≡ true → (r : prelude.Result Change Refusal) (h d : List ℕ)
       → changed gone.bank i r h d ≡ settled gone gone i (core.answered c a)
       → changed b i r h d ≡ settled (state b heads doors) gone i (core.answered c a)
-  changed_off a e r h d z = go r.answer z ∙ settled_off (state b heads doors) gone i c room a e
-    where
-      go : (x : Answer) → change_by x gone.bank (stored gone.bank i r) h d ≡ settled gone gone i (core.answered c a)
-          → change_by x b (stored b i r) h d ≡ settled gone gone i (core.answered c a)
-      go Done z = z
-      go (Refused n) z = absurd (true≢false (ap is_refused (z ∙ (accepted_off a e).1)))
+  changed_off a e (Ok r) h d z = z ∙ settled_off (state b heads doors) gone i c room a e
+  changed_off a e (Err n) h d z = absurd (true≢false (ap is_refused (z ∙ (accepted_off a e).1)))
 
 -- ---- the core's step in a valid bank
 
@@ -225,15 +188,15 @@ module _ (s : State) (stood : Valid s) (i : ℕ) (below : i < s.bank.tree.column
           settles (subst (Steady column) (sym e) (core_steady x)) (subst (Aimed t) (sym e) (core_aimed x)) ∙ ap (settled s s i) e ∙ core_performs x own actor
 
 -- a step of the core whose column is refused
-pub own_refused : (s : State) (x : Step) (i n : ℕ) → is_own x ≡ true → acts s x i ≡ true → n ≡ acting_refusal s i → (n ≡ 0 → ⊥)
-    → (r : Outcome) → answered r.answer r.bank ≡ refused n s.bank → outcome_meant r s.heads s.doors ≡ perform s x
+pub own_refused : (s : State) (x : Step) (i : ℕ) (e : Refusal) → is_own x ≡ true → acts s x i ≡ true → refusal_number e ≡ acting_refusal s i
+    → refused (refusal_number e) s ≡ perform s x
 unfolding perform
-own_refused s x i n own actor e some r k = go x own actor
+own_refused s x i e own actor is = go x own actor
   where
-    by : (f : ℕ → core.Result) (j : ℕ) → eqb i j ≡ true → outcome_meant r s.heads s.doors ≡ acted s j (f j)
-    by f j z = acted_refused s i n e (f i) r some k ∙ ap (λ (j : ℕ). acted s j (f j)) (eqb-true i j z)
+    by : (f : ℕ → core.Result) (j : ℕ) → eqb i j ≡ true → refused (refusal_number e) s ≡ acted s j (f j)
+    by f j z = acted_refused s i (refusal_number e) is (f i) (some_number e) ∙ ap (λ (j : ℕ). acted s j (f j)) (eqb-true i j z)
 
-    go : (x : Step) → is_own x ≡ true → acts s x i ≡ true → outcome_meant r s.heads s.doors ≡ perform s x
+    go : (x : Step) → is_own x ≡ true → acts s x i ≡ true → refused (refusal_number e) s ≡ perform s x
     go (Order doors) own z = by (λ (j : ℕ). core.order s.bank.tree j (column_at s.bank j) doors) s.bank.tree.root z
     go (Send j) own z = by (λ (j : ℕ). core.send s.bank.tree j (column_at s.bank j)) j z
     go (Take place) own z = absurd (true≢false (sym own))
@@ -253,16 +216,16 @@ module _ (s : State) (stood : Valid s) (place : ℕ) (there : place < s.bank.cou
   to_below : receiver p < s.bank.tree.columns
   to_below = (acceptable s.bank.tree p (stood.packets place there)).receiver_below
 
-  pub taken_done : (i : ℕ) → i ≡ receiver p → (o : core-outcome.Outcome) → core.outcome_meant o ≡ take_unchecked s.bank.tree i (column_at s.bank i) p
-      → {after : Result State} → (Steady (column_at s.bank i) (core.outcome_meant o) → Aimed s.bank.tree (core.outcome_meant o) → after ≡ settled s (removed s place) i (core.outcome_meant o))
+  pub taken_done : (i : ℕ) → i ≡ receiver p → (m : core.Result) → m ≡ take_unchecked s.bank.tree i (column_at s.bank i) p
+      → {after : Result State} → (Steady (column_at s.bank i) m → Aimed s.bank.tree m → after ≡ settled s (removed s place) i m)
       → after ≡ delivered s place p
   unfolding delivered
-  taken_done i is o e settles =
+  taken_done i is m e settles =
       let t = s.bank.tree in
       let c = column_at s.bank i in
       let fit = stood.packets place there in
       let good = valid_at s stood i (subst (λ (j : ℕ). j < t.columns) (sym is) to_below) in
-      let same : core.outcome_meant o ≡ core.take t i c p = e ∙ take_unchecked_lem t i c good p fit in
+      let same : m ≡ core.take t i c p = e ∙ take_unchecked_lem t i c good p fit in
       let steady = steady_cond (eqb (core.take_refusal t i c p) 0) c (core.take_effect t i c p) (core.refused (core.take_refusal t i c p) c) (steady_take t i c p) tt in
       settles (subst (Steady c) (sym same) steady) (subst (Aimed t) (sym same) (aimed_take t i c good p fit))
       ∙ ap (settled s (removed s place) i) same

@@ -3,7 +3,8 @@ use Rattle.std.specs.Prelude.{ℕ, ◌<◌, ◌≡◌, refl, ◌⊎◌, Bool, tr
 use Rattle.std.proofs.Common.{sym, ap, subst, ◌∙◌, inl, inr, true≢false, arith, eq-eqb, eqb-true, leb-false}
 use Rattle.std.proofs.lemmas.Bool.{lt-leb}
 use Rattle.column.specs.laws.Cases.{truth}
-use Rattle.column.specs.Refusals.{first, earlier}
+use Rattle.column.specs.Refusals.{first, earlier, refusal_number}
+use Rattle.column.specs.declared.error.Refusal.{Refusal}
 use Rattle.column.specs.laws.RefusalLaws.{earlier_none, passed}
 use Rattle.column.specs.Packets.{receiver}
 use Rattle.column.specs.laws.StateLaws.{acceptable}
@@ -11,20 +12,16 @@ use Rattle.bank.specs.Words.{receiver_in}
 use Rattle.bank.specs.laws.WordLaws.{receiver_of}
 use Rattle.bank.specs.Banks.{State, packet_at, capacity, bank_refusal}
 use Rattle.bank.specs.laws.ValidityLaws.{Valid, valid, acting}
-use Rattle.bank.specs.Steps.{refused, answered, outcome_meant, delivered, take_refusal}
-use Rattle.bank.specs.laws.StepLaws.{unless_refused, unless_goes}
+use Rattle.bank.specs.Steps.{refused, delivered, take_refusal}
+use Rattle.bank.specs.laws.StepLaws.{refused_unless, unless_goes}
 use Rattle.bank.specs.Performs.{perform}
 use Rattle.bank.specs.laws.Kinds.{take_is}
-use Rattle.bank.specs.inner.Moves.{acts, opening_refusal, Moving, place_in}
+use Rattle.bank.specs.inner.Moves.{acts, own_opening, Moving, place_in}
 use Rattle.bank.specs.Parts.{receiver_at}
 use Rattle.bank.specs.StepKinds.{is_take, is_own, is_move}
 use Rattle.bank.proofs.laws.ChangeLaws.{own_refused}
-use Rattle.bank.specs.declared.bank.Outcome.{Outcome}
 use Rattle.bank.specs.declared.bank.Step.{Step}
 use Rattle.bank.specs.declared.bank.Step.TheVariants.{Take}
-
-abbrev pub opening : State → Step → ℕ → ℕ
-opening s x i = opening_refusal (bank_refusal s) s.bank.tree.columns x i s.bank.count
 
 -- ---- laws
 
@@ -37,13 +34,11 @@ pub taker : (s : State) (place : ℕ) {i : ℕ} → i ≡ receiver_at place s.he
 taker s place {i} e =
     (refl, λ h. eq-eqb i (receiver (packet_at s place)) (e ∙ receiver_at_lem place s.heads (h refl) ∙ sym (receiver_of (get_or s.heads place 0) (get_or s.doors place 0))))
 
-module _ (n columns : ℕ) (x : Step) (i count : ℕ) where
-  pub opening_take : is_take x ≡ true → opening_refusal n columns x i count ≡ earlier n (first ((10, leb count (place_in x)) ∷ []))
-  unfolding opening_refusal
+module _ (columns : ℕ) (x : Step) (i count : ℕ) where
+  pub opening_take : is_take x ≡ true → own_opening columns x i count ≡ first ((10, leb count (place_in x)) ∷ [])
   opening_take e = rw e
 
-  pub opening_own : is_take x ≡ false → opening_refusal n columns x i count ≡ earlier n (first ((4, leb columns i) ∷ []))
-  unfolding opening_refusal
+  pub opening_own : is_take x ≡ false → own_opening columns x i count ≡ first ((4, leb columns i) ∷ [])
   opening_own e = rw e
 
 pub take_acts : (s : State) (x : Step) (i : ℕ) → is_take x ≡ true → acts s x i ≡ true → i ≡ receiver (packet_at s (place_in x))
@@ -60,18 +55,21 @@ take_performs s x e ok there =
     (rw (eq-eqb (bank_refusal s) 0 ok, lt-leb s.bank.count (place_in x) there)) refl
     ∙ ap (perform s) (sym (take_is x e))
 
--- where n is not 0 the step is refused by it
-pub opening_refused : (s : State) (x : Step) (i n : ℕ) → Moving s x i → n ≡ opening s x i → (n ≡ 0 → ⊥)
-    → (r : Outcome) → answered r.answer r.bank ≡ refused n s.bank → outcome_meant r s.heads s.doors ≡ perform s x
+-- what the bank and the step's own tests refuse
+abbrev pub opening : State → Step → ℕ → ℕ
+opening s x i = earlier (bank_refusal s) (own_opening s.bank.tree.columns x i s.bank.count)
+
+pub opening_refused : (s : State) (x : Step) (i : ℕ) (e : Refusal) → Moving s x i → refusal_number e ≡ opening s x i
+    → refused (refusal_number e) s ≡ perform s x
 unfolding perform
-opening_refused s x i n moving e some r k = go (truth (is_take x))
+opening_refused s x i e moving is = go (truth (is_take x))
   where
-    go : (is_take x ≡ true) ⊎ (is_take x ≡ false) → outcome_meant r s.heads s.doors ≡ perform s x
+    go : (is_take x ≡ true) ⊎ (is_take x ≡ false) → refused (refusal_number e) s ≡ perform s x
     go (inl takes) =
-        unless_refused s (delivered s (place_in x) (packet_at s (place_in x))) n (take_refusal s (place_in x)) r (e ∙ opening_take _ _ x i _ takes) some k
+        refused_unless s (delivered s (place_in x) (packet_at s (place_in x))) (take_refusal s (place_in x)) e (is ∙ ap (earlier (bank_refusal s)) (opening_take _ x i _ takes))
         ∙ ap (perform s) (sym (take_is x takes))
     go (inr own) =
-        own_refused s x i n (own_is x moving.0 own) (moving.1 (λ z. absurd (true≢false (sym z ∙ own)))) (e ∙ opening_own _ _ x i _ own) some r k
+        own_refused s x i e (own_is x moving.0 own) (moving.1 (λ z. absurd (true≢false (sym z ∙ own)))) (is ∙ ap (earlier (bank_refusal s)) (opening_own _ x i _ own))
 
 -- where it is 0 the bank is valid, and has the column and the packet
 pub record Opened (s : State) (x : Step) (i : ℕ) : Type 0 where
@@ -86,7 +84,7 @@ opened s x i moving e = go (truth (is_take x))
     go : (is_take x ≡ true) ⊎ (is_take x ≡ false) → Opened s x i
     go (inl takes) =
         let late : List (ℕ × Bool) = (10, leb s.bank.count (place_in x)) ∷ [] in
-        let passes : earlier (bank_refusal s) (first late) ≡ 0 = sym (opening_take _ _ x i _ takes) ∙ e in
+        let passes : earlier (bank_refusal s) (first late) ≡ 0 = ap (earlier (bank_refusal s)) (sym (opening_take _ x i _ takes)) ∙ e in
         let q = earlier_none (bank_refusal s) (first late) passes in
         let l = leb-false s.bank.count (place_in x) (passed late tt q.1).0 in
         let w = valid s q.0 in
@@ -98,7 +96,7 @@ opened s x i moving e = go (truth (is_take x))
           actor = a;
         }
     go (inr own) =
-        let w = acting s i (sym (opening_own _ _ x i _ own) ∙ e) in
+        let w = acting s i (ap (earlier (bank_refusal s)) (sym (opening_own _ x i _ own)) ∙ e) in
         record {
           stood = w.0;
           there = λ z. absurd (true≢false (sym z ∙ own));

@@ -1,3 +1,4 @@
+pub mod AcceptedLists
 pub mod SetTests
 pub mod FirstAccepted
 pub mod ReadyAfter

@@ -1,8 +1,10 @@
 -- A step that rewrites the place of one column: an order, what a column does by itself, or a take, which takes its packet off; and what is tested before it.
-use Rattle.std.specs.Prelude.{ℕ, ◌<◌, ◌≤◌, Bool, true, cond, ◌≡◌, [], ◌∷◌, List, eqb, ltb, leb}
+use Rattle.std.specs.Prelude.{ℕ, ◌<◌, ◌≤◌, Bool, true, cond, ◌≡◌, [], ◌∷◌, List, eqb, ltb, leb, IfOk}
+use Rattle.std.specs.Prelude as prelude
 use Rattle.column.specs.Sets.{has}
 use Rattle.column.specs.Packets.{receiver}
-use Rattle.column.specs.Refusals.{first, earlier}
+use Rattle.column.specs.Refusals.{first, refusal_of}
+use Rattle.column.specs.declared.error.Refusal.{Refusal}
 use Rattle.column.specs.declared.tree.Tree.{Tree}
 use Rattle.column.specs.declared.state.Column.{Column}
 use Rattle.bank.specs.Banks.{State, packet_at, capacity, state, column_at, bank_refusal, joined}
@@ -13,8 +15,6 @@ use Rattle.bank.specs.inner.Surveys.{newest_valid}
 use Rattle.bank.specs.declared.bank.Step.{Step}
 use Rattle.bank.specs.declared.bank.Step.TheVariants.{Order, Send, Take, Ack, All, Note, Halt, Back, Write}
 use Rattle.bank.specs.declared.settling.Change.{Change}
-use Rattle.bank.specs.declared.bank.Answer.{Answer}
-use Rattle.bank.specs.declared.unchecked_for_script.Part.{Part}
 use Rattle.bank.specs.declared.bank.Bank.{Bank}
 
 -- the place of the packet that a step takes
@@ -46,26 +46,19 @@ acts s (Write i offset value) j = eqb j i
 abbrev pub Moving : State → Step → ℕ → Type 0
 Moving s x i = (is_move x ≡ true) × ((is_take x ≡ true → place_in x < capacity) → acts s x i ≡ true)
 
--- the number n by which the bank is refused, then 10 of a take and 4 of any other
-unfoldable pub opening_refusal : ℕ → ℕ → Step → ℕ → ℕ → ℕ
-opening_refusal n columns x i count =
-    cond (is_take x) (earlier n (first ((10, leb count (place_in x)) ∷ []))) (earlier n (first ((4, leb columns i) ∷ [])))
+-- what a step of column i is refused by where the bank is not: a take by 10, any other by 4
+abbrev pub own_opening : ℕ → Step → ℕ → ℕ → ℕ
+own_opening columns x i count = cond (is_take x) (first ((10, leb count (place_in x)) ∷ [])) (first ((4, leb columns i) ∷ []))
 
 -- what the step makes of column i, which is c, and of the network
-abbrev pub Moves : Change → Tree → ℕ → Step → ℕ → Column → ℕ → List ℕ → List ℕ → List ℕ → List ℕ → Type 0
+abbrev pub Moves : prelude.Result Change Refusal → Tree → ℕ → Step → ℕ → Column → ℕ → List ℕ → List ℕ → List ℕ → List ℕ → Type 0
 Moves r t running x i c count heads doors heads' doors' =
     (columns : List Column) → let s = state (joined t columns count) heads doors in
     column_at s.bank i ≡ c → RunningIs running s.bank → bank_refusal s ≡ 0 → i < t.columns → acts s x i ≡ true
     → changed s.bank i r heads' doors' ≡ perform s x
 
-pub record PartIs (r : Part) (c : Column) (count : ℕ) (a : Answer) (n : ℕ) : Type 0 where
-  pub column_is : r.column ≡ c
-  pub count_is : r.count ≡ count
-  pub answer_is : r.answer ≡ a
-  pub refusal_is : r.refusal ≡ n
-
--- a bank that was valid before a step is refused by 4 after it, or by nothing
-abbrev pub RefusesAfter : ℕ → Tree → ℕ → ℕ → List ℕ → Type 0
-RefusesAfter n t running count heads =
-    (b : Bank) (doors : List ℕ) → b.tree ≡ t → RunningIs running b → b.count ≡ count → t.columns ≤ 16 → count ≤ 512
-    → n ≡ cond (newest_valid (state b heads doors)) 0 4
+-- a bank that was valid before a step is refused by 4 after it, or by nothing: then the same run
+pub record KnownAfter (r : prelude.Result ℕ Refusal) (t : Tree) (running count : ℕ) (heads : List ℕ) : Type 0 where
+  pub refuses : (b : Bank) (doors : List ℕ) → b.tree ≡ t → RunningIs running b → b.count ≡ count → t.columns ≤ 16 → count ≤ 512
+      → refusal_of r ≡ cond (newest_valid (state b heads doors)) 0 4
+  pub running_is : IfOk r (λ who. who ≡ running)

@@ -1,5 +1,8 @@
 -- What every step tests first, from the heads of the packets alone: the doors that they carry are not looked at.
-use Rattle.std.specs.Prelude.{ℕ, ◌+◌, ◌-◌, ◌*◌, ◌/◌, ◌%◌, ◌≤◌, ◌<◌, ◌≡◌, List, Bool, true, not, ◌&&◌, ◌||◌, cond, eqb, leb, ltb}
+use Rattle.std.specs.Prelude.{ℕ, ◌+◌, ◌-◌, ◌*◌, ◌/◌, ◌%◌, ◌≤◌, ◌<◌, ◌≡◌, List, Bool, true, not, ◌&&◌, ◌||◌, cond, eqb, leb, ltb, IfOk}
+use Rattle.std.specs.Prelude as prelude
+use Rattle.column.specs.Refusals.{refusal_of}
+use Rattle.column.specs.declared.error.Refusal.{Refusal}
 use Rattle.column.specs.Sets.{has, join, insert, within, selected}
 use Rattle.column.specs.Trees.{every}
 use Rattle.column.specs.declared.tree.Tree.{Tree}
@@ -7,7 +10,6 @@ use Rattle.column.specs.declared.state.Column.{Column}
 use Rattle.bank.specs.Banks.{State, column_at, runs, running_of, packet_at, column_valid, packet_valid, RefusesBank, joined}
 use Rattle.bank.specs.declared.bank.Bank.{Bank}
 use Rattle.bank.specs.declared.survey.Seen.{Seen}
-use Rattle.bank.specs.declared.survey.Surveyed.{Surveyed}
 use Rattle.bank.specs.Words.{ends, acknowledging, receiver_in, sender_in}
 
 -- row 4 of a packet but for whether its receiver runs
@@ -89,9 +91,9 @@ RefusesSeen n t v whole count heads =
     → (t.root < 16 → whole ≡ (column_at (joined t columns count) t.root).whole) → RefusesBank n (joined t columns count) heads
 
 -- and who runs, where it is not refused
-pub record Surveys (r : Surveyed) (b : Bank) (heads : List ℕ) : Type 0 where
-  pub refuses : RefusesBank r.refusal b heads
-  pub running_is : r.refusal ≡ 0 → r.running ≡ running_of b
+pub record Surveys (r : prelude.Result ℕ Refusal) (b : Bank) (heads : List ℕ) : Type 0 where
+  pub refuses : RefusesBank (refusal_of r) b heads
+  pub running_is : IfOk r (λ running. running ≡ running_of b)
 
 -- ---- what a step can have changed
 

@@ -1,6 +1,8 @@
 -- A turn as the dispatcher takes it: its step, found by sets alone, in a valid bank the dispatcher's by `quick_turn_lem` of FirstAccepted; what that
 -- step makes of its column and of the network; and where the turns end.
-use Rattle.std.specs.Prelude.{ℕ, zero, suc, Bool, not, ◌&&◌, ◌||◌, cond, ◌≡◌, List, eqb, ltb, get_or}
+use Rattle.std.specs.Prelude.{ℕ, zero, suc, Bool, not, ◌&&◌, ◌||◌, cond, ◌≡◌, List, eqb, ltb, get_or, length}
+use Rattle.std.specs.Prelude as prelude
+use Rattle.column.specs.declared.error.Refusal.{Refusal}
 use Rattle.column.specs.Sets.{has, minus, lowest, selected}
 use Rattle.column.specs.Trees.{choose}
 use Rattle.column.specs.Columns.{idle, watched, may_acknowledge}
@@ -9,14 +11,14 @@ use Rattle.column.specs.Steps as core
 use Rattle.column.specs.declared.tree.Tree.{Tree}
 use Rattle.column.specs.declared.state.Column.{Column}
 use Rattle.bank.specs.Words.{receiver_in}
-use Rattle.bank.specs.Banks.{column_at, halted_of, capacity, state, bank_refusal}
+use Rattle.bank.specs.Banks.{State, column_at, halted_of, capacity, state, bank_refusal}
 use Rattle.bank.specs.StepKinds.{is_take}
 use Rattle.bank.specs.Performs.{perform}
+use Rattle.bank.specs.Dispatch.{dispatched, dispatch}
 use Rattle.bank.specs.inner.Changes.{changed, Handed}
 use Rattle.bank.specs.declared.bank.Bank.{Bank}
 use Rattle.bank.specs.declared.bank.Step.{Step}
 use Rattle.bank.specs.declared.bank.Step.TheVariants.{Order, Send, Take, Ack, All, Note, Halt, Back, Write}
-use Rattle.bank.specs.declared.bank.Answer.TheVariants.{Done}
 use Rattle.bank.specs.declared.dispatch.Dispatched.{Dispatched}
 use Rattle.bank.specs.declared.settling.Change.{Change}
 
@@ -76,11 +78,10 @@ acting_in (Halt m) oldest = receiver_in oldest
 acting_in (Back j) oldest = receiver_in oldest
 acting_in (Write i offset value) oldest = receiver_in oldest
 
--- where the turns end: b after so many steps
-pub record Ended (r : Dispatched) (b : Bank) (steps : ℕ) : Type 0 where
-  pub done : r.answer ≡ Done
-  pub bank_is : r.bank ≡ b
-  pub steps_are : r.steps ≡ steps
+-- where the turns of a valid bank end
+pub record Turns (r : Dispatched) (heads doors : List ℕ) (limit : ℕ) (s : State) : Type 0 where
+  pub count_is : r.steps ≡ length (dispatched limit s)
+  pub bank_is : state r.bank heads doors ≡ dispatch limit s
 
 -- the effect of a turn's step that takes no packet, on column i, which is c; what no turn takes is refused
 abbrev pub turn_effect : Tree → Step → ℕ → Column → core.Result
@@ -95,7 +96,7 @@ turn_effect t (Back j) i c = core.refused 10 c
 turn_effect t (Write k offset value) i c = core.refused 10 c
 
 -- of every valid bank of which these are the parts: the turn's step
-abbrev pub TakesTurn : Change → Tree → ℕ → Step → ℕ → Column → ℕ → List ℕ → List ℕ → List ℕ → List ℕ → Type 0
+abbrev pub TakesTurn : prelude.Result Change Refusal → Tree → ℕ → Step → ℕ → Column → ℕ → List ℕ → List ℕ → List ℕ → List ℕ → Type 0
 TakesTurn r t running x i c count heads doors heads' doors' =
     (b : Bank) → Handed b t running i c count → bank_refusal (state b heads doors) ≡ 0 → x ≡ quick_turn b → i ≡ acting_in x (get_or heads 0 0)
     → changed b i r heads' doors' ≡ perform (state b heads doors) x

@@ -1,4 +1,4 @@
--- A list from which one place is taken out while later ones move up, and the laws of the loop that does it.
+-- A list from which one place is taken out while later ones move up, a list whose last places are filled, and a filter of two lists by one loop.
 use Prim.Native.Nat.{ℕ, suc, ◌+◌, ◌-◌, ◌≤◌, ◌<◌}
 use Rattle.std.specs.Prelude.{◌≡◌, Bool, true, false, cond}
 use Rattle.std.proofs.Math.Path.{refl, sym, ap, ap₂}
@@ -9,7 +9,7 @@ use Rattle.std.proofs.Math.Numerals.{add-one}
 use native.Mathlib.Omega.{arith}
 use Rattle.std.proofs.Math.ListN.{length, get_or, set, take, drop, replicate, length-drop, length-append}
 use Rattle.std.proofs.lemmas.List.{length-replicate, length-map, replicate-append-replicate}
-use Rattle.std.proofs.Math.Seq.{drop-append-add, drop-drop, drop-cons, take_at, take-suc, get_or-drop, set_at, get_or-append-add}
+use Rattle.std.proofs.Math.Seq.{paste, drop-append-add, drop-drop, drop-cons, take_at, take-suc, get_or-drop, set_at, get_or-append-add}
 use Rattle.bank.specs.Networks.{closed_up, keeping, padded}
 use Rattle.bank.specs.inner.NetworkWords.{partly}
 
@@ -49,6 +49,25 @@ module _ {A : Type 0} (s : List A) (p : ℕ) (d : A) where
       let n : length X ≡ c - 1 = head_length (c - 1) (omega arith) (omega arith) in
       let e : suc (c - 1) ≡ c = omega arith in
       rw (drop-cons s (c - 1) d (omega arith), set_at X (get_or s (c - 1) d) (drop (suc (c - 1)) s) v (c - 1) n, e)
+
+-- the later places are copied as one block
+pub closed_block : {A : Type 0} (s : List A) (p last : ℕ) (v : A) → p ≤ last → last < length s
+    → set (paste s p (drop (p + 1) s) (last + 1 - (p + 1))) last v ≡ closed_up s p (last + 1) v
+unfolding shifted
+closed_block s p last v h l =
+    let k : last + 1 - (p + 1) ≡ last - p = omega arith in
+    let m : p + (last - p) ≡ last = omega arith in
+    let o : last + 1 - 1 ≡ last = omega arith in
+    rw (k, m) (ap (λ q. set (shifted s p q) q v) (sym o) ∙ shifted_end s p v (last + 1) v (omega arith) (omega arith))
+
+-- the places between two are filled at once
+pub padded_block : {A : Type 0} (s ys : List A) (from to : ℕ) (v : A) → from ≤ to → to ≤ length s → ys ≡ replicate (to - from) v
+    → take from s ++ (ys ++ drop (to - from) (drop from s)) ≡ padded (take from s) to v s
+unfolding padded
+padded_block s ys from to v h l e =
+    let m : from + (to - from) ≡ to = omega arith in
+    let n : length (take from s) ≡ from = simp length-take (omega arith) in
+    rw (e, drop-drop (to - from) from s, m, n)
 
 -- what is known of the list of an array of structs is known of a `map` of it: for `search (needs, length_mapped)`
 pub length_mapped : (X Y : Type 0) (f : X → Y) (l : List X) (n : ℕ) → length (map f l) ≡ n → length l ≡ n

@@ -1,11 +1,12 @@
 -- What a step of a bank comes to: refused where row 4 refuses, and otherwise what the core's result makes of the bank.
 -- Assumes nothing.
-use Rattle.std.specs.Prelude.{ℕ, ◌+◌, ◌≤◌, ◌<◌, ◌^◌, Bool, not, ◌||◌, List, [], ◌∷◌, eqb, leb}
+use Rattle.std.specs.Prelude.{ℕ, ◌+◌, ◌≤◌, ◌<◌, ◌^◌, Bool, not, ◌||◌, List, [], ◌∷◌, eqb, leb, Ok, Err}
+use Rattle.std.specs.Prelude as prelude
 use Rattle.std.proofs.Math.Path.{◌≡◌, refl, ap}
 use Rattle.std.proofs.Common.{sym, ◌∙◌, true≢false, arith, eq-eqb, ne_eqb, eqb-true, lt-ltb, le-ltb, leb-false}
 use Rattle.std.proofs.Math.Bool.{true, false, cond}
 use Rattle.std.proofs.Math.ListN as list
-use Rattle.column.specs.Refusals.{first, earlier}
+use Rattle.column.specs.Refusals.{first, earlier, refusal_number}
 use Rattle.column.specs.laws.RefusalLaws.{passed, earlier_none, earlier_zero}
 use Rattle.column.specs.Sets.{has, join, within}
 use Rattle.column.specs.laws.SetLaws.{within_lt, selected_lt, selected_has}
@@ -17,6 +18,7 @@ use Rattle.column.specs.Steps as core
 use Rattle.column.specs.Steps.{halt_refusal, halt_effect}
 use Rattle.column.specs.declared.outcome.Answer as core-answer
 use Rattle.column.specs.declared.outcome.Answer.TheVariants as core_is
+use Rattle.column.specs.declared.error.Refusal.{Refusal}
 use Rattle.column.specs.declared.tree.Tree.{Tree}
 use Rattle.column.specs.declared.state.Column.{Column}
 use Rattle.column.specs.declared.packet.Packet.{Packet}
@@ -27,12 +29,8 @@ use Rattle.bank.specs.laws.ListSteps.{keeping_few}
 use Rattle.bank.specs.Networks.{with_packet, put, puts, only, elsewhere, vanished}
 use Rattle.bank.specs.Steps.{Result, accepted, refused, answered, outcome_meant, unless, with_column, fitting, settled, acted, take_refusal}
 use Rattle.bank.specs.Steps as strip
-use Rattle.bank.specs.inner.Changes.{takes_off}
 use Rattle.bank.specs.inner.Returning.{halting_refusal}
 use Rattle.bank.specs.declared.bank.Bank.{Bank}
-use Rattle.bank.specs.declared.bank.Answer.{Answer}
-use Rattle.bank.specs.declared.bank.Answer.TheVariants.{Done, Refused}
-use Rattle.bank.specs.declared.bank.Outcome.{Outcome}
 
 -- ---- what is answered of a bank, said of the bank with words
 
@@ -40,16 +38,29 @@ abbrev with_words : List ℕ → List ℕ → Result Bank → Result State
 with_words heads doors (accepted b) = accepted (state b heads doors)
 with_words heads doors (refused n b) = refused n (state b heads doors)
 
-module _ (r : Outcome) (b : Bank) (heads doors : List ℕ) where
-  worded : (a : Answer) → answered a (state r.bank heads doors) ≡ with_words heads doors (answered a r.bank)
-  worded Done = refl
-  worded (Refused n) = refl
+module _ (before : Bank) (r : prelude.Result Bank Refusal) (b : Bank) (heads doors : List ℕ) where
+  worded : (r : prelude.Result Bank Refusal) → outcome_meant before r heads doors ≡ with_words heads doors (answered before r)
+  worded (Ok after) = refl
+  worded (Err e) = refl
 
-  pub accepted_words : answered r.answer r.bank ≡ accepted b → outcome_meant r heads doors ≡ accepted (state b heads doors)
-  accepted_words e = worded r.answer ∙ ap (with_words heads doors) e
+  pub accepted_words : answered before r ≡ accepted b → outcome_meant before r heads doors ≡ accepted (state b heads doors)
+  accepted_words e = worded r ∙ ap (with_words heads doors) e
 
-  pub refused_words : (n : ℕ) → answered r.answer r.bank ≡ refused n b → outcome_meant r heads doors ≡ refused n (state b heads doors)
-  refused_words n e = worded r.answer ∙ ap (with_words heads doors) e
+  pub refused_words : (n : ℕ) → answered before r ≡ refused n b → outcome_meant before r heads doors ≡ refused n (state b heads doors)
+  refused_words n e = worded r ∙ ap (with_words heads doors) e
+
+-- ---- a refusal of the code's
+
+-- its number is never 0, which says that there is none
+pub some_number : (e : Refusal) → refusal_number e ≡ 0 → ⊥
+some_number e = grind arith
+
+-- the earlier of two groups of conditions is the one that refuses, or it lets pass
+pub earlier_refused : (e : Refusal) (n m : ℕ) → refusal_number e ≡ n → refusal_number e ≡ earlier n m
+earlier_refused e n m is = is ∙ rw (ne_eqb n 0 (λ z. some_number e (is ∙ z)))
+
+pub earlier_passed : {n m k : ℕ} → 0 ≡ n → k ≡ m → k ≡ earlier n m
+earlier_passed z is = rw (sym z) is
 
 -- ---- a packet put, and row 9
 
@@ -78,6 +89,12 @@ module _ (s next : State) (p : Packet) where
 
 -- ---- what the core's answer takes off
 
+-- whether an answer of the core's takes the packet of its step off
+abbrev pub takes_off : core-answer.Answer → Bool
+takes_off core_is.Done = true
+takes_off (core_is.Put p) = true
+takes_off (core_is.Left p) = false
+
 pub put_count : (s : State) (p : Packet) → (put s p).bank.count ≤ s.bank.count + 1
 unfolding put
 put_count s p = go (runs s.bank (receiver p))
@@ -87,35 +104,35 @@ put_count s p = go (runs s.bank (receiver p))
     go false = omega arith
 
 module _ (s gone : State) (i : ℕ) (c : Column) where
+  -- a packet that is left in its place changes nothing of what is settled
   pub settled_stays : (a : core-answer.Answer) → takes_off a ≡ false → settled s s i (core.answered c a) ≡ settled s gone i (core.answered c a)
   settled_stays core_is.Done e = absurd (true≢false e)
   settled_stays (core_is.Put p) e = absurd (true≢false e)
   settled_stays (core_is.Left p) e = refl
-  settled_stays (core_is.Refused n) e = refl
 
-  module _ (room : gone.bank.count < capacity) where
-    fits_both : (next : State) → next.bank.count ≤ capacity → fitting gone next ≡ fitting s next
-    fits_both next l = sym (fits gone next l) ∙ fits s next l
+module _ (s gone : State) (i : ℕ) (c : Column) (room : gone.bank.count < capacity) where
+  fits_both : (next : State) → next.bank.count ≤ capacity → fitting gone next ≡ fitting s next
+  fits_both next l = sym (fits gone next l) ∙ fits s next l
 
-    -- a packet off leaves room for the one that is put
-    pub settled_off : (a : core-answer.Answer) → takes_off a ≡ true
-        → settled gone gone i (core.answered c a) ≡ settled s gone i (core.answered c a)
-    unfolding puts
-    settled_off core_is.Done e = fits_both (with_column gone i c) (omega (arith, room))
-    settled_off (core_is.Put p) e = fits_both (put (with_column gone i c) p) (omega (arith, room, put_count (with_column gone i c) p))
-    settled_off (core_is.Left p) e = absurd (true≢false (sym e))
-    settled_off (core_is.Refused n) e = absurd (true≢false (sym e))
+  -- a packet off leaves room for the one that is put
+  pub settled_off : (a : core-answer.Answer) → takes_off a ≡ true → settled gone gone i (core.answered c a) ≡ settled s gone i (core.answered c a)
+  unfolding puts
+  settled_off core_is.Done e = fits_both (with_column gone i c) (omega (arith, room))
+  settled_off (core_is.Put p) e = fits_both (put (with_column gone i c) p) (omega (arith, room, put_count (with_column gone i c) p))
+  settled_off (core_is.Left p) e = absurd (true≢false (sym e))
 
 -- ---- a refusal m is answered, or there is none
 
 module _ (s : State) (effect : Result State) (m n : ℕ) where
-  pub unless_refused : (r : Outcome) → m ≡ n → (m ≡ 0 → ⊥) → answered r.answer r.bank ≡ refused m s.bank
-      → outcome_meant r s.heads s.doors ≡ unless n s effect
-  unless_refused r e z a =
-      refused_words r s.bank s.heads s.doors m a ∙ rw (ne_eqb n 0 (λ w. z (e ∙ w))) (ap (λ k. refused k s) e)
+  pub unless_refused : m ≡ n → (m ≡ 0 → ⊥) → refused m s ≡ unless n s effect
+  unless_refused e z = rw (ne_eqb n 0 (λ w. z (e ∙ w))) (ap (λ k. refused k s) e)
 
   pub unless_goes : m ≡ n → m ≡ 0 → effect ≡ unless n s effect
   unless_goes e z = rw (eq-eqb n 0 (sym e ∙ z))
+
+-- a refusal of the code's is answered
+pub refused_unless : (s : State) (effect : Result State) (n : ℕ) (e : Refusal) → refusal_number e ≡ n → refused (refusal_number e) s ≡ unless n s effect
+refused_unless s effect n e is = unless_refused s effect (refusal_number e) n is (some_number e)
 
 module _ (s : State) (i n : ℕ) (e : n ≡ acting_refusal s i) where
   pub acts : n ≡ 0 → (i < 16) × (s.bank.count ≤ 512)
@@ -124,10 +141,9 @@ module _ (s : State) (i n : ℕ) (e : n ≡ acting_refusal s i) where
       (omega (arith, a.1, tree_sixteen s.bank.tree a.0.tree), a.0.room)
 
   -- the steps that take no packet off
-  pub acted_refused : (result : core.Result) (r : Outcome) → (n ≡ 0 → ⊥) → answered r.answer r.bank ≡ refused n s.bank
-      → outcome_meant r s.heads s.doors ≡ acted s i result
+  pub acted_refused : (result : core.Result) → (n ≡ 0 → ⊥) → refused n s ≡ acted s i result
   unfolding acted
-  acted_refused result r = unless_refused s (settled s s i result) n (acting_refusal s i) r e
+  acted_refused result = unless_refused s (settled s s i result) n (acting_refusal s i) e
 
   pub acted_settled : (result : core.Result) {after : Result State} → n ≡ 0 → after ≡ settled s s i result → after ≡ acted s i result
   unfolding acted
@@ -148,6 +164,13 @@ module _ (t : Tree) (i : ℕ) (c : Column) (j : ℕ) (runs : Bool) where
       six : (n : ℕ) (x : Bool) → eqb n 0 ≡ x → core.refused (cond x 6 n) c ≡ core.unless (cond x 6 n) c (core.note_effect t c j)
       six n true z = refl
       six n false z = rw z
+
+  -- the core refuses, or j runs
+  pub note_refused : (e : Refusal) → refusal_number e ≡ core.note_refusal t i c j → core.refused (refusal_number e) c ≡ believed
+  note_refused e is = rw (sym is, ne_eqb (refusal_number e) 0 (some_number e), ne_eqb (refusal_number e) 0 (some_number e))
+
+  pub note_six : runs ≡ true → 0 ≡ core.note_refusal t i c j → core.refused 6 c ≡ believed
+  note_six e is = rw (e, sym is)
 
 -- ---- take
 

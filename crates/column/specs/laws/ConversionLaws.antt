@@ -147,3 +147,15 @@ convert_size s n = go (alone_in narrow s) (alone_in wide s)
             → n ≤ length (cond b (wrote_none 18) (wrote (bytes_in narrow p))).bytes
         further true e = let z : ◌≡◌ {A = ℕ} 0 1 = cc in absurd (omega arith)
         further false e = wrote_size (bytes_in narrow p) n e
+
+-- bytes that are not one packet are 12
+pub alone_refused : (w : Width) (s : List ℕ) (n : ℕ) → refused n ≡ alone_in w s → n ≡ 12
+alone_refused w s n e = go (read_in w s) e
+  where
+    tested : (p : Packet) (b : Bool) → refused n ≡ cond b (given p) (refused 12) → n ≡ 12
+    tested p true e = cc
+    tested p false e = cc
+
+    go : (g : Given Part) → refused n ≡ exactly g (length s) → n ≡ 12
+    go (given q) e = tested q.packet (eqb q.used (length s)) e
+    go (refused m) e = cc

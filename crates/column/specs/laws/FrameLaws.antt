@@ -1,17 +1,16 @@
 -- Laws of frames: packets that are written one after another are read back, and what a frame is read as is written back.
 -- Assumes nothing.
-use Rattle.std.specs.Prelude.{ℕ, zero, suc, ◌+◌, ◌-◌, ◌≤◌, ◌<◌, ◌≡◌, refl, Bool, true, false, cond, List, [], ◌∷◌, ◌++◌, map, eqb, length, drop, get_or, replicate}
-use Rattle.std.proofs.Common.{sym, ap, ap₂, ◌∙◌, append_assoc, append-nil, arith, length-append, eqb-true, ne_eqb}
-use Rattle.std.proofs.lemmas.List.{length-map, length-replicate, get_or-replicate}
+use Rattle.std.specs.Prelude.{ℕ, zero, suc, ◌+◌, ◌-◌, ◌≤◌, ◌<◌, ◌≡◌, refl, Bool, true, false, cond, List, [], ◌∷◌, ◌++◌, eqb, length, drop, get_or, replicate}
+use Rattle.std.proofs.Common.{sym, ap, ◌∙◌, append_assoc, append-nil, arith, length-append, eqb-true, ne_eqb}
+use Rattle.std.proofs.lemmas.List.{length-replicate, get_or-replicate}
 use Rattle.std.proofs.Math.Seq.{drop-append_seam}
 use Rattle.column.specs.Refusals.{Given, given, refused}
 use Rattle.column.specs.Packets.{Part, part, wide, bytes_in, bytes_of, good_ends, read}
 use Rattle.column.specs.laws.NumberLaws.{Bytes, bytes_drop}
 use Rattle.column.specs.laws.PacketLaws.{Fits, read_write, write_read, read_rest, wide_kinds}
-use Rattle.column.specs.Frames.{frame_packets, prefixed, followed, packets_in, read_frame, joined, slot, no_slot, Framed, frame_of}
+use Rattle.column.specs.Frames.{frame_packets, prefixed, followed, packets_in, read_frame, joined, no_packet, Framed, frame_of}
 use Rattle.column.specs.declared.packet.Packet.{Packet}
 use Rattle.column.specs.declared.packet.Packet.TheVariants.{Message, Acknowledgement}
-use Rattle.column.specs.declared.frame.Slot.{Slot}
 
 -- ---- packets before what the rest of a frame yields
 
@@ -207,14 +206,14 @@ frame_refused s k e = packets_refused k frame_packets s e
 -- the answer has n packets, these: they are first, and in every place past them is the message 0 from 0 to 0, which is no packet
 pub record Laid (f : Framed) (ps : List Packet) : Type 0 where
   pub places : length f.packets ≡ frame_packets
-  pub first : (k : ℕ) (d : Slot) (p : Packet) → k < length ps → get_or f.packets k d ≡ slot (get_or ps k p)
-  pub past : (k : ℕ) (d : Slot) → length ps ≤ k → k < frame_packets → get_or f.packets k d ≡ slot (Message 0 0 0 0)
+  pub first : (k : ℕ) (d : Packet) (p : Packet) → k < length ps → get_or f.packets k d ≡ get_or ps k p
+  pub past : (k : ℕ) (d : Packet) → length ps ≤ k → k < frame_packets → get_or f.packets k d ≡ Message 0 0 0 0
 
 laid : (ps : List Packet) → length ps ≤ frame_packets → Laid (frame_of (given ps)) ps
 laid ps l = record {
   places =
-      length-append (map slot ps) rest
-      ∙ ap₂ (λ (a b : ℕ). a + b) (length-map ps slot) (length-replicate (frame_packets - length ps) no_slot) ∙ whole;
+      length-append ps rest
+      ∙ ap (λ (b : ℕ). length ps + b) (length-replicate (frame_packets - length ps) no_packet) ∙ whole;
   first = λ k d p h. first ps k d p h;
   past = λ k d h m. past ps k d h (omega (arith, m, whole));
 }
@@ -222,17 +221,17 @@ laid ps l = record {
     whole : length ps + (frame_packets - length ps) ≡ frame_packets
     whole = omega (arith, l)
 
-    rest : List Slot
-    rest = replicate (frame_packets - length ps) no_slot
+    rest : List Packet
+    rest = replicate (frame_packets - length ps) no_packet
 
-    first : (qs : List Packet) (k : ℕ) (d : Slot) (p : Packet) → k < length qs → get_or (map slot qs ++ rest) k d ≡ slot (get_or qs k p)
+    first : (qs : List Packet) (k : ℕ) (d : Packet) (p : Packet) → k < length qs → get_or (qs ++ rest) k d ≡ get_or qs k p
     first [] k d p h = absurd (omega (arith, h))
     first (q ∷ qs) zero d p h = refl
     first (q ∷ qs) (suc k) d p h = first qs k d p (omega (arith, h))
 
-    past : (qs : List Packet) (k : ℕ) (d : Slot) → length qs ≤ k → k < length qs + (frame_packets - length ps)
-        → get_or (map slot qs ++ rest) k d ≡ slot (Message 0 0 0 0)
-    past [] k d h m = get_or-replicate (frame_packets - length ps) k no_slot d (omega (arith, m))
+    past : (qs : List Packet) (k : ℕ) (d : Packet) → length qs ≤ k → k < length qs + (frame_packets - length ps)
+        → get_or (qs ++ rest) k d ≡ Message 0 0 0 0
+    past [] k d h m = get_or-replicate (frame_packets - length ps) k no_packet d (omega (arith, m))
     past (q ∷ qs) zero d h m = absurd (omega (arith, h))
     past (q ∷ qs) (suc k) d h m = past qs k d (omega (arith, h)) (omega (arith, m))
 
@@ -245,8 +244,8 @@ pub frame_declined : (s : List ℕ) (k : ℕ) → read_frame s ≡ refused k →
 frame_declined s k e = rw e (
   ap refused (frame_refused s k e),
   record {
-    places = length-replicate frame_packets no_slot;
+    places = length-replicate frame_packets no_packet;
     first = λ j d p h. absurd (omega (arith, h));
-    past = λ j d h m. get_or-replicate frame_packets j no_slot d m;
+    past = λ j d h m. get_or-replicate frame_packets j no_packet d m;
   },
 )

@@ -275,3 +275,19 @@ write_bad p (inr (inr h)) = go (ltb (sender p) 16) (ltb (receiver p) 16)
     go true true = rw (eq-eqb (sender p) (receiver p) h)
     go true false = refl
     go false b = refl
+
+-- ---- bytes that begin with no packet
+
+pub read_refused : (w : Width) (s : List ℕ) (n : ℕ) → refused n ≡ read_in w s → n ≡ 12
+unfolding read_in
+read_refused w s n e =
+    go _ _ (eqb (get_or s 0 0) w.message) (leb (message_size w) (length s) && good_ends (message_in w s))
+    (eqb (get_or s 0 0) w.acknowledgement) (leb (acknowledgement_size w) (length s) && good_ends (acknowledgement_in w s)) e
+  where
+    go : (x y : Part) (a b c d : Bool)
+        → refused n ≡ cond a (cond b (given x) (refused 12)) (cond c (cond d (given y) (refused 12)) (refused 12)) → n ≡ 12
+    go x y true true c d e = cc
+    go x y true false c d e = cc
+    go x y false b true true e = cc
+    go x y false b true false e = cc
+    go x y false b false d e = cc

@@ -1,16 +1,14 @@
 -- The bytes of a packet as they are put into fifteen, for the proof of the writer, and the places of a frame as they are filled one after another, for
 -- the proof of the frame reader. Assumes nothing.
-use Rattle.std.specs.Prelude.{ℕ, zero, suc, ◌+◌, ◌-◌, ◌≤◌, ◌<◌, ◌≡◌, refl, List, ◌∷◌, ◌++◌, [], map, cond, Bool, true, false, length, take, drop, replicate, set, eqb}
+use Rattle.std.specs.Prelude.{ℕ, zero, suc, ◌+◌, ◌-◌, ◌≤◌, ◌<◌, ◌≡◌, refl, List, ◌∷◌, ◌++◌, [], cond, Bool, true, false, length, take, drop, replicate, set, eqb}
 use Rattle.std.proofs.Common.{sym, ap, ap₂, ◌∙◌, append_assoc, append-nil, arith, length-append, length-take, take_at, drop_at, ne_eqb}
-use Rattle.std.proofs.lemmas.List.{length-replicate, length-map, set_at}
+use Rattle.std.proofs.lemmas.List.{length-replicate, set_at}
 use Rattle.column.specs.Refusals.{given, Given, refused}
 use Rattle.column.specs.Packets.{low_first, high_first, number_size, doors_size, wide, message_size, padded, wrote, Part, read, part}
 use Rattle.column.specs.laws.NumberLaws.{length_low, length_high}
-use Rattle.column.specs.Frames.{Framed, slot, framed, frame_packets, no_slot, frame_of, followed, packets_in, read_frame}
-use Rattle.column.specs.inner.Answers.{no_frame}
+use Rattle.column.specs.Frames.{Framed, framed, framed_none, frame_packets, no_packet, frame_of, followed, packets_in, read_frame}
 use Rattle.column.specs.laws.FrameLaws.{after, after_more, after_none}
 use Rattle.column.specs.declared.packet.Packet.{Packet}
-use Rattle.column.specs.declared.frame.Slot.{Slot}
 
 drop_zeros : (k n : ℕ) → drop {A = ℕ} k (replicate n 0) ≡ replicate (n - k) 0
 drop_zeros zero n =
@@ -93,44 +91,40 @@ module _ (kind from to number count : ℕ) where
 -- the rest of a frame laid from a place on, where at most n packets have room
 abbrev pub laid_after : Given Part → (Packet → ℕ → Framed) → Framed
 laid_after (given q) rest = rest q.packet q.used
-laid_after (refused n) rest = no_frame
+laid_after (refused n) rest = framed_none 12
 
-unfoldable pub laid_from : ℕ → List ℕ → List Slot → ℕ → Framed
-laid_from zero s slots count = cond (eqb (length s) 0) (framed count slots) no_frame
+unfoldable pub laid_from : ℕ → List ℕ → List Packet → ℕ → Framed
+laid_from zero s slots count = cond (eqb (length s) 0) (framed count slots) (framed_none 12)
 laid_from (suc n) s slots count =
-    cond (eqb (length s) 0) (framed count slots) (laid_after (read s) (λ p used. laid_from n (drop used s) (set slots count (slot p)) (count + 1)))
-
-map_more : (ps : List Packet) (p : Packet) (r : List Slot) → map slot (ps ++ (p ∷ [])) ++ r ≡ map slot ps ++ (slot p ∷ r)
-map_more [] p r = refl
-map_more (q ∷ ps) p r = ap (λ l. slot q ∷ l) (map_more ps p r)
+    cond (eqb (length s) 0) (framed count slots) (laid_after (read s) (λ p used. laid_from n (drop used s) (set slots count p) (count + 1)))
 
 laid_ended : (n : ℕ) (ps : List Packet) → length ps + n ≡ frame_packets
-    → framed (length ps) (map slot ps ++ replicate n no_slot) ≡ frame_of (after ps (given []))
+    → framed (length ps) (ps ++ replicate n no_packet) ≡ frame_of (after ps (given []))
 laid_ended n ps e =
     let m : frame_packets - length ps ≡ n = omega arith in
     rw (append-nil ps, m)
 
 laid_is : (n : ℕ) (s : List ℕ) (ps : List Packet) → length ps + n ≡ frame_packets
-    → laid_from n s (map slot ps ++ replicate n no_slot) (length ps) ≡ frame_of (after ps (packets_in n s))
+    → laid_from n s (ps ++ replicate n no_packet) (length ps) ≡ frame_of (after ps (packets_in n s))
 unfolding laid_from packets_in
 laid_is zero s ps e = go (eqb (length s) 0)
   where
-    go : (b : Bool) → cond b (framed (length ps) (map slot ps ++ replicate 0 no_slot)) no_frame ≡ frame_of (after ps (cond b (given []) (refused 12)))
+    go : (b : Bool) → cond b (framed (length ps) (ps ++ replicate 0 no_packet)) (framed_none 12) ≡ frame_of (after ps (cond b (given []) (refused 12)))
     go true = laid_ended 0 ps e
     go false = refl
 laid_is (suc n) s ps e = go (eqb (length s) 0) (read s) (λ p used. laid_is n (drop used s) (ps ++ (p ∷ [])) (simp length-append (omega arith)))
   where
-    slots : List Slot
-    slots = map slot ps ++ replicate (suc n) no_slot
+    slots : List Packet
+    slots = ps ++ replicate (suc n) no_packet
 
-    filled : (p : Packet) → set slots (length ps) (slot p) ≡ map slot (ps ++ (p ∷ [])) ++ replicate n no_slot
-    filled p = set_at (map slot ps) no_slot (replicate n no_slot) (slot p) (length ps) (length-map ps slot) ∙ sym (map_more ps p (replicate n no_slot))
+    filled : (p : Packet) → set slots (length ps) p ≡ (ps ++ (p ∷ [])) ++ replicate n no_packet
+    filled p = set_at ps no_packet (replicate n no_packet) p (length ps) refl ∙ sym (append_assoc ps (p ∷ []) (replicate n no_packet))
 
     go : (b : Bool) (r : Given Part)
         → ((p : Packet) (used : ℕ)
-        → laid_from n (drop used s) (map slot (ps ++ (p ∷ [])) ++ replicate n no_slot) (length (ps ++ (p ∷ [])))
+        → laid_from n (drop used s) ((ps ++ (p ∷ [])) ++ replicate n no_packet) (length (ps ++ (p ∷ [])))
         ≡ frame_of (after (ps ++ (p ∷ [])) (packets_in n (drop used s))))
-        → cond b (framed (length ps) slots) (laid_after r (λ p used. laid_from n (drop used s) (set slots (length ps) (slot p)) (length ps + 1)))
+        → cond b (framed (length ps) slots) (laid_after r (λ p used. laid_from n (drop used s) (set slots (length ps) p) (length ps + 1)))
         ≡ frame_of (after ps (cond b (given []) (followed r (λ used. packets_in n (drop used s)))))
     go true r h = laid_ended (suc n) ps e
     go false (refused k) h = refl
@@ -138,25 +132,25 @@ laid_is (suc n) s ps e = go (eqb (length s) 0) (read s) (λ p used. laid_is n (d
         ap₂ (laid_from n (drop q.used s)) (filled q.packet) (sym (length-append ps (q.packet ∷ [])))
         ∙ h q.packet q.used ∙ ap frame_of (after_more ps q.packet (packets_in n (drop q.used s)))
 
-pub laid_frame : (s : List ℕ) → laid_from frame_packets s (replicate frame_packets no_slot) 0 ≡ frame_of (read_frame s)
+pub laid_frame : (s : List ℕ) → laid_from frame_packets s (replicate frame_packets no_packet) 0 ≡ frame_of (read_frame s)
 laid_frame s = laid_is frame_packets s [] refl ∙ ap frame_of (after_none (read_frame s))
 
 -- one turn of the loop
-pub laid_ends : (n : ℕ) (slots : List Slot) (count : ℕ) (s : List ℕ) → length s ≡ 0 → laid_from n s slots count ≡ framed count slots
+pub laid_ends : (n : ℕ) (slots : List Packet) (count : ℕ) (s : List ℕ) → length s ≡ 0 → laid_from n s slots count ≡ framed count slots
 unfolding laid_from
 laid_ends zero slots count s e = rw e
 laid_ends (suc n) slots count s e = rw e
 
-pub laid_full : (slots : List Slot) (count : ℕ) (s : List ℕ) → 0 < length s → laid_from 0 s slots count ≡ no_frame
+pub laid_full : (slots : List Packet) (count : ℕ) (s : List ℕ) → 0 < length s → laid_from 0 s slots count ≡ framed_none 12
 unfolding laid_from
 laid_full slots count s h = rw (ne_eqb (length s) 0 (λ e. omega arith))
 
-pub laid_refused : (n : ℕ) (slots : List Slot) (count : ℕ) (s : List ℕ) (k : ℕ) → 0 < length s → read s ≡ refused k → laid_from n s slots count ≡ no_frame
+pub laid_refused : (n : ℕ) (slots : List Packet) (count : ℕ) (s : List ℕ) (k : ℕ) → 0 < length s → read s ≡ refused k → laid_from n s slots count ≡ framed_none 12
 unfolding laid_from
 laid_refused zero slots count s k h r = rw (ne_eqb (length s) 0 (λ e. omega arith))
 laid_refused (suc n) slots count s k h r = rw (ne_eqb (length s) 0 (λ e. omega arith), r)
 
-pub laid_more : (n : ℕ) (slots : List Slot) (count : ℕ) (s : List ℕ) (p : Packet) (used : ℕ) → 0 < length s → read s ≡ given (part p used)
-    → laid_from (suc n) s slots count ≡ laid_from n (drop used s) (set slots count (slot p)) (count + 1)
+pub laid_more : (n : ℕ) (slots : List Packet) (count : ℕ) (s : List ℕ) (p : Packet) (used : ℕ) → 0 < length s → read s ≡ given (part p used)
+    → laid_from (suc n) s slots count ≡ laid_from n (drop used s) (set slots count p) (count + 1)
 unfolding laid_from
 laid_more n slots count s p used h r = rw (ne_eqb (length s) 0 (λ e. omega arith), r)

@@ -1,5 +1,5 @@
 -- A step for a caller that has tested rows 2 to 4 is the step itself where those let pass; and its effect alone is, where it is accepted. Assumes nothing.
-use Rattle.std.specs.Prelude.{ℕ, ◌≤◌, ◌<◌, ◌≡◌, refl, Bool, true, false, not, ◌&&◌, cond, List, [], ◌∷◌, eqb, leb, ltb}
+use Rattle.std.specs.Prelude.{ℕ, ◌<◌, ◌≡◌, refl, Bool, true, false, not, ◌&&◌, cond, List, [], ◌∷◌, eqb, leb, ltb}
 use Rattle.std.proofs.Common.{sym, ◌∙◌, arith}
 use Rattle.std.proofs.Math.Path.{ap}
 use borrow.Author.Tests.{ne_eqb, eqb-true, eqb-false, leb-true, leb-false, le-leb, ltb-true, lt-ltb, not-false}
@@ -12,6 +12,7 @@ use Rattle.column.specs.Packets.{sender}
 use Rattle.column.specs.Columns.{validity_refusal}
 use Rattle.column.specs.laws.StateLaws.{acceptable, validity_refusal_tree, validity_refusal_sixteen, validity_refusal_column, validity_refusal_lowest}
 use Rattle.column.specs.Steps.{Result, refused, unless, packet_refusal, order_conditions, order_refusal, order_effect, order, take_conditions, take_refusal, take_effect, take, ack_conditions, ack_refusal, ack_effect, ack, all_conditions, all_refusal, all_effect, all, note_conditions, note_refusal, note_effect, note}
+use Rattle.column.specs.inner.Bounds.{Bounds}
 use Rattle.column.specs.Unchecked.{bounded, bounds_refusal, bounded_take, bounded_ack, bounded_all, bounded_note, unchecked_refusal, order_unchecked, take_unchecked, ack_unchecked, all_unchecked, note_unchecked}
 use Rattle.column.specs.declared.tree.Tree.{Tree}
 use Rattle.column.specs.declared.state.Column.{Column}
@@ -21,11 +22,6 @@ use Rattle.column.specs.declared.packet.Packet.{Packet}
 pub validity_refusal_refused : (m n own : ℕ) (c : Column) (effect : Result) {r : Result} → r ≡ refused m c → m ≡ n → (m ≡ 0 → ⊥)
     → r ≡ unless (earlier n own) c effect
 validity_refusal_refused m n own c effect e same some = e ∙ rw (ne_eqb n 0 (λ z. some (same ∙ z)), ne_eqb n 0 (λ z. some (same ∙ z))) (ap (λ k. refused k c) same)
-
-pub record Bounds (t : Tree) (i k : ℕ) : Type 0 where
-  pub sixteen : t.columns ≤ 16
-  pub column : i < 16
-  pub other : k < 16
 
 module _ (t : Tree) (i k : ℕ) where
   abbrev both : Bool

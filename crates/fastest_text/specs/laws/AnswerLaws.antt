@@ -1,7 +1,9 @@
 -- What is written for a request is a table of the fastest tree. Assumes nothing.
-use Rattle.std.specs.Prelude.{ℕ, zero, suc, ◌-◌, ◌≤◌, ◌≡◌, refl, false, List, [], ◌∷◌, ◌++◌, length, get_or, take, replicate}
-use Rattle.std.proofs.Common.{sym, ap, ap₂, append-nil, arith, ne_eqb}
-use Rattle.text.specs.Text.{first_key, watch_key, read, unread, starts_with, refused_text}
+use Rattle.std.specs.Prelude.{ℕ, zero, suc, ◌-◌, ◌≤◌, ◌≡◌, refl, Bool, true, false, cond, List, [], ◌∷◌, ◌++◌, eqb, length, get_or, take, replicate}
+use Rattle.std.proofs.Common.{sym, ap, ap₂, append-nil, arith, ne_eqb, eqb-true}
+use Rattle.column.specs.Refusals.{given, refused}
+use Rattle.column.specs.declared.tree.Tree.{Tree}
+use Rattle.text.specs.Text.{first_key, watch_key, Reading, read, unread, starts_with, refused_text}
 use Rattle.bank.specs.Steps.{accepted}
 use Rattle.table.specs.Tables.{placed_at, read_table, table_text}
 use Rattle.table.specs.laws.TableTexts.{reads_back}
@@ -9,6 +11,7 @@ use Rattle.fastest.specs.Strategy.{grown, fastest_tree, fastest_refusal}
 use Rattle.fastest.specs.laws.StrategyLaws.{made, past_columns, allowed}
 use Rattle.fastest.specs.laws.FastestLaws.{is_scheduled}
 use Rattle.fastest_text.specs.Requests.{Request, request_of, answer_text, request_text}
+use Rattle.fastest_text.specs.inner.RequestAnswers.{tree_given}
 use Rattle.fastest_text.specs.laws.RequestLaws.{table_longest}
 
 -- a list of k numbers that are 0 from n on is its first n with zeros after them
@@ -65,3 +68,35 @@ pub table_fits : (columns delay gap : ℕ) → fastest_refusal columns delay gap
 table_fits columns delay gap e =
     let p = (allowed columns delay gap e).possible in
     (p.few, table_longest (fastest_tree columns delay gap) (is_scheduled columns delay gap p).is_tree)
+
+-- ---- what is answered, by the tree that is asked for
+
+pub record Tabled (q : Reading Request) (t : Tree) : Type 0 where
+  pub text : answer_text q ≡ table_text t
+  pub columns : t.columns ≤ 16
+  pub fits : length (table_text t) ≤ 70
+
+pub answer_given : (q : Reading Request) (t : Tree) → given t ≡ tree_given q → Tabled q t
+unfolding answer_text
+answer_given (read r) t e = go (eqb (fastest_refusal r.columns r.delay r.gap) 0) refl e
+  where
+    go : (b : Bool) → eqb (fastest_refusal r.columns r.delay r.gap) 0 ≡ b
+        → given t ≡ cond b (given (fastest_tree r.columns r.delay r.gap)) (refused (fastest_refusal r.columns r.delay r.gap))
+        → Tabled (read r) t
+    go true b e =
+        let same : t ≡ fastest_tree r.columns r.delay r.gap = cc in
+        let size = table_fits r.columns r.delay r.gap (eqb-true _ 0 b) in
+        rw same (record { text = rw b; columns = size.0; fits = size.1 })
+    go false b e = cc
+answer_given unread t e = cc
+
+pub answer_not_given : (q : Reading Request) (n : ℕ) → refused n ≡ tree_given q → answer_text q ≡ refused_text n
+unfolding answer_text
+answer_not_given (read r) n e = go (eqb (fastest_refusal r.columns r.delay r.gap) 0) refl e
+  where
+    go : (b : Bool) → eqb (fastest_refusal r.columns r.delay r.gap) 0 ≡ b
+        → refused n ≡ cond b (given (fastest_tree r.columns r.delay r.gap)) (refused (fastest_refusal r.columns r.delay r.gap))
+        → answer_text (read r) ≡ refused_text n
+    go true b e = cc
+    go false b e = let same : n ≡ fastest_refusal r.columns r.delay r.gap = cc in rw (b, same)
+answer_not_given unread n e = let same : n ≡ 1 = cc in rw same

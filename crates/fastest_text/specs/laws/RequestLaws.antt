@@ -1,5 +1,5 @@
 -- Requests as the reader holds them, and how long a table is. Assumes nothing.
-use Rattle.std.specs.Prelude.{ℕ, ◌+◌, ◌-◌, ◌*◌, ◌≤◌, ◌≡◌, ◌≢◌, List, length, take, drop}
+use Rattle.std.specs.Prelude.{ℕ, ◌+◌, ◌-◌, ◌*◌, ◌≤◌, ◌≡◌, ◌≢◌, List, Option, Some, None, length, take, drop}
 use Rattle.std.proofs.Common.{arith, length-append, length-take}
 use Rattle.std.proofs.Math.ListN.{length-drop}
 use borrow.Author.Tests.{eq-eqb, ne_eqb}
@@ -11,7 +11,6 @@ use Rattle.text.specs.laws.DividedLaws.{columns_taken, divided_length}
 use Rattle.text.specs.Pieces.{keyed, three_lines, lines_at, ends_meant, Rising}
 use Rattle.text.specs.laws.LineEndLaws.{as_rising, no_lines, lines_are}
 use Rattle.text.specs.declared.three_lines.LineEnds.{LineEnds}
-use Rattle.text.specs.declared.three_lines.LineEnds.TheVariants as ends
 use Rattle.table.specs.Tables.{table_text}
 use Rattle.fastest_text.specs.Requests.{asked, request_in, request_of}
 
@@ -35,19 +34,19 @@ table_longest t is =
 
 -- ---- what is read of the lines that a search found
 
-module _ {r : LineEnds} (s : List ℕ) (f : ends_meant r s ≡ three_lines s) where
-  pub request_fewer : r ≡ ends.Fewer → request_of s ≡ unread
+module _ {r : Option LineEnds} (s : List ℕ) (f : ends_meant r s ≡ three_lines s) where
+  pub request_fewer : r ≡ None → request_of s ≡ unread
   unfolding request_in
   request_fewer e = rw (no_lines s f e)
 
-  module _ {one two three : ℕ} (e : r ≡ ends.At one two three) (up : Rising r s) where
-    pub request_longer : three + 1 ≢ length s → request_of s ≡ unread
+  module _ {l : LineEnds} (e : r ≡ Some l) (up : Rising r s) where
+    pub request_longer : l.three + 1 ≢ length s → request_of s ≡ unread
     unfolding request_in
     request_longer n =
-        rw (lines_are s f e, ne_eqb (length (drop (three + 1) s)) 0 (λ z. omega (arith, z, n, length-drop (three + 1) s, (as_rising s e up).2)))
+        rw (lines_are s f e, ne_eqb (length (drop (l.three + 1) s)) 0 (λ z. omega (arith, z, n, length-drop (l.three + 1) s, (as_rising s e up).2)))
 
-    pub request_whole : three + 1 ≡ length s
-        → request_of s ≡ asked (keyed columns_key 2 (lines_at s one two three).one) (keyed delay_key 3 (lines_at s one two three).two)
-        (keyed gap_key 3 (lines_at s one two three).three)
+    pub request_whole : l.three + 1 ≡ length s
+        → request_of s ≡ asked (keyed columns_key 2 (lines_at s l.one l.two l.three).one) (keyed delay_key 3 (lines_at s l.one l.two l.three).two)
+        (keyed gap_key 3 (lines_at s l.one l.two l.three).three)
     unfolding request_in
-    request_whole n = rw (lines_are s f e, eq-eqb (length (drop (three + 1) s)) 0 (omega (arith, length-drop (three + 1) s, n)))
+    request_whole n = rw (lines_are s f e, eq-eqb (length (drop (l.three + 1) s)) 0 (omega (arith, length-drop (l.three + 1) s, n)))

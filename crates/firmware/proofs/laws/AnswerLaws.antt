@@ -25,8 +25,9 @@ use Rattle.list.specs.laws.ClosingLaws.{list_longest}
 use Rattle.bank.specs.Steps as bank
 use Rattle.table.specs.Tables.{Placed, read_table}
 use Rattle.journals.specs.Journals.{sent_key, got_key}
-use Rattle.journals.specs.PacketLines.{kind_of, sent_line, got_line, owner_bytes, line_bytes}
+use Rattle.journals.specs.PacketLines.{sent_line, got_line, owner_bytes, line_bytes}
 use Rattle.journals.specs.declared.line.Line.{Line}
+use Rattle.firmware.specs.inner.JournalTexts.{kind_of}
 use Rattle.firmware.specs.Blocks.{is_tree, tree_in, is_column, own_in, column_in, are_blocks, column_size, tree_size}
 use Rattle.firmware.proofs.laws.BlockLaws.{block_column_fits}
 use Rattle.firmware.specs.laws.JournalTextLaws.{owner_length, sent_text, got_text, kind_below, packet_length}

@@ -261,7 +261,7 @@ QuietFits All = Unit {0}
 QuietFits (Note j) = Unit {0}
 QuietFits Halt = Unit {0}
 QuietFits (Write offset value) = Unit {0}
-QuietFits (Rejoin copied number doors halted) = (number < 256 ^ 4) × (doors < 256 ^ doors_size)
+QuietFits (Rejoin back) = (back.number < 256 ^ 4) × (back.doors < 256 ^ doors_size)
 QuietFits (Strike back) = Unit {0}
 
 pub quiet_fits : (x : QuietStep) (t : Tree) (i : ℕ) (c : Column) → ColumnFits c → QuietFits x → ColumnFits (after c (quiet_of x t i c))
@@ -270,7 +270,7 @@ quiet_fits All t i c f h = all_fits t i c f
 quiet_fits (Note j) t i c f h = note_fits t i c f j
 quiet_fits Halt t i c f h = halt_fits t i c f
 quiet_fits (Write offset value) t i c f h = page_fits t i c f offset value
-quiet_fits (Rejoin copied number doors halted) t i c f h = rejoin_fits t i c f copied number doors halted h.0 h.1
+quiet_fits (Rejoin back) t i c f h = rejoin_fits t i c f back.copied back.number back.doors back.halted h.0 h.1
 quiet_fits (Strike back) t i c f h = strike_fits t i c f back
 
 abbrev pub PuttingFits : PuttingStep → Type 0

@@ -58,7 +58,7 @@ module _ (tree column : List ℕ) (bytes : Bytes column) where
           (after (column_in column) (rejoin (tree_in tree) (own_in column) (column_in column) copied number (low_value doors) halted))
       unfolding doors_over
       rejoin_steps copied number halted h =
-          rw (eq-eqb (length doors) doors_size l) (quiet_steps (Rejoin copied number (low_value doors) halted) (h, doors_fit))
+          rw (eq-eqb (length doors) doors_size l) (quiet_steps (Rejoin (record { copied = copied; number = number; doors = low_value doors; halted = halted })) (h, doors_fit))
 
   module _ (put : List ℕ) (blocks : StepBlocks tree column put) where
     step_left_lem : (r : core.Result) → is_column column ≡ true → ColumnFits (after (column_in column) r)

@@ -161,5 +161,5 @@ module _ (t : Tree) (i : ℕ) (c : Column) where
   quiet_silent (Note j) = unless_silent (core.note_refusal t i c j) c (note_effect t c j) refl
   quiet_silent Halt = unless_silent (core.halt_refusal t i c) c (halt_effect c) refl
   quiet_silent (Write offset value) = unless_silent (write_refusal t i c offset) c (core.accepted (written c offset value) [] false) refl
-  quiet_silent (Rejoin copied number doors halted) = unless_silent (rejoin_refusal t i c copied halted) c (rejoin_effect t c copied number doors halted) refl
+  quiet_silent (Rejoin back) = unless_silent (rejoin_refusal t i c back.copied back.halted) c (rejoin_effect t c back.copied back.number back.doors back.halted) refl
   quiet_silent (Strike back) = unless_silent (strike_refusal t i c back) c (core.accepted (struck c back) [] false) refl

@@ -7,13 +7,19 @@ use Rattle.column.specs.Steps.{send_conditions, ack_conditions, all_conditions}
 use Rattle.column.specs.Columns.{may_acknowledge}
 use Rattle.column.specs.declared.tree.Tree.{Tree}
 use Rattle.column.specs.declared.state.Column.{Column}
+use Rattle.firmware.specs.Blocks.{tree_in, own_in, column_in}
 use Rattle.firmware.specs.LoneSteps.{rejoin, strike, next}
+use Rattle.firmware.specs.declared.lone.LoneColumn.{LoneColumn}
 use Rattle.firmware.specs.declared.lone.QuietStep.{QuietStep}
 use Rattle.firmware.specs.declared.lone.QuietStep.TheVariants.{Order, All, Note, Halt, Write, Rejoin, Strike}
 use Rattle.firmware.specs.declared.lone.PuttingStep.{PuttingStep}
 use Rattle.firmware.specs.declared.lone.PuttingStep.TheVariants.{Send, Take, Ack, Next}
 use Rattle.firmware.specs.declared.lone.Chosen.{Chosen}
 use Rattle.firmware.specs.declared.lone.Chosen.TheVariants as chosen
+
+-- the column that two blocks mean
+abbrev pub lone_in : List ℕ → List ℕ → LoneColumn
+lone_in tree column = record { tree = tree_in tree; own = own_in column; column = column_in column }
 
 -- what each makes of a column
 abbrev pub quiet_of : QuietStep → Tree → ℕ → Column → core.Result
@@ -22,7 +28,7 @@ quiet_of All = core.all
 quiet_of (Note j) = λ t i c. core.note t i c j
 quiet_of Halt = core.halt
 quiet_of (Write offset value) = λ t i c. page.write t i c offset value
-quiet_of (Rejoin copied number doors halted) = λ t i c. rejoin t i c copied number doors halted
+quiet_of (Rejoin back) = λ t i c. rejoin t i c back.copied back.number back.doors back.halted
 quiet_of (Strike back) = λ t i c. strike t i c back
 
 abbrev pub putting_of : PuttingStep → Tree → ℕ → Column → core.Result

@@ -1,15 +1,23 @@
 -- The lines of a journal as they are written, piece by piece. Assumes nothing.
 use Rattle.std.specs.Prelude.{ℕ, ◌+◌, ◌^◌, ◌≤◌, ◌<◌, ◌≡◌, refl, true, false, List, [], ◌∷◌, ◌++◌, length, take}
 use Rattle.std.proofs.Common.{sym, ap, ap₂, ◌∙◌, true≢false, append_assoc, arith, length-append}
-use Rattle.column.specs.Packets.{is_message, sender, receiver, number_of}
+use Rattle.column.specs.Refusals.{Given, given, refused}
+use Rattle.column.specs.Packets.{is_message, sender, receiver, number_of, good_ends, wide, Part, read}
+use Rattle.column.specs.laws.NumberLaws.{Bytes}
+use Rattle.column.specs.laws.PacketLaws.{write_read, good_ends_lem}
 use Rattle.column.specs.declared.packet.Packet.{Packet}
 use Rattle.column.specs.declared.packet.Packet.TheVariants.{Message, Acknowledgement}
 use Rattle.text.specs.Text.{decimal, Writes, Puts}
 use Rattle.text.specs.laws.DecimalLaws.{decimal_length}
 use Rattle.text.specs.laws.WritingLaws.{puts_all, written_taken}
-use Rattle.journals.specs.Journals.{sent_key, got_key, line_text}
-use Rattle.journals.specs.PacketLines.{kind_of, sent_line, got_line, owner_bytes, line_bytes}
-use Rattle.firmware.specs.inner.JournalTexts.{packet_text, from_number, from_other, from_kind}
+use Rattle.journals.specs.Journals.{sent_key, got_key, way_key, line_text}
+use Rattle.journals.specs.PacketLines.{sent_line, got_line, owner_bytes, line_bytes}
+use Rattle.journals.specs.inner.LineWords.{other_way}
+use Rattle.journals.specs.declared.line.Way.{Way}
+use Rattle.journals.specs.declared.line.Way.TheVariants.{Sent, Got}
+use Rattle.firmware.specs.Blocks.{is_column, own_in}
+use Rattle.firmware.specs.Calls.{Filled, filled_over, sent_left, got_left, sent_call, got_call}
+use Rattle.firmware.specs.inner.JournalTexts.{kind_of, packet_text, from_number, from_other, from_kind, end_of, other_of, way_line, way_left, way_call}
 
 pieces : (a b c : List ℕ) → (a ++ (44 ∷ (b ++ (44 ∷ c)))) ++ (10 ∷ []) ≡ a ++ (44 ∷ (b ++ (44 ∷ (c ++ (10 ∷ [])))))
 pieces a b c = append_assoc a (44 ∷ (b ++ (44 ∷ c))) (10 ∷ []) ∙ ap (λ (s : List ℕ). a ++ (44 ∷ s)) (append_assoc b (44 ∷ c) (10 ∷ []))
@@ -29,6 +37,11 @@ kind_message (Acknowledgement from to number) e = absurd (true≢false (sym e))
 pub kind_acknowledgement : (p : Packet) → is_message p ≡ false → kind_of p ≡ 2
 kind_acknowledgement (Message from to number doors) e = absurd (true≢false e)
 kind_acknowledgement (Acknowledgement from to number) e = refl
+
+-- the other end is the end at the other end's way
+pub other_end : (way : Way) (p : Packet) → end_of (other_way way) p ≡ other_of way p
+other_end Sent p = refl
+other_end Got p = refl
 
 -- ---- a line that was written from the start of a small array on, where it has room
 
@@ -63,3 +76,39 @@ packet_length key kind other number hk ho hn =
       decimal_length 20 1 other (omega (arith, ho)),
       decimal_length 20 9 number (omega (arith, hn)),
     )
+
+-- ---- a packet that was sent or got
+
+pub way_text : (way : Way) (p : Packet) → packet_text (way_key way) (kind_of p) (other_of way p) (number_of p) ≡ line_bytes (way_line way p)
+way_text Sent p = sent_text p
+way_text Got p = got_text p
+
+key_length : (way : Way) → length (way_key way) ≤ 5
+key_length Sent = omega arith
+key_length Got = omega arith
+
+other_below : (way : Way) (p : Packet) → good_ends p ≡ true → other_of way p < 16
+other_below Sent p e = (good_ends_lem p e).1
+other_below Got p e = (good_ends_lem p e).0
+
+-- the line of a packet that was read
+pub way_length : (way : Way) (s : List ℕ) → Bytes s → (q : Part) → given q ≡ read s
+    → length (packet_text (way_key way) (kind_of q.packet) (other_of way q.packet) (number_of q.packet)) ≤ 21
+way_length way s h q e =
+    let p = q.packet in
+    let r = write_read wide s h q (sym e) in
+    omega (arith, packet_length (way_key way) (kind_of p) (other_of way p) (number_of p) (kind_below p) (other_below way p r.ends) r.fits.number, key_length way)
+
+pub way_called : (way : Way) (column packet old : List ℕ)
+    → way_call way column packet old ≡ filled_over (is_column column) (way_left way (own_in column) (read packet) old) old
+unfolding sent_call got_call
+way_called Sent column packet old = ap (λ (f : Filled). filled_over (is_column column) f old) (go (read packet))
+  where
+    go : (g : Given Part) → sent_left (own_in column) g old ≡ way_left Sent (own_in column) g old
+    go (given q) = refl
+    go (refused n) = refl
+way_called Got column packet old = ap (λ (f : Filled). filled_over (is_column column) f old) (go (read packet))
+  where
+    go : (g : Given Part) → got_left (own_in column) g old ≡ way_left Got (own_in column) g old
+    go (given q) = refl
+    go (refused n) = refl

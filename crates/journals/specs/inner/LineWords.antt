@@ -1,6 +1,7 @@
--- A line as one word: its way, its kind, the other column and its number; and whether what was got was sent, by words.
-use Rattle.std.specs.Prelude.{ℕ, ◌*◌, ◌/◌, ◌%◌, ◌+◌, zero, suc, Bool, ◌&&◌, not, ◌||◌, true, List, eqb, length, get_or}
+-- A line as one word: its way, its kind, the other column and its number; and what the words say of what was heard and missed.
+use Rattle.std.specs.Prelude.{ℕ, ◌*◌, ◌/◌, ◌%◌, ◌+◌, Bool, ◌&&◌, not, List, eqb, length}
 use Rattle.column.specs.Columns.{numbers}
+use Rattle.journals.specs.Journals.{kind_number}
 use Rattle.journals.specs.inner.Chains.{among}
 use Rattle.journals.specs.declared.line.Way.{Way}
 use Rattle.journals.specs.declared.line.Way.TheVariants.{Sent, Got}
@@ -37,16 +38,22 @@ number_in key = key % numbers
 abbrev pub turned : ℕ → ℕ → ℕ → ℕ
 turned way other key = word way (kind_in key) other (number_in key)
 
+-- the way at the other end
+abbrev pub other_way : Way → Way
+other_way Sent = Got
+other_way Got = Sent
+
+-- one word: it is a line of this way about b, and b has no line of the other way for it
+abbrev pub unmatched_key : Way → ℕ → ℕ → List ℕ → ℕ → Bool
+unmatched_key way a b theirs key = about_key b (way_number way) key && not (among theirs (length theirs) (turned (way_number (other_way way)) a key))
+
 -- one word: it is no line got from b, or b has sent it
 abbrev pub heard_key : ℕ → ℕ → List ℕ → ℕ → Bool
-heard_key a b theirs key = not (about_key b (way_number Got) key) || among theirs (length theirs) (turned (way_number Sent) a key)
+heard_key a b theirs key = not (unmatched_key Got a b theirs key)
 
-unfoldable pub heard_keys : ℕ → ℕ → List ℕ → ℕ → List ℕ → Bool
-heard_keys a b keys zero theirs = true
-heard_keys a b keys (suc n) theirs = heard_key a b theirs (get_or keys n 0) && heard_keys a b keys n theirs
-
-abbrev pub ways : ℕ
-ways = 2
+-- one word: it is a line sent to b, and b has not got it
+abbrev pub missed_key : ℕ → ℕ → List ℕ → ℕ → Bool
+missed_key a b theirs key = unmatched_key Sent a b theirs key
 
 abbrev pub key_of : Line → ℕ
-key_of x = word (way_number x.way) x.kind x.other x.number
+key_of x = word (way_number x.way) (kind_number x.kind) x.other x.number

@@ -1,5 +1,5 @@
 -- Two journals that were read, compared test by test in the order of the refusals. Assumes nothing.
-use Rattle.std.specs.Prelude.{ℕ, ◌+◌, ◌≤◌, ◌<◌, ◌≡◌, ◌≢◌, ◌⊎◌, Bool, ◌&&◌, ◌||◌, not, eqb, replicate}
+use Rattle.std.specs.Prelude.{ℕ, ◌+◌, ◌≤◌, ◌<◌, ◌≡◌, ◌≢◌, ◌⊎◌, Bool, ◌&&◌, ◌||◌, not, eqb, Result, Ok}
 use Rattle.std.proofs.Math.Path.{refl, ap}
 use Rattle.std.proofs.Common.{sym, ap₂, ◌∙◌, ⊎_elim, inl, inr, true≢false}
 use Rattle.std.proofs.Math.Bool.{true, false, cond}
@@ -8,33 +8,19 @@ use mathlib.Core.List.{List, [], ◌∷◌, Memᴰ}
 use native.Mathlib.Omega.{arith}
 use Rattle.std.proofs.Math.Dec.{leb}
 use Rattle.std.proofs.Math.ListN.{length}
-use Rattle.std.proofs.lemmas.List.{length-replicate, get_or-replicate}
 use borrow.Author.Tests.{eq-eqb, ne_eqb, le-leb, lt-leb, leb-true, leb-false, eqb-true}
 use Rattle.column.specs.Refusals.{first, Given, given, refused}
 use Rattle.column.specs.laws.Cases.{and_left, and_right, or_cases, truth}
 use Rattle.text.specs.Text.{written, Writes}
 use Rattle.list.specs.Closing.{Listed, placed}
-use Rattle.journals.specs.inner.Chains.{buckets, Indexed, last_with}
-use Rattle.journals.specs.Journals.{Journal, journal_of, once_each, all_heard, missing_text, declined, pair_conditions, pair_compared, both_compared, compared, compared_meant, same_way, line, same_line, has_line, entries_of, Once, Entry, about, journal, journal_text, journal_limit}
-use Rattle.journals.specs.inner.JournalKeys.{lines_limit}
+use Rattle.journals.specs.Journals.{Journal, journal_of, once_each, all_heard, missing_text, declined, pair_conditions, pair_compared, both_compared, compared, compared_meant, same_way, same_kind, line, same_line, has_line, entries_of, Once, Entry, about, journal, journal_text, journal_limit}
 use Rattle.journals.specs.laws.JournalLaws.{AllGood, journal_reads}
-use Rattle.journals.specs.declared.comparison.Compared.{Compared}
-use Rattle.journals.specs.declared.comparison.Compared.TheVariants as answer
+use Rattle.column.specs.declared.error.Refusal.{Refusal}
 use Rattle.journals.specs.declared.line.Way.{Way}
 use Rattle.journals.specs.declared.line.Way.TheVariants.{Sent, Got}
+use Rattle.journals.specs.declared.line.Kind.{Kind}
+use Rattle.journals.specs.declared.line.Kind.TheVariants.{Message, Acknowledgement}
 use Rattle.journals.specs.declared.line.Line.{Line}
-
--- the places of an index
-abbrev pub index_size : ℕ
-index_size = buckets + lines_limit
-
--- before the first word
-pub index_none : (keys : List ℕ) → Indexed keys 0 (replicate index_size 0)
-unfolding last_with
-index_none keys = record { heads_are = λ b lt. get_or-replicate index_size b 0 0 (omega (arith, lt)); next_are = λ i lt. absurd (omega (arith, lt)) }
-
-pub index_room : {n : ℕ} → n ≤ lines_limit → buckets + n ≤ length {A = ℕ} (replicate index_size 0)
-index_room h = rw (length-replicate {A = ℕ} index_size 0) (omega (arith, h))
 
 -- ---- the first journal that is none
 
@@ -130,8 +116,8 @@ module _ (old : List ℕ) (n : ℕ) (new : List ℕ) where
       go (given j) (refused m) e = absurd (clash e)
       go (refused m) k e = absurd (clash e)
 
-pub length_within : {r : Compared} {n : ℕ} (one two old new : List ℕ) → r ≡ answer.Length n → compared_meant r new ≡ compared one two old → n ≤ length old
-length_within {n = n} one two old new e h = compared_within old n new one two (ap (λ (x : Compared). compared_meant x new) (sym e) ∙ h)
+pub length_within : {r : Result ℕ Refusal} {n : ℕ} (one two old new : List ℕ) → r ≡ Ok n → compared_meant r new ≡ compared one two old → n ≤ length old
+length_within {n = n} one two old new e h = compared_within old n new one two (ap (λ (x : Result ℕ Refusal). compared_meant x new) (sym e) ∙ h)
 
 -- ---- lines that are the same
 
@@ -145,18 +131,28 @@ same_way_lem : (w : Way) → same_way w w ≡ true
 same_way_lem Sent = refl
 same_way_lem Got = refl
 
+kind_same : (j k : Kind) → same_kind j k ≡ true → j ≡ k
+kind_same Message Message e = refl
+kind_same Message Acknowledgement e = absurd (true≢false (sym e))
+kind_same Acknowledgement Message e = absurd (true≢false (sym e))
+kind_same Acknowledgement Acknowledgement e = refl
+
+same_kind_lem : (k : Kind) → same_kind k k ≡ true
+same_kind_lem Message = refl
+same_kind_lem Acknowledgement = refl
+
 pub line_same : (x y : Line) → same_line x y ≡ true → x ≡ y
 line_same x y e =
     let r1 = and_right (same_way x.way y.way) _ e in
-    let r2 = and_right (eqb x.kind y.kind) _ r1 in
+    let r2 = and_right (same_kind x.kind y.kind) _ r1 in
     let w = way_same x.way y.way (and_left (same_way x.way y.way) _ e) in
-    let k = eqb-true x.kind y.kind (and_left (eqb x.kind y.kind) _ r1) in
+    let k = kind_same x.kind y.kind (and_left (same_kind x.kind y.kind) _ r1) in
     let o = eqb-true x.other y.other (and_left (eqb x.other y.other) _ r2) in
     let n = eqb-true x.number y.number (and_right (eqb x.other y.other) _ r2) in
     λ i. line (w i) (k i) (o i) (n i)
 
 pub same_line_lem : (x : Line) → same_line x x ≡ true
-same_line_lem x = rw (same_way_lem x.way, eq-eqb x.kind x.kind refl, eq-eqb x.other x.other refl, eq-eqb x.number x.number refl)
+same_line_lem x = rw (same_way_lem x.way, same_kind_lem x.kind, eq-eqb x.other x.other refl, eq-eqb x.number x.number refl)
 
 pub member_has : (l : List Line) (x : Line) → has_line (entries_of l) x ≡ true → Memᴰ x l
 unfolding has_line entries_of
@@ -189,7 +185,7 @@ once_each_lem (x ∷ l) o = rw (absent (truth (has_line (entries_of l) x)), once
 
 -- what a got from b was sent by b
 abbrev pub Heard : ℕ → ℕ → List Line → List Line → Type 0
-Heard a b mine theirs = (kind number : ℕ) → Memᴰ (line Got kind b number) mine → Memᴰ (line Sent kind a number) theirs
+Heard a b mine theirs = (kind : Kind) (number : ℕ) → Memᴰ (line Got kind b number) mine → Memᴰ (line Sent kind a number) theirs
 
 heard_all : (a b : ℕ) (mine theirs : List Line) → Heard a b mine theirs → all_heard a b (entries_of mine) (entries_of theirs) ≡ true
 unfolding all_heard entries_of

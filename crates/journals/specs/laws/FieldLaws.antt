@@ -1,21 +1,20 @@
 -- How the fields of a journal's line are found in its text, and that a line has nine bytes at least. Assumes nothing.
 use Prim.Native.Nat.{ℕ, ◌+◌, ◌-◌, ◌≤◌, ◌<◌, suc}
-use Rattle.std.specs.Prelude.{◌≡◌, refl, ◌≢◌, Bool, true, false, not, ◌&&◌, ◌||◌, cond, List, [], ◌∷◌, eqb, ltb, length, take, drop}
-use Rattle.std.proofs.Common.{sym, ◌∙◌, arith, length-drop, take_all, eq-eqb, ne_eqb, le-ltb, le-leb, ltb-true, ltb-false}
+use Rattle.std.specs.Prelude.{◌≡◌, refl, ◌≢◌, Bool, true, false, cond, List, [], ◌∷◌, eqb, ltb, length, take, drop}
+use Rattle.std.proofs.Common.{sym, ◌∙◌, arith, length-drop, take_all, le-leb, ltb-true, ltb-false}
 use Rattle.std.proofs.Math.Path.{ap}
-use Rattle.std.proofs.Math.Logic.{⊎_elim, inl, inr}
-use Rattle.column.specs.laws.Cases.{equal_cases}
+use Rattle.std.proofs.lemmas.Bool.Decides.{nat_tests}
 use Rattle.column.specs.Refusals.{Given, given, refused}
 use Rattle.column.specs.Columns.{numbers}
 use Rattle.text.specs.Text.{comma, Reading, read, unread, numeral, starts_with, after_key}
 use Rattle.text.specs.Pieces.{pieces, longer}
-use Rattle.text.specs.laws.ReadingLaws.{rest_of, after_rest, after_other, numeral_none}
-use Rattle.text.specs.laws.Cutting.{pieces_next, pieces_from, pieces_all, pieces_end, piece_from, comma_numeral}
-use Rattle.text.specs.Search.{index_of, slice}
-use Rattle.journals.specs.Journals.{sent_key, got_key, line, message_kind, acknowledgement_kind, good_line, line_judged, line_pieces, line_in, line_of}
-use Rattle.journals.specs.laws.JournalLaws.{is_good}
+use Rattle.text.specs.laws.ReadingLaws.{rest_of, after_other, after_key_is, numeral_none}
+use Rattle.text.specs.laws.Cutting.{pieces_next, pieces_from, pieces_all, pieces_end, piece_from, comma_numeral, Found, found}
+use Rattle.text.specs.Search.{index_of, place_of}
+use Rattle.journals.specs.Journals.{sent_key, got_key, line, message_kind, acknowledgement_kind, kind_of_number, good_line, line_judged, line_pieces, line_in, line_of}
 use Rattle.journals.specs.declared.line.Way.{Way}
 use Rattle.journals.specs.declared.line.Way.TheVariants.{Sent, Got}
+use Rattle.journals.specs.declared.line.Kind.{Kind}
 use Rattle.journals.specs.declared.line.Line.{Line}
 
 -- ---- how a line is read
@@ -24,54 +23,28 @@ module _ (owner : ℕ) (way : Way) (kind other number : ℕ) where
   abbrev verdict : Given Line
   verdict = line_judged owner way (read kind) (read other) (read number)
 
-  abbrev kinds : Bool
-  kinds = eqb kind message_kind || eqb kind acknowledgement_kind
-
   refuses : good_line owner kind other number ≡ false → verdict ≡ refused 19
   unfolding line_judged
   refuses e = rw e
 
-  any_false : (b : Bool) → (b && false) ≡ false
-  any_false true = refl
-  any_false false = refl
-
-  no_kind : kind ≢ message_kind → kind ≢ acknowledgement_kind → verdict ≡ refused 19
-  no_kind m a = refuses (rw (ne_eqb kind message_kind m, ne_eqb kind acknowledgement_kind a))
-
   pub kind_below : kind < message_kind → verdict ≡ refused 19
-  kind_below h = no_kind (λ e. omega arith) (λ e. omega arith)
+  kind_below h = refuses (grind (arith, nat_tests))
 
   pub kind_above : acknowledgement_kind < kind → verdict ≡ refused 19
-  kind_above h = no_kind (λ e. omega arith) (λ e. omega arith)
+  kind_above h = refuses (grind (arith, nat_tests))
 
   pub other_above : 16 ≤ other → verdict ≡ refused 19
-  other_above h = refuses (rw (le-ltb other 16 h) (any_false kinds))
+  other_above h = refuses (grind (arith, nat_tests))
 
   pub other_owner : other ≡ owner → verdict ≡ refused 19
-  other_owner e = refuses (rw (eq-eqb other owner e) (go kinds (ltb other 16)))
-    where
-      go : (a b : Bool) → (a && (b && false)) ≡ false
-      go true true = refl
-      go true false = refl
-      go false b = refl
+  other_owner e = refuses (grind (arith, nat_tests))
 
   pub number_above : numbers ≤ number → verdict ≡ refused 19
-  number_above h = refuses (rw (le-ltb number numbers h) (go kinds (ltb other 16) (not (eqb other owner))))
-    where
-      go : (a b c : Bool) → (a && (b && (c && false))) ≡ false
-      go true true true = refl
-      go true true false = refl
-      go true false c = refl
-      go false b c = refl
+  number_above h = refuses (grind (arith, nat_tests))
 
-  pub line_good : message_kind ≤ kind → kind ≤ acknowledgement_kind → other < 16 → other ≢ owner → number < numbers → verdict ≡ given (line way kind other number)
+  pub line_good : (k : Kind) → kind_of_number kind ≡ given k → other < 16 → other ≢ owner → number < numbers → verdict ≡ given (line way k other number)
   unfolding line_judged
-  line_good n k o a h = rw (is_good owner way kind other number record {
-    kinds = ⊎_elim (λ e. inl e) (λ e. inr (omega (arith, n, k, e))) (equal_cases kind message_kind);
-    other_below = o;
-    other_apart = a;
-    number_below = h;
-  })
+  line_good k e o a h = grind (arith, nat_tests)
 
 -- ---- the fields of a line
 
@@ -95,42 +68,50 @@ module _ (owner : ℕ) (way : Way) where
           rw (pieces_next (drop (k + 1) l), comma_numeral 10 l (ltb-true k (length l) e)) (sym (judged_unread owner way (numeral 1 a) (numeral 2 b)))
       go false e = rw (take_all k l (ltb-false k (length l) e))
 
-  module _ (l : List ℕ) (r : ℕ) (h : r ≤ length l) (e : r ≡ 0 + index_of comma (slice 0 (length l) l)) where
-    first_field : pieces l ≡ take (r - 0) (drop 0 l) ∷ pieces_from l (r + 1)
-    first_field = sym (pieces_all l) ∙ piece_from l 0 r (omega arith) (e, h)
+  module _ (l : List ℕ) (r : ℕ) (p : r ≡ place_of comma 0 (length l) l) (h : r ≤ length l) where
+    first_found : Found comma l 0 r
+    first_found = found comma l 0 r (p, h) (omega arith)
+
+    first_field : pieces l ≡ take r l ∷ pieces_from l (r + 1)
+    first_field =
+        let whole : r - 0 ≡ r = omega arith in
+        sym (pieces_all l) ∙ piece_from l 0 r (omega arith) first_found ∙ ap (λ (i : ℕ). take i l ∷ pieces_from l (r + 1)) whole
 
     pub fields_one : r ≡ length l → line_pieces owner way (pieces l) ≡ refused 19
     unfolding line_pieces
     fields_one k = rw (first_field, pieces_end l (r + 1) (omega arith))
 
-    module _ (n : r ≢ length l) (q : ℕ) (hq : q ≤ length l) (eq : q ≡ r + 1 + index_of comma (slice (r + 1) (length l) l)) where
-      second_field : pieces l ≡ take (r - 0) (drop 0 l) ∷ take (q - (r + 1)) (drop (r + 1) l) ∷ pieces_from l (q + 1)
+    module _ (n : r ≢ length l) (q : ℕ) (d : q ≡ place_of comma (r + 1) (length l) l) (g : q ≤ length l) where
+      second_found : Found comma l (r + 1) q
+      second_found = found comma l (r + 1) q (d, g) (omega (arith, n, h))
+
+      second_field : pieces l ≡ take r l ∷ take (q - (r + 1)) (drop (r + 1) l) ∷ pieces_from l (q + 1)
       second_field =
-          first_field ∙ ap (λ (x : List (List ℕ)). take (r - 0) (drop 0 l) ∷ x) (piece_from l (r + 1) q (omega (arith, n, h)) (eq, hq))
+          first_field ∙ ap (λ (x : List (List ℕ)). take r l ∷ x) (piece_from l (r + 1) q (omega (arith, n, h)) second_found)
 
       pub fields_two : q ≡ length l → line_pieces owner way (pieces l) ≡ refused 19
       unfolding line_pieces
       fields_two k = rw (second_field, pieces_end l (q + 1) (omega arith))
 
       pub fields_three : q ≢ length l → line_pieces owner way (pieces l)
-          ≡ line_judged owner way (numeral 1 (take (r - 0) (drop 0 l))) (numeral 2 (take (q - (r + 1)) (drop (r + 1) l)))
+          ≡ line_judged owner way (numeral 1 (take r l)) (numeral 2 (take (q - (r + 1)) (drop (r + 1) l)))
           (numeral 10 (take (length l - (q + 1)) (drop (q + 1) l)))
       unfolding pieces_from
       fields_three k =
           ap (line_pieces owner way) second_field
-          ∙ rw (le-leb (q + 1) (length l) (omega (arith, k, hq)), rest_of l (q + 1))
-          (fields_of (take (r - 0) (drop 0 l)) (take (q - (r + 1)) (drop (r + 1) l)) (drop (q + 1) l))
+          ∙ rw (le-leb (q + 1) (length l) (omega (arith, k, g)), rest_of l (q + 1))
+          (fields_of (take r l) (take (q - (r + 1)) (drop (r + 1) l)) (drop (q + 1) l))
 
 -- ---- the key of a line
 
 module _ (owner : ℕ) (l : List ℕ) where
-  pub sent_line : starts_with sent_key l ≡ true → line_of owner l ≡ line_pieces owner Sent (pieces (take (length l - 5) (drop 5 l)))
+  pub sent_line : starts_with sent_key l ≡ true → line_of owner l ≡ line_pieces owner Sent (pieces (drop (length sent_key) l))
   unfolding line_of line_in
-  sent_line e = rw (e, after_rest sent_key l e)
+  sent_line e = rw (e, after_key_is sent_key l e)
 
-  pub got_line : starts_with sent_key l ≡ false → starts_with got_key l ≡ true → line_of owner l ≡ line_pieces owner Got (pieces (take (length l - 4) (drop 4 l)))
+  pub got_line : starts_with sent_key l ≡ false → starts_with got_key l ≡ true → line_of owner l ≡ line_pieces owner Got (pieces (drop (length got_key) l))
   unfolding line_of line_in
-  got_line n e = rw (n, after_rest got_key l e)
+  got_line n e = rw (n, after_key_is got_key l e)
 
   pub no_line : starts_with sent_key l ≡ false → starts_with got_key l ≡ false → line_of owner l ≡ refused 19
   unfolding line_of line_in

@@ -1,5 +1,5 @@
 -- Laws of a journal's lines: a line of three numerals, and that the text of a journal reads back as its lines. Assumes nothing.
-use Rattle.std.specs.Prelude.{ℕ, zero, suc, ◌+◌, ◌-◌, ◌*◌, ◌/◌, ◌%◌, ◌^◌, ◌≤◌, ◌<◌, ◌≡◌, refl, ◌≢◌, ◌⊎◌, Bool, true, false, ◌||◌, cond, List, [], ◌∷◌, ◌++◌, eqb, leb, ltb, length, get_or}
+use Rattle.std.specs.Prelude.{ℕ, zero, suc, ◌+◌, ◌-◌, ◌*◌, ◌/◌, ◌%◌, ◌^◌, ◌≤◌, ◌<◌, ◌≡◌, refl, ◌≢◌, Bool, true, false, ◌||◌, cond, List, [], ◌∷◌, ◌++◌, eqb, leb, ltb, length, get_or}
 use Rattle.std.proofs.Common.{sym, ap, ◌∙◌, ⊎_elim, append_assoc, arith, pow-suc, lt_of_lt_of_le, length-append, ne_eqb, lt-ltb, le-ltb, le-leb, ltb-true, ltb-false, leb-true}
 use Rattle.std.proofs.Math.Nat.{pow-le-pow_right}
 use Rattle.column.specs.laws.Cases.{truth, and_left, and_right}
@@ -10,9 +10,11 @@ use Rattle.text.specs.Pieces.{ended, with_first, cut, longer, pieces, numeral_in
 use Rattle.text.specs.inner.Texts.{digits}
 use Rattle.text.specs.laws.ReadingLaws.{numeral_digits, leading_one, leading_other}
 use Rattle.text.specs.laws.DecimalLaws.{decimal_length, decimal_some}
-use Rattle.journals.specs.Journals.{sent_key, got_key, line, message_kind, acknowledgement_kind, good_line, line_judged, line_pieces, line_in, line_of, with_entry, cut_entries, entries_in, with_owner, owned, headed, journal_of, journal_limit, way_key, line_text, lines_text, journal_text, entries_of}
+use Rattle.journals.specs.Journals.{sent_key, got_key, line, message_kind, acknowledgement_kind, kind_number, kind_of_number, good_line, line_judged, line_pieces, line_in, line_of, with_entry, cut_entries, entries_in, with_owner, owned, headed, journal_of, journal_limit, way_key, line_text, lines_text, journal_text, entries_of}
 use Rattle.journals.specs.declared.line.Way.{Way}
 use Rattle.journals.specs.declared.line.Way.TheVariants.{Sent, Got}
+use Rattle.journals.specs.declared.line.Kind.{Kind}
+use Rattle.journals.specs.declared.line.Kind.TheVariants.{Message, Acknowledgement}
 use Rattle.journals.specs.declared.line.Line.{Line}
 
 -- ---- digits of a number
@@ -167,29 +169,42 @@ three_plain kind other number =
 
 -- the parts of a good line
 pub record Good (owner : ℕ) (x : Line) : Type 0 where
-  pub kinds : (x.kind ≡ message_kind) ⊎ (x.kind ≡ acknowledgement_kind)
   pub other_below : x.other < 16
   pub other_apart : x.other ≢ owner
   pub number_below : x.number < numbers
 
-module _ (owner : ℕ) (way : Way) (kind other number : ℕ) (g : Good owner (line way kind other number)) where
-  kind_small : kind < 10 ^ 1
-  kind_small = ⊎_elim (λ e. omega (arith, e)) (λ e. omega (arith, e)) g.kinds
+-- a kind's number is that kind's
+kind_back : (kind : Kind) → kind_of_number (kind_number kind) ≡ given kind
+kind_back Message = refl
+kind_back Acknowledgement = refl
 
-  pub is_good : good_line owner kind other number ≡ true
-  is_good = rw (lt-ltb other 16 g.other_below, ne_eqb other owner g.other_apart, lt-ltb number numbers g.number_below, kind_good)
+module _ (owner : ℕ) (way : Way) (kind : Kind) (other number : ℕ) (g : Good owner (line way kind other number)) where
+  pub is_good : good_line owner (kind_number kind) other number ≡ true
+  is_good = rw (kind_good kind, lt-ltb other 16 g.other_below, ne_eqb other owner g.other_apart, lt-ltb number numbers g.number_below)
     where
-      kind_good : (eqb kind message_kind || eqb kind acknowledgement_kind) ≡ true
-      kind_good = ⊎_elim (λ e. rw e) (λ e. rw e) g.kinds
+      kind_good : (k : Kind) → (eqb (kind_number k) message_kind || eqb (kind_number k) acknowledgement_kind) ≡ true
+      kind_good Message = refl
+      kind_good Acknowledgement = refl
 
-  judged_good : line_pieces owner way (pieces (three_digits kind other number)) ≡ given (line way kind other number)
-  unfolding line_pieces line_judged
+  judged_line : line_judged owner way (read (kind_number kind)) (read other) (read number) ≡ given (line way kind other number)
+  unfolding line_judged
+  judged_line = rw (is_good, kind_back kind)
+
+  kind_small : kind_number kind < 10 ^ 1
+  kind_small = go kind
+    where
+      go : (k : Kind) → kind_number k < 10 ^ 1
+      go Message = omega arith
+      go Acknowledgement = omega arith
+
+  judged_good : line_pieces owner way (pieces (three_digits (kind_number kind) other number)) ≡ given (line way kind other number)
+  unfolding line_pieces
   judged_good = rw (
-    three_pieces kind other number,
-    numeral_decimal 1 kind (omega arith) (omega arith) kind_small,
+    three_pieces (kind_number kind) other number,
+    numeral_decimal 1 (kind_number kind) (omega arith) (omega arith) kind_small,
     numeral_decimal 2 other (omega arith) (omega arith) (omega (arith, g.other_below)),
     numeral_decimal 10 number (omega arith) (omega arith) (omega (arith, g.number_below)),
-    is_good,
+    judged_line,
   )
 
 -- ---- a line reads back
@@ -206,27 +221,27 @@ pub line_reads : (owner : ℕ) (x : Line) → Good owner x → line_of owner (li
 unfolding line_text line_of line_in starts_with
 line_reads owner x g = go x.way x.kind x.other x.number g
   where
-    go : (w : Way) (kind other number : ℕ) → Good owner (line w kind other number)
-        → cond (starts_with sent_key (way_key w ++ three_digits kind other number))
-        (line_in owner Sent (after_key sent_key (way_key w ++ three_digits kind other number)))
-        (line_in owner Got (after_key got_key (way_key w ++ three_digits kind other number)))
+    go : (w : Way) (kind : Kind) (other number : ℕ) → Good owner (line w kind other number)
+        → cond (starts_with sent_key (way_key w ++ three_digits (kind_number kind) other number))
+        (line_in owner Sent (after_key sent_key (way_key w ++ three_digits (kind_number kind) other number)))
+        (line_in owner Got (after_key got_key (way_key w ++ three_digits (kind_number kind) other number)))
         ≡ given (line w kind other number)
-    go Sent kind other number g = rw (sent_key_lem (three_digits kind other number), judged_good owner Sent kind other number g)
-    go Got kind other number g = rw (got_key_lem (three_digits kind other number), judged_good owner Got kind other number g)
+    go Sent kind other number g = rw (sent_key_lem (three_digits (kind_number kind) other number), judged_good owner Sent kind other number g)
+    go Got kind other number g = rw (got_key_lem (three_digits (kind_number kind) other number), judged_good owner Got kind other number g)
 
 line_plain : (x : Line) → Plain (line_text x)
 unfolding line_text Plain
 line_plain x = go x.way
   where
-    go : (w : Way) → Plain (way_key w ++ three_digits x.kind x.other x.number)
-    go Sent = (refl, (refl, (refl, (refl, (refl, three_plain x.kind x.other x.number)))))
-    go Got = (refl, (refl, (refl, (refl, three_plain x.kind x.other x.number))))
+    go : (w : Way) → Plain (way_key w ++ three_digits (kind_number x.kind) x.other x.number)
+    go Sent = (refl, (refl, (refl, (refl, (refl, three_plain (kind_number x.kind) x.other x.number)))))
+    go Got = (refl, (refl, (refl, (refl, three_plain (kind_number x.kind) x.other x.number))))
 
 line_some : (x : Line) → 1 ≤ length (line_text x)
 unfolding line_text
 line_some x = go x.way
   where
-    go : (w : Way) → 1 ≤ length (way_key w ++ three_digits x.kind x.other x.number)
+    go : (w : Way) → 1 ≤ length (way_key w ++ three_digits (kind_number x.kind) x.other x.number)
     go Sent = omega arith
     go Got = omega arith
 

@@ -1,22 +1,23 @@
 -- What is said of a list of words is said of its lines; so words are enough to test whether everything that a journal got was sent. Assumes nothing.
-use Prim.Native.Nat.{ℕ, zero, suc, ◌<◌, ◌+◌}
-use Rattle.std.specs.Prelude.{◌≡◌, ◌≢◌, Bool, not, ◌&&◌, ◌||◌, cond, List, [], ◌∷◌, eqb, ltb, length, get_or}
+use Prim.Native.Nat.{ℕ, zero, suc, ◌<◌}
+use Rattle.std.specs.Prelude.{◌≡◌, Bool, not, ◌&&◌, ◌||◌, cond, List, [], ◌∷◌, eqb, ltb, length, get_or, map}
+use Rattle.std.specs.List.{list_all}
 use Rattle.std.proofs.Math.Path.{refl, ap}
-use Rattle.std.proofs.Common.{sym, ap₂, subst, ◌∙◌, ⊎_elim, arith, add-one, eq-eqb, eqb-true, ltb-true}
+use Rattle.std.proofs.Common.{sym, ap₂, subst, ◌∙◌, arith, eq-eqb, eqb-true, ltb-true}
 use Rattle.std.proofs.Math.Bool.{true, false}
-use Rattle.std.proofs.lemmas.Bool.{eqb-false}
-use Rattle.column.specs.laws.Cases.{or_cases, and_left, and_right, same_truth}
+use Rattle.column.specs.laws.Cases.{and_left, and_right, same_truth}
 use Rattle.column.specs.Refusals.{Given, given, refused}
 use Rattle.column.specs.Columns.{numbers}
 use Rattle.text.specs.Text.{Reading, read, unread, numeral, starts_with, after_key}
 use Rattle.text.specs.Pieces.{Cut, ended, unended, cut, pieces}
 use Rattle.journals.specs.inner.Chains.{among, distinct}
-use Rattle.journals.specs.Journals.{sent_key, got_key, line, message_kind, acknowledgement_kind, good_line, line_judged, line_pieces, line_in, line_of, Entry, with_entry, cut_entries, entries_in, has_line, once_each, all_heard}
-use Rattle.journals.specs.inner.LineWords.{byte_values, key_of, heard_key, heard_keys}
+use Rattle.journals.specs.Journals.{sent_key, got_key, line, message_kind, acknowledgement_kind, kind_of_number, good_line, line_with, line_judged, line_pieces, line_in, line_of, Entry, with_entry, cut_entries, entries_in, has_line, once_each, all_heard}
+use Rattle.journals.specs.inner.LineWords.{byte_values, key_of, heard_key}
 use Rattle.journals.specs.laws.LineWordLaws.{Fits, key_line, about_key_lem, turned_key}
-use Rattle.journals.specs.inner.JournalKeys.{values_of, keys_of}
+use Rattle.journals.specs.inner.KeyedLines.{keyed, keys_of}
 use Rattle.journals.specs.declared.line.Way.{Way}
 use Rattle.journals.specs.declared.line.Way.TheVariants.{Sent, Got}
+use Rattle.journals.specs.declared.line.Kind.{Kind}
 use Rattle.journals.specs.declared.line.Line.{Line}
 
 -- ---- the first of a list of words
@@ -58,14 +59,14 @@ AllFit [] = Unit {0}
 AllFit (e ∷ l) = Fits e.line × AllFit l
 
 pub among_has : (l : List Entry) (x : Line) → AllFit l → Fits x → among (keys_of l) (length (keys_of l)) (key_of x) ≡ has_line l x
-unfolding among values_of has_line AllFit
+unfolding among has_line AllFit
 among_has [] x a f = refl
 among_has (e ∷ l) x a f =
     among_first (key_of e.line) (keys_of l) (length (keys_of l)) (key_of x)
     ∙ ap₂ (λ (b c : Bool). b || c) (key_line e.line x a.0 f) (among_has l x a.1 f)
 
 pub distinct_once : (l : List Entry) → AllFit l → distinct (keys_of l) (length (keys_of l)) ≡ once_each l
-unfolding distinct values_of once_each AllFit
+unfolding distinct once_each AllFit
 distinct_once [] a = refl
 distinct_once (e ∷ l) a =
     distinct_first (key_of e.line) (keys_of l) (length (keys_of l))
@@ -78,21 +79,18 @@ clash e = let z : ◌≡◌ {A = ℕ} 0 1 = cc in omega arith
 
 judged_fits : (owner : ℕ) (way : Way) (r s t : Reading ℕ) (x : Line) → line_judged owner way r s t ≡ given x → Fits x
 unfolding line_judged
-judged_fits owner way (read k) (read o) (read n) x e = go (good_line owner k o n) refl e
+judged_fits owner way (read k) (read o) (read n) x e = go (good_line owner k o n) refl (kind_of_number k) e
   where
-    go : (b : Bool) → good_line owner k o n ≡ b → cond b (given (line way k o n)) (refused 19) ≡ given x → Fits x
-    go true g e =
-        let z : line way k o n ≡ x = cc in
-        let kinds = eqb k message_kind || eqb k acknowledgement_kind in
-        let h = and_right kinds _ g in
-        let small : k < byte_values = ⊎_elim (λ q. omega (arith, eqb-true k message_kind q)) (λ q. omega (arith, eqb-true k acknowledgement_kind q))
-        (or_cases (eqb k message_kind) (eqb k acknowledgement_kind) (and_left kinds _ g)) in
+    go : (b : Bool) → good_line owner k o n ≡ b → (t : Given Kind) → cond b (line_with way o n t) (refused 19) ≡ given x → Fits x
+    go true g (given kind) e =
+        let z : line way kind o n ≡ x = cc in
+        let h = and_right (eqb k message_kind || eqb k acknowledgement_kind) _ g in
         subst Fits z record {
-          kind = small;
           other = omega (arith, ltb-true o 16 (and_left (ltb o 16) _ h));
           number = ltb-true n numbers (and_right (not (eqb o owner)) _ (and_right (ltb o 16) _ h));
         }
-    go false g e = absurd (clash e)
+    go true g (refused m) e = absurd (clash e)
+    go false g t e = absurd (clash e)
 judged_fits owner way (read k) (read o) unread x e = absurd (clash e)
 judged_fits owner way (read k) unread t x e = absurd (clash e)
 judged_fits owner way unread s t x e = absurd (clash e)
@@ -149,50 +147,21 @@ entries_fit (suc most) owner (b ∷ s) l e = go (cut (b ∷ s)) (λ rest m q. en
 
 -- ---- everything that was got was sent
 
-and_swap : (a b c : Bool) → (a && (b && c)) ≡ (b && (a && c))
-and_swap true b c = refl
-and_swap false true c = refl
-and_swap false false c = refl
-
-module _ (a b : ℕ) (theirs : List ℕ) where
-  heard_first : (k : ℕ) (ks : List ℕ) (n : ℕ) → heard_keys a b (k ∷ ks) (suc n) theirs ≡ (heard_key a b theirs k && heard_keys a b ks n theirs)
-  unfolding heard_keys
-  heard_first k ks zero = refl
-  heard_first k ks (suc n) =
-      ap (λ (x : Bool). heard_key a b theirs (get_or ks n 0) && x) (heard_first k ks n)
-      ∙ and_swap (heard_key a b theirs (get_or ks n 0)) (heard_key a b theirs k) (heard_keys a b ks n theirs)
-
-  pub heard_more : (keys : List ℕ) (i : ℕ) → heard_key a b theirs (get_or keys i 0) ≡ true → heard_keys a b keys i theirs ≡ true
-      → heard_keys a b keys (i + 1) theirs ≡ true
-  unfolding heard_keys
-  heard_more keys i e h = rw (add-one i) (ap₂ (λ (x y : Bool). x && y) e h)
-
-  pub heard_fails : (keys : List ℕ) (i n : ℕ) → i < n → heard_key a b theirs (get_or keys i 0) ≡ false → heard_keys a b keys n theirs ≡ false
-  unfolding heard_keys
-  heard_fails keys i zero h e = absurd (omega arith)
-  heard_fails keys i (suc n) h e = go (eqb i n) refl (λ l. heard_fails keys i n l e)
-    where
-      second : (x y : Bool) → y ≡ false → (x && y) ≡ false
-      second true y q = q
-      second false y q = refl
-
-      go : (t : Bool) → eqb i n ≡ t → (i < n → heard_keys a b keys n theirs ≡ false)
-          → (heard_key a b theirs (get_or keys n 0) && heard_keys a b keys n theirs) ≡ false
-      go true q f = ap (λ (k : ℕ). heard_key a b theirs (get_or keys k 0) && heard_keys a b keys n theirs) (sym (eqb-true i n q))
-          ∙ ap (λ (x : Bool). x && heard_keys a b keys n theirs) e
-      go false q f = second (heard_key a b theirs (get_or keys n 0)) (heard_keys a b keys n theirs)
-          (f (let ne : i ≢ n = eqb-false i n q in omega (arith, h, ne)))
+unmatched_is : (p q : Bool) → not (p && not q) ≡ (not p || q)
+unmatched_is true true = refl
+unmatched_is true false = refl
+unmatched_is false q = refl
 
 pub heard_entries : (a b : ℕ) (mine theirs : List Entry) → a < byte_values → AllFit mine → AllFit theirs
-    → heard_keys a b (keys_of mine) (length (keys_of mine)) (keys_of theirs) ≡ all_heard a b mine theirs
-unfolding heard_keys values_of all_heard AllFit
+    → list_all (λ x. heard_key a b (keys_of theirs) x.key) (map keyed mine) ≡ all_heard a b mine theirs
+unfolding all_heard AllFit
 heard_entries a b [] theirs h f g = refl
 heard_entries a b (e ∷ l) theirs h f g =
     let x = e.line in
     let sent = line Sent x.kind a x.number in
-    heard_first a b (keys_of theirs) (key_of x) (keys_of l) (length (keys_of l))
-    ∙ ap₂ (λ (p q : Bool). p && q)
-    (ap₂ (λ (p q : Bool). not p || q) (about_key_lem x f.0 b Got)
+    ap₂ (λ (p q : Bool). p && q)
+    (ap₂ (λ (p q : Bool). not (p && not q)) (about_key_lem x f.0 b Got)
     (ap (among (keys_of theirs) (length (keys_of theirs))) (turned_key x f.0 Sent a)
-    ∙ among_has theirs sent g (record { kind = f.0.kind; other = h; number = f.0.number })))
+    ∙ among_has theirs sent g (record { other = h; number = f.0.number }))
+    ∙ unmatched_is _ _)
     (heard_entries a b l theirs h f.1 g)

@@ -8,8 +8,7 @@ use Rattle.text.specs.Text.{column_key, Reading, read, unread, written, newline}
 use Rattle.text.specs.Pieces.{Cut, ended, unended, cut, keyed, with_first}
 use Rattle.list.specs.Closing.{placed}
 use Rattle.journals.specs.Journals.{Entry, entries_in, Journal, with_owner, owned, headed, journal_limit, journal_of, missing, missing_text, pair_conditions, pair_compared, both_compared, compared, with_entry, line_of, cut_entries, about, line, has_line}
-use Rattle.journals.specs.inner.MissingTexts.{entries_given, entries_from}
-use Rattle.journals.specs.inner.ReadJournals.{lines_in}
+use Rattle.journals.specs.inner.ReadJournals.{entries_given, all_entries, lines_in}
 use Rattle.journals.specs.declared.line.Line.{Line}
 use Rattle.journals.specs.declared.line.Way.TheVariants.{Sent, Got}
 
@@ -75,7 +74,7 @@ given_length (refused n) = refl
 -- of the lines that a text is
 pub text_within : (a b : ℕ) (s : List ℕ) (theirs : List Entry) → length (missing a b (lines_in a s) theirs) ≤ length s
 text_within a b s theirs =
-    omega (arith, missing_length a b (lines_in a s) theirs, given_length (entries_from a s 0), entries_within (length s) a s)
+    omega (arith, missing_length a b (lines_in a s) theirs, given_length (all_entries a s), entries_within (length s) a s)
 
 -- ---- the bytes of a journal's lines
 

@@ -1,33 +1,28 @@
 -- What a column writes, line by line, is the journal that the comparer reads. Assumes nothing.
-use Rattle.std.specs.Prelude.{ℕ, ◌<◌, ◌≡◌, refl, true, ◌⊎◌, List, [], ◌∷◌, ◌++◌}
-use Rattle.std.proofs.Common.{sym, ap, ◌∙◌, inl, inr, append_assoc}
+use Rattle.std.specs.Prelude.{ℕ, ◌<◌, ◌≡◌, refl, true, List, [], ◌∷◌, ◌++◌}
+use Rattle.std.proofs.Common.{sym, ap, ◌∙◌, append_assoc}
 use Rattle.column.specs.Refusals.{given}
 use Rattle.column.specs.Packets.{sender, receiver, number_of, good_ends}
 use Rattle.column.specs.laws.PacketLaws.{good_ends_lem}
 use Rattle.column.specs.Columns.{numbers}
 use Rattle.column.specs.declared.packet.Packet.{Packet}
-use Rattle.column.specs.declared.packet.Packet.TheVariants.{Message, Acknowledgement}
 use Rattle.text.specs.Text.{column_key, newline, decimal}
-use Rattle.journals.specs.Journals.{message_kind, acknowledgement_kind, line_of, line_text, lines_text, journal_text}
+use Rattle.journals.specs.Journals.{line_of, line_text, lines_text, journal_text}
 use Rattle.journals.specs.laws.JournalLaws.{line_reads}
-use Rattle.journals.specs.PacketLines.{kind_of, sent_line, got_line, owner_bytes, line_bytes}
+use Rattle.journals.specs.PacketLines.{sent_line, got_line, owner_bytes, line_bytes}
 use Rattle.journals.specs.declared.line.Line.{Line}
-
-two_kinds : (p : Packet) → (kind_of p ≡ message_kind) ⊎ (kind_of p ≡ acknowledgement_kind)
-two_kinds (Message from to number doors) = inl refl
-two_kinds (Acknowledgement from to number) = inr refl
 
 -- the comparer reads the line of a packet as that line, in the journal of the column that sent it, and of the one that got it
 module _ (p : Packet) (good : good_ends p ≡ true) (fits : number_of p < numbers) where
   pub sent_reads : line_of (sender p) (line_text (sent_line p)) ≡ given (sent_line p)
   sent_reads =
       line_reads (sender p) (sent_line p)
-      (record { kinds = two_kinds p; other_below = (good_ends_lem p good).1; other_apart = λ e. (good_ends_lem p good).2 (sym e); number_below = fits })
+      (record { other_below = (good_ends_lem p good).1; other_apart = λ e. (good_ends_lem p good).2 (sym e); number_below = fits })
 
   pub got_reads : line_of (receiver p) (line_text (got_line p)) ≡ given (got_line p)
   got_reads =
       line_reads (receiver p) (got_line p)
-      (record { kinds = two_kinds p; other_below = (good_ends_lem p good).0; other_apart = λ e. (good_ends_lem p good).2 e; number_below = fits })
+      (record { other_below = (good_ends_lem p good).0; other_apart = λ e. (good_ends_lem p good).2 e; number_below = fits })
 
 -- a journal begins with its owner's line, and a line more follows those before it
 pub journal_begins : (owner : ℕ) → journal_text owner [] ≡ owner_bytes owner

@@ -1,36 +1,23 @@
--- A whole journal that was read: its owner, the place of its second line, and the words and sizes of its lines. Assumes nothing.
-use Rattle.std.specs.Prelude.{ℕ, suc, ◌+◌, ◌-◌, ◌≤◌, ◌<◌, ◌≡◌, ◌≢◌, true, List, [], ◌∷◌, length, take, drop}
-use Rattle.std.proofs.Math.Path.{refl, ap}
-use Rattle.std.proofs.Common.{sym, ap₂, subst, ◌∙◌, true≢false, arith, length-drop, length-take-le}
-use borrow.Author.Tests.{lt-ltb, le-ltb}
+-- How a journal is read, and what the words and sizes of its lines say of it. Assumes nothing.
+use Rattle.std.specs.Prelude.{ℕ, ◌+◌, ◌-◌, ◌≤◌, ◌<◌, ◌≡◌, refl, ◌≢◌, Bool, true, false, cond, List, ltb, length, take, drop, map}
+use Rattle.std.proofs.Common.{sym, ap, ap₂, ◌∙◌, true≢false, arith, length-take-le, length-drop, le-ltb, lt-ltb, ltb-true}
 use Rattle.column.specs.Refusals.{Given, given, refused}
-use Rattle.text.specs.Text.{column_key, newline, read, unread}
-use Rattle.text.specs.Pieces.{keyed}
-use Rattle.text.specs.laws.ReadingLaws.{rest_of}
-use Rattle.text.specs.laws.Cutting.{line_ended, line_unended}
-use Rattle.text.specs.Search.{index_of, slice}
-use Rattle.journals.specs.Journals.{Entry, with_owner, owned, headed, journal_limit, journal_of, once_each, all_heard, missing}
-use Rattle.journals.specs.inner.JournalKeys.{lines_limit, entry_key, entry_size, values_of, values_in}
-use Rattle.journals.specs.inner.LineWords.{byte_values, heard_keys}
-use Rattle.journals.specs.laws.JournalKeyLaws.{entries_enough}
+use Rattle.text.specs.Text.{column_key, newline, Reading, read, unread}
+use Rattle.text.specs.Pieces.{keyed as keyed_number}
+use Rattle.text.specs.laws.Cutting.{line_ended, line_unended, Found, found}
+use Rattle.text.specs.Search.{place_of}
+use Rattle.journals.specs.Journals.{Entry, Journal, entries_in, with_owner, owned, headed, journal_limit, journal_of, once_each, all_heard, missing}
 use Rattle.journals.specs.inner.Chains.{distinct}
+use Rattle.journals.specs.inner.KeyedLines.{lines_limit, keyed, keyed_in, keys_in, keys_of, heard_keys, missed_length}
+use Rattle.journals.specs.inner.LineWords.{byte_values, missed_key}
+use Rattle.journals.specs.inner.ReadJournals.{owner_named, is_given, entries_given, all_entries, lines_in, journal_in, Holds}
 use Rattle.journals.specs.laws.KeyLaws.{AllFit, entries_fit, distinct_once, heard_entries}
-use Rattle.journals.specs.inner.MissingTexts.{is_given, entries_given, entries_from, text_from, missed_length, Walked}
-use Rattle.journals.specs.laws.MissingLaws.{missing_words, missed_length_lem}
-use Rattle.journals.specs.inner.ReadJournals.{Headed, IsRead, rest, lines_in, Holds}
-use Rattle.journals.specs.declared.journal.Heading.{Heading}
-use Rattle.journals.specs.declared.journal.Heading.TheVariants as heading-is
+use Rattle.journals.specs.laws.KeyedLineLaws.{entries_enough}
+use Rattle.journals.specs.laws.MissingLaws.{texts, entries_texts, missing_words, missed_length_lem, Written, written_none}
+use Rattle.journals.specs.declared.lines.KeyedLine.{KeyedLine}
 
-pub as_journal : {h : Heading} {owner from count : ℕ} (text keys sizes : List ℕ) → h ≡ heading-is.Is owner from count → IsRead h text keys sizes
-    → Headed text owner from count keys sizes
-as_journal text keys sizes e r = subst (λ (h : Heading). IsRead h text keys sizes) e r
-
-pub as_refused : {h : Heading} {n : ℕ} (text keys sizes : List ℕ) → h ≡ heading-is.Refused n → IsRead h text keys sizes → journal_of text ≡ refused n
-as_refused text keys sizes e r = subst (λ (h : Heading). IsRead h text keys sizes) e r
-
--- as many words as an array of them holds
-pub few_words : {n : ℕ} (keys : List ℕ) → n ≤ length keys → length keys ≡ lines_limit → length (take n keys) ≤ lines_limit
-few_words {n} keys h e = omega (arith, length-take-le n keys h, h, e)
+clash : {A : Type 0} {n : ℕ} {x : A} → refused n ≡ given x → ⊥
+clash e = cc
 
 -- ---- how a journal is read
 
@@ -39,130 +26,154 @@ module _ (s : List ℕ) where
   unfolding journal_of
   journal_long h = rw (lt-ltb journal_limit (length s) h)
 
-  module _ (few : length s ≤ journal_limit) (r : ℕ) (e : r ≡ 0 + index_of newline (slice 0 (length s) s)) (l : r ≤ length s) where
+  module _ (few : length s ≤ journal_limit) (r : ℕ) (p : r ≡ place_of newline 0 (length s) s) (h : r ≤ length s) where
+    end_found : Found newline s 0 r
+    end_found = found newline s 0 r (p, h) (omega arith)
+
     pub journal_unended : r ≡ length s → journal_of s ≡ refused 19
     unfolding journal_of headed
-    journal_unended k = rw (le-ltb journal_limit (length s) few, line_unended s 0 r (omega arith) (e, l) k)
+    journal_unended k = rw (le-ltb journal_limit (length s) few, line_unended s 0 r (omega arith) end_found k)
 
     module _ (k : r ≢ length s) where
-      journal_headed : journal_of s ≡ owned (drop (r + 1) s) (length s) (keyed column_key 2 (take (r - 0) (drop 0 s)))
+      journal_headed : journal_of s ≡ owned (drop (r + 1) s) (length s) (keyed_number column_key 2 (take r s))
       unfolding journal_of headed
-      journal_headed = rw (le-ltb journal_limit (length s) few, line_ended s 0 r (omega arith) (e, l) (omega (arith, k, l)))
+      journal_headed =
+          let whole : r - 0 ≡ r = omega arith in
+          rw (le-ltb journal_limit (length s) few, line_ended s 0 r (omega arith) end_found (omega (arith, k, h)))
+          (ap (λ (i : ℕ). owned (drop (r + 1) s) (length s) (keyed_number column_key 2 (take i s))) whole)
 
-      pub journal_unread : keyed column_key 2 (take (r - 0) (drop 0 s)) ≡ unread → journal_of s ≡ refused 19
-      unfolding owned
-      journal_unread q = rw (journal_headed, q)
+      abbrev pub first : Reading ℕ
+      first = keyed_number column_key 2 (take r s)
 
-      pub journal_above : (owner : ℕ) → keyed column_key 2 (take (r - 0) (drop 0 s)) ≡ read owner → 16 ≤ owner → journal_of s ≡ refused 19
-      unfolding owned
-      journal_above owner q h = rw (journal_headed, q, le-ltb owner 16 h)
+      pub journal_unowned : (n : ℕ) → refused n ≡ owner_named first → journal_of s ≡ refused n
+      unfolding owned owner_named
+      journal_unowned n e = journal_headed ∙ go first e
+        where
+          same : (m : ℕ) → ◌≡◌ {A = Given ℕ} (refused n) (refused m) → ◌≡◌ {A = Given Journal} (refused m) (refused n)
+          same m e = let z : m ≡ n = cc in ap (λ (i : ℕ). refused i) z
 
-      pub journal_owned : (owner : ℕ) → keyed column_key 2 (take (r - 0) (drop 0 s)) ≡ read owner → owner < 16
-          → journal_of s ≡ with_owner owner (entries_from owner s (r + 1))
-      unfolding owned
-      journal_owned owner q h = rw (journal_headed, q, lt-ltb owner 16 h)
+          under : (owner : ℕ) (b : Bool) → refused n ≡ cond b (given owner) (refused 19)
+              → cond b (with_owner owner (entries_in (length s) owner (drop (r + 1) s))) (refused 19) ≡ refused n
+          under owner true e = absurd (clash e)
+          under owner false e = same 19 e
 
-clash : {A : Type 0} {n : ℕ} {x : A} → refused n ≡ given x → ⊥
-clash e = let z : ◌≡◌ {A = ℕ} 0 1 = cc in omega arith
+          go : (t : Reading ℕ) → refused n ≡ owner_named t → owned (drop (r + 1) s) (length s) t ≡ refused n
+          go (read owner) e = under owner (ltb owner 16) e
+          go unread e = same 19 e
 
-module _ (owner : ℕ) where
-  -- lines that have values are lines
-  module _ (f : Entry → ℕ) (values : List ℕ) where
-    given_journal : (r : Given (List Entry)) → given values ≡ values_in f r → with_owner owner r ≡ given (record { owner = owner; entries = entries_given r })
-    unfolding values_in with_owner entries_given
-    given_journal (given l) e = refl
-    given_journal (refused n) e = absurd (clash (sym e))
+      pub journal_unread : first ≡ unread → journal_of s ≡ refused 19
+      unfolding owner_named
+      journal_unread q = journal_unowned 19 (sym (ap owner_named q))
 
-    given_well : (r : Given (List Entry)) → given values ≡ values_in f r → is_given r ≡ true
-    unfolding values_in is_given
-    given_well (given l) e = refl
-    given_well (refused n) e = absurd (clash (sym e))
+      pub journal_above : (owner : ℕ) → first ≡ read owner → 16 ≤ owner → journal_of s ≡ refused 19
+      unfolding owner_named
+      journal_above owner q above = journal_unowned 19 (rw (q, le-ltb owner 16 above))
 
-    given_values : (r : Given (List Entry)) → given values ≡ values_in f r → values ≡ values_of f (entries_given r)
-    unfolding values_in entries_given
-    given_values (given l) e = cc
-    given_values (refused n) e = absurd (clash (sym e))
+      pub journal_owned : (owner : ℕ) (rest : List ℕ) → given owner ≡ owner_named first → rest ≡ drop (r + 1) s
+          → journal_of s ≡ with_owner owner (all_entries owner rest)
+      unfolding owned owner_named
+      journal_owned owner rest e f = journal_headed ∙ go first e
+        where
+          fewer : length rest ≤ length s
+          fewer = omega (arith, ap length f, length-drop (r + 1) s)
 
-  refused_journal : (n : ℕ) (r : Given (List Entry)) → refused n ≡ values_in entry_key r → with_owner owner r ≡ refused n
-  unfolding values_in with_owner
-  refused_journal n (given l) e = absurd (clash e)
-  refused_journal n (refused k) e = let z : k ≡ n = cc in ap (λ (i : ℕ). refused i) z
+          under : (m : ℕ) (b : Bool) → given owner ≡ cond b (given m) (refused 19)
+              → cond b (with_owner m (entries_in (length s) m (drop (r + 1) s))) (refused 19) ≡ with_owner owner (all_entries owner rest)
+          under m true e =
+              let z : m ≡ owner = cc in
+              ap₂ (λ (i : ℕ) (l : List ℕ). with_owner i (entries_in (length s) i l)) z (sym f)
+              ∙ ap (with_owner owner) (entries_enough (length s) (length rest) owner rest fewer (omega arith))
+          under m false e = absurd (clash (sym e))
 
-  module _ (s : List ℕ) (from : ℕ) (j : journal_of s ≡ with_owner owner (entries_from owner s from)) where
-    pub read_refused : (n : ℕ) → refused n ≡ values_in entry_key (entries_from owner s from) → journal_of s ≡ refused n
-    read_refused n e = j ∙ refused_journal n (entries_from owner s from) e
+          go : (t : Reading ℕ) → given owner ≡ owner_named t → owned (drop (r + 1) s) (length s) t ≡ with_owner owner (all_entries owner rest)
+          go (read m) e = under m (ltb m 16) e
+          go unread e = absurd (clash (sym e))
 
-    -- the rest of a text has lines enough of its own
-    rest_entries : entries_from owner s from ≡ entries_from owner (rest s from) 0
-    rest_entries =
-        entries_enough (length s) (length (drop from s)) owner (drop from s) (omega (arith, length-drop from s)) (omega arith)
-        ∙ ap (λ (l : List ℕ). entries_from owner l 0) (sym (rest_of s from))
+pub owner_below : (owner : ℕ) (t : Reading ℕ) → given owner ≡ owner_named t → owner < 16
+unfolding owner_named
+owner_below owner (read m) e = go (ltb m 16) refl e
+  where
+    go : (b : Bool) → ltb m 16 ≡ b → given owner ≡ cond b (given m) (refused 19) → owner < 16
+    go true q e = let z : owner ≡ m = cc in omega (arith, z, ltb-true m 16 q)
+    go false q e = absurd (clash (sym e))
+owner_below owner unread e = absurd (clash (sym e))
 
-    pub read_headed : (count : ℕ) (keys sizes : List ℕ) → given (take count keys) ≡ values_in entry_key (entries_from owner s from)
-        → given (take count sizes) ≡ values_in entry_size (entries_from owner s from) → from ≤ length s → owner < 16 → count ≤ length keys
-        → Headed s owner from count keys sizes
-    read_headed count keys sizes e g inside below few =
-        let found = entries_from owner (rest s from) 0 in
-        let given-keys = e ∙ ap (values_in entry_key) rest_entries in
-        record {
-          journal = j ∙ ap (with_owner owner) rest_entries ∙ given_journal entry_key (take count keys) found given-keys;
-          holds = record {
-            well = given_well entry_key (take count keys) found given-keys;
-            words = given_values entry_key (take count keys) found given-keys;
-            extents = given_values entry_size (take count sizes) found (g ∙ ap (values_in entry_size) rest_entries);
-            below = below;
-          };
-          inside = inside;
+module _ (owner : ℕ) (text : List ℕ) where
+  -- lines by their words and sizes are lines
+  module _ (l : List KeyedLine) (e : given l ≡ keyed_in (all_entries owner text)) where
+    pub read_given : with_owner owner (all_entries owner text) ≡ given (journal_in owner text)
+    unfolding keyed_in with_owner entries_given
+    read_given = go (all_entries owner text) e
+      where
+        go : (r : Given (List Entry)) → given l ≡ keyed_in r → with_owner owner r ≡ given (record { owner = owner; entries = entries_given r })
+        go (given m) e = refl
+        go (refused n) e = absurd (clash (sym e))
+
+    pub read_holds : owner < 16 → length l ≤ lines_limit → Holds owner text l
+    unfolding keyed_in is_given entries_given
+    read_holds below few = go (all_entries owner text) refl e
+      where
+        go : (r : Given (List Entry)) → all_entries owner text ≡ r → given l ≡ keyed_in r → Holds owner text l
+        go (given m) q e = record {
+          below = below;
+          well = ap is_given q;
+          keyed_all = let z : l ≡ map keyed m = cc in z ∙ ap (λ (t : Given (List Entry)). map keyed (entries_given t)) (sym q);
           few = few;
         }
+        go (refused n) q e = absurd (clash (sym e))
+
+  pub read_refused : (n : ℕ) → refused n ≡ keyed_in (all_entries owner text) → with_owner owner (all_entries owner text) ≡ refused n
+  unfolding keyed_in with_owner
+  read_refused n e = go (all_entries owner text) e
+    where
+      go : (r : Given (List Entry)) → refused n ≡ keyed_in r → with_owner owner r ≡ refused n
+      go (given m) e = absurd (clash e)
+      go (refused k) e = let z : k ≡ n = cc in ap (λ (i : ℕ). refused i) z
 
 -- ---- what the words say of the lines
-
-many : (f : Entry → ℕ) (l : List Entry) → length (values_of f l) ≡ length l
-unfolding values_of
-many f [] = refl
-many f (e ∷ l) = ap suc (many f l)
 
 given_lines : (r : Given (List Entry)) → is_given r ≡ true → r ≡ given (entries_given r)
 unfolding is_given entries_given
 given_lines (given m) e = refl
 given_lines (refused n) e = absurd (true≢false (sym e))
 
-given_fit : (r : Given (List Entry)) → ((m : List Entry) → r ≡ given m → AllFit m) → is_given r ≡ true → AllFit (entries_given r)
-unfolding is_given entries_given
-given_fit (given m) f e = f m refl
-given_fit (refused n) f e = absurd (true≢false (sym e))
+module _ {owner : ℕ} {text : List ℕ} {lines : List KeyedLine} (h : Holds owner text lines) where
+  read_lines : all_entries owner text ≡ given (lines_in owner text)
+  read_lines = given_lines (all_entries owner text) h.well
 
-module _ {one : List ℕ} {a : ℕ} {keys sizes : List ℕ} (h : Holds one a keys sizes) where
-  holds_fit : AllFit (lines_in a one)
-  holds_fit = given_fit (entries_from a one 0) (entries_fit (length one) a one) h.well
+  pub holds_fit : AllFit (lines_in owner text)
+  holds_fit = entries_fit (length text) owner text (lines_in owner text) read_lines
 
-  pub once_words : distinct keys (length keys) ≡ once_each (lines_in a one)
-  once_words = ap (λ (l : List ℕ). distinct l (length l)) h.words ∙ distinct_once (lines_in a one) holds_fit
+  pub holds_texts : text ≡ texts (lines_in owner text)
+  holds_texts = entries_texts (length text) owner text (lines_in owner text) (omega arith) read_lines
 
-  pub as_many : length sizes ≡ length keys
-  as_many = ap length h.extents ∙ many entry_size (lines_in a one) ∙ sym (many entry_key (lines_in a one)) ∙ ap length (sym h.words)
+  pub once_words : distinct (keys_in lines) (length (keys_in lines)) ≡ once_each (lines_in owner text)
+  once_words = ap (λ (l : List KeyedLine). distinct (keys_in l) (length (keys_in l))) h.keyed_all ∙ distinct_once (lines_in owner text) holds_fit
 
-  -- before the first line
-  pub walk_start : Walked a one keys sizes 0 0
-  walk_start = record { inside = omega arith; left = lines_in a one; lines = given_lines (entries_from a one 0) h.well; words = h.words; extents = h.extents }
-
-module _ {one : List ℕ} {a : ℕ} {keys sizes : List ℕ} (h : Holds one a keys sizes) {two : List ℕ} {b : ℕ} {theirs extents : List ℕ} (g : Holds two b theirs extents) where
-  small : a < byte_values
+module _ {a : ℕ} {one : List ℕ} {mine : List KeyedLine} (h : Holds a one mine) {b : ℕ} {two : List ℕ} {theirs : List KeyedLine} (g : Holds b two theirs) where
+  pub small : a < byte_values
   small = omega (arith, h.below)
 
-  pub heard_words : heard_keys a b keys (length keys) theirs ≡ all_heard a b (lines_in a one) (lines_in b two)
+  pub heard_words : heard_keys a b (keys_in theirs) mine ≡ all_heard a b (lines_in a one) (lines_in b two)
   heard_words =
-      ap₂ (λ (k l : List ℕ). heard_keys a b k (length k) l) h.words g.words
+      ap₂ (λ (k l : List KeyedLine). heard_keys a b (keys_in l) k) h.keyed_all g.keyed_all
       ∙ heard_entries a b (lines_in a one) (lines_in b two) small (holds_fit h) (holds_fit g)
 
-  pub missing_text : text_from a b theirs one 0 ≡ missing a b (lines_in a one) (lines_in b two)
-  missing_text =
-      ap (λ (l : List ℕ). text_from a b l one 0) g.words
-      ∙ missing_words a b (lines_in a one) (lines_in b two) small (holds_fit h) (holds_fit g)
-
-  pub missing_size : missed_length a b theirs keys sizes ≡ length (missing a b (lines_in a one) (lines_in b two))
+  pub missing_size : missed_length a b (keys_in theirs) mine ≡ length (missing a b (lines_in a one) (lines_in b two))
   missing_size =
-      ap₂ (missed_length a b theirs) h.words h.extents
-      ∙ missed_length_lem a b theirs (lines_in a one)
-      ∙ ap length missing_text
+      ap₂ (λ (k l : List KeyedLine). missed_length a b (keys_in l) k) h.keyed_all g.keyed_all
+      ∙ missed_length_lem a b (keys_of (lines_in b two)) (lines_in a one)
+      ∙ ap length (missing_words a b (lines_in a one) (lines_in b two) small (holds_fit h) (holds_fit g))
+
+  -- what is missing, line by line
+  pub written_start : (start : ℕ) (old : List ℕ) → start + length (missing a b (lines_in a one) (lines_in b two)) ≤ length old
+      → Written a b (lines_in b two) mine 0 one (missing a b (lines_in a one) (lines_in b two)) start start old old
+  written_start start old room =
+      written_none a b (lines_in b two) small (holds_fit g) mine (lines_in a one) one start old (holds_fit h) h.keyed_all (holds_texts h) room
+
+  pub line_missed : (key : ℕ) → missed_key a b (keys_in theirs) key ≡ missed_key a b (keys_of (lines_in b two)) key
+  line_missed key = ap (λ (l : List KeyedLine). missed_key a b (keys_in l) key) g.keyed_all
+
+-- as many words as lines are never more than a journal can have
+pub few_words : {n : ℕ} (keys : List ℕ) → n ≤ length keys → length keys ≡ lines_limit → length (take n keys) ≤ lines_limit
+few_words {n} keys h e = omega (arith, length-take-le n keys h, h, e)

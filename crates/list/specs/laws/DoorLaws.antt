@@ -74,6 +74,10 @@ module _ (doors n : ℕ) (rest : ℕ) (is : rest ≡ doors / 2 ^ n) where
     pub door_within : n + free < 64
     door_within = member_lt 64 doors (n + free) fits occupied
 
+    -- the next door is one of 64
+    pub within : n + (free + 1) ≤ 64
+    within = omega (arith, door_within)
+
     pub doors_next : divided (doors_up_to (n + (free + 1)) doors) ≡ divided (doors_up_to n doors) ++ next_text (none_before doors n) (n + (free + 1))
     unfolding door_text
     doors_next =

@@ -10,7 +10,6 @@ pub loop-k-init : goal.loop-k-init
 unfolding filled_by
 loop-k-init c = (
   search rules,
-  search rules,
   ap (λ (r : Run). progress_of r (replicate capacity 0) (replicate capacity 0) (replicate buffer_size 0)) c.start-run.ensures,
 )
 
@@ -19,8 +18,7 @@ loop-k-preserved c =
     let before = c.loop-k.invariant in
     let input = take c.read_full-n.result.0 c.read_full-n.new.bytes in (
       before.0,
-      search rules,
       c.fill-run.ensures.progress_is
-          ∙ ap (fill input) before.2
+          ∙ ap (fill input) before.1
           ∙ sym (ap (λ (k : ℕ). filled_by k input beginning) (add-one c.loop-k.k) ∙ calls_next input c.loop-k.k beginning),
     )

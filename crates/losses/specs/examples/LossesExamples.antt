@@ -2,6 +2,7 @@
 use Rattle.std.specs.Prelude.{ℕ, ◌≡◌, refl, true, ◌∷◌, replicate}
 use Rattle.std.specs.Int.Count.{count_trailing_zeros}
 use Rattle.column.specs.Sets.{selected}
+use Rattle.column.specs.Refusals.{Given, given, refused}
 use Rattle.column.specs.Trees.{ascending, tree_by, tree_of, every, climbs_in, tree_refusal}
 use Rattle.column.specs.Columns.{state_refusal}
 use Rattle.column.specs.Steps as core
@@ -12,7 +13,7 @@ use Rattle.bank.specs.Banks.{places, fresh_place, bank_refusal}
 use Rattle.bank.specs.Steps.{fitting, acted, delivered, rewriting, halted, halt_refusal}
 use Rattle.bank.specs.Performs.{perform}
 use Rattle.bank.specs.Dispatch.{offered, first_accepted, turn, dispatch}
-use Rattle.losses.specs.Losses.{losses_refusal, ordered, begun, ended, counted, losses, refused_losses, losses_of}
+use Rattle.losses.specs.Losses.{losses_refusal, ordered, begun, ended, counted, losses, losses_of, losses_given}
 use Rattle.losses.specs.declared.count.Losses.{Losses}
 
 pub data Case : Type 0 where
@@ -39,19 +40,19 @@ steps nine_columns = 0
 steps sender_watched = 0
 steps three_before_twenty_three = 0
 
-abbrev counts : Case → Losses
+abbrev counts : Case → Given Losses
 -- the empty set, and the column itself
-counts alone = losses 0 1 0 1
+counts alone = given (losses 1 0 1)
 -- the root halts with the order: the other one never receives it
-counts before_the_message = losses 0 2 1 1
+counts before_the_message = given (losses 2 1 1)
 -- the same a step later: "packets from it remain", and the other one takes the order
-counts message_under_way = losses 0 3 0 1
-counts nine_columns = refused_losses 23
-counts sender_watched = refused_losses 23
+counts message_under_way = given (losses 3 0 1)
+counts nine_columns = refused 23
+counts sender_watched = refused 23
 -- "after the table's own"
-counts three_before_twenty_three = refused_losses 3
+counts three_before_twenty_three = refused 3
 
-pub counts_pass : (c : Case) → losses_of (tree c) (steps c) ≡ counts c
+pub counts_pass : (c : Case) → losses_given (tree c) (steps c) ≡ counts c
 unfolding losses_of losses_refusal ordered begun ended counted perform every closed_up keeping padded places fresh_place bank_refusal packet_of put puts vanished fitting acted delivered rewriting halted halt_refusal climbs_in tree_refusal state_refusal selected count_trailing_zeros offered first_accepted turn dispatch core.order_refusal core.send_refusal core.packet_refusal core.take_refusal core.ack_refusal core.all_refusal core.note_refusal core.order_effect core.send_effect core.acknowledgement_effect core.receive_effect core.message_effect core.ack_effect core.all_effect core.note_effect
 counts_pass alone = refl
 counts_pass before_the_message = refl

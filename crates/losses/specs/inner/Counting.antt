@@ -7,4 +7,4 @@ use Rattle.losses.specs.declared.count.Losses.{Losses}
 -- one set more, which ended in bank b
 abbrev pub with_ended : Losses → Bank → Losses
 with_ended l b =
-    losses l.refusal (l.kept + one_if (ends_with 1 b)) (l.lost + one_if (ends_with 0 b)) (l.none + one_if (nobody_runs b))
+    losses (l.kept + one_if (ends_with 1 b)) (l.lost + one_if (ends_with 0 b)) (l.none + one_if (nobody_runs b))

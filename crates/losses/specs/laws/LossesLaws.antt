@@ -1,31 +1,32 @@
 -- The counts of the sets: how many there can be, what calls leave, that no step changes the tree, of which trees they are, and that the order is
 -- accepted. Assumes nothing.
-use Rattle.std.specs.Prelude.{ℕ, zero, suc, ◌^◌, ◌≤◌, ◌<◌, Bool, cond, List, eqb, ltb, replicate}
+use Rattle.std.specs.Prelude.{ℕ, zero, suc, ◌^◌, ◌≤◌, ◌<◌, Bool, cond, List, Result, Ok, Err, eqb, ltb, replicate}
+use Rattle.std.specs.Result.{result_unwrap_or}
 use Rattle.std.proofs.Math.Path.{◌≡◌, refl}
 use Rattle.std.proofs.Common.{sym, ap, ap₂, ◌∙◌, arith, pow_mono}
 use Rattle.std.proofs.Math.Bool.{true, false, and-false}
 use borrow.Author.Tests.{eq-eqb, ne_eqb, eqb-true, ltb-false, le-ltb, lt-ltb}
-use Rattle.column.specs.Refusals.{first}
+use Rattle.column.specs.Refusals.{first, given, refusal_number}
+use Rattle.column.specs.declared.error.Refusal.{Refusal}
 use Rattle.column.specs.laws.RefusalLaws.{passed, earlier_none}
 use Rattle.column.specs.Trees.{tree_refusal}
 use Rattle.column.specs.laws.TreeLaws.{check_exact}
 use Rattle.column.specs.Steps as core
 use Rattle.column.specs.declared.tree.Tree.{Tree}
 use Rattle.column.specs.declared.state.Column.{Column}
-use Rattle.bank.specs.Banks.{State, state, column_at, capacity, fresh_bank, bank_refusal}
+use Rattle.bank.specs.Banks.{State, state, column_at, capacity, fresh_bank, no_bank, bank_refusal}
 use Rattle.bank.specs.Networks.{puts}
 use Rattle.bank.specs.laws.ValidityLaws.{fresh_at, fresh_valid, acting_passes}
 use Rattle.bank.proofs.laws.ChangeLaws.{valid_at}
-use Rattle.bank.specs.Steps.{Result, accepted, refused, after, answered, outcome_meant, unless, fresh, fitting, settled, acted, order, halt}
+use Rattle.bank.specs.Steps as steps
+use Rattle.bank.specs.Steps.{accepted, refused, after, answered, outcome_meant, unless, fresh, fitting, settled, acted, order, halt}
 use Rattle.bank.specs.Performs.{perform}
-use Rattle.bank.specs.Dispatch.{turn, onward, dispatch, dispatch_outcome, Dispatches}
+use Rattle.bank.specs.Dispatch.{turn, onward, dispatch, dispatch_outcome, dispatched_meant, Dispatches}
 use Rattle.bank.proofs.laws.Places.{tree_kept}
-use Rattle.bank.specs.declared.bank.Answer.{Answer}
-use Rattle.bank.specs.declared.bank.Answer.TheVariants.{Done, Refused}
-use Rattle.bank.specs.declared.bank.Outcome.{Outcome}
+use Rattle.bank.specs.declared.bank.Bank.{Bank}
 use Rattle.bank.specs.declared.dispatch.Dispatched.{Dispatched}
 use Rattle.bank.specs.declared.bank.Step.TheVariants.{Order, Halt}
-use Rattle.losses.specs.Losses.{most_columns, losses_conditions, losses_refusal, ordered, begun, to_rest, ended, one_if, counted, counted_of, refused_losses, losses_of}
+use Rattle.losses.specs.Losses.{most_columns, losses_conditions, losses_refusal, ordered, begun, to_rest, ended, one_if, counted, counted_of, no_losses, losses_of, losses_given}
 use Rattle.losses.specs.declared.count.Losses.{Losses}
 
 -- ---- counts
@@ -41,20 +42,36 @@ counted_most f (suc n) = omega (arith, counted_most f n, one_most (f n))
 
 -- ---- what a call leaves
 
-after_answered : {A : Type 0} (x : Answer) (a : A) {o : Result A} → answered x a ≡ o → a ≡ after o
-after_answered Done a e = ap after e
-after_answered (Refused n) a e = ap after e
+pub step_left_lem : (before : Bank) (r : Result Bank Refusal) {heads doors : List ℕ} {o : steps.Result State} → outcome_meant before r heads doors ≡ o
+    → state (result_unwrap_or r before) heads doors ≡ after o
+step_left_lem before (Ok b) e = ap after e
+step_left_lem before (Err n) e = ap after e
 
-pub step_left_lem : (r : Outcome) {heads doors : List ℕ} {o : Result State} → outcome_meant r heads doors ≡ o → state r.bank heads doors ≡ after o
-step_left_lem r e = after_answered r.answer _ e
+-- the bank that a dispatch leaves
+abbrev pub bank_left : Bank → Result Dispatched Refusal → Bank
+bank_left before (Ok d) = d.bank
+bank_left before (Err n) = before
 
-pub dispatch_left : {r : Dispatched} {heads doors : List ℕ} {limit : ℕ} {s : State} {o : Result State}
-    → Dispatches r heads doors limit s o → state r.bank heads doors ≡ after o
-dispatch_left {r} d = after_answered r.answer _ d.outcome_is
+dispatched_left : (before : Bank) (r : Result Dispatched Refusal) {heads doors : List ℕ} {o : steps.Result State} → dispatched_meant before r heads doors ≡ o
+    → state (bank_left before r) heads doors ≡ after o
+dispatched_left before (Ok d) e = ap after e
+dispatched_left before (Err n) e = ap after e
 
-pub fresh_left : (r : Outcome) (t : Tree) → tree_refusal t ≡ 0 → answered r.answer r.bank ≡ fresh t → r.bank ≡ fresh_bank t
+pub dispatch_left : (r : Result Dispatched Refusal) {heads doors : List ℕ} {limit : ℕ} {s : State} {o : steps.Result State}
+    → Dispatches r heads doors limit s o → state (bank_left s.bank r) heads doors ≡ after o
+dispatch_left r {s = s} d = dispatched_left s.bank r d.outcome_is
+
+fresh_accepted : (t : Tree) → tree_refusal t ≡ 0 → fresh t ≡ accepted (fresh_bank t)
 unfolding fresh
-fresh_left r t good e = after_answered r.answer r.bank {o = accepted (fresh_bank t)} (e ∙ rw (eq-eqb (tree_refusal t) 0 good))
+fresh_accepted t good = rw (eq-eqb (tree_refusal t) 0 good)
+
+pub fresh_left : (b : Bank) (t : Tree) → tree_refusal t ≡ 0 → answered (no_bank t) (Ok b) ≡ fresh t → b ≡ fresh_bank t
+fresh_left b t good e = ap after (e ∙ fresh_accepted t good)
+
+pub fresh_not_refused : (n : Refusal) (t : Tree) → tree_refusal t ≡ 0 → answered (no_bank t) (Err n) ≡ fresh t → ⊥
+fresh_not_refused n t good e =
+    let z : refused (refusal_number n) (no_bank t) ≡ accepted (fresh_bank t) = e ∙ fresh_accepted t good in
+    cc
 
 -- ---- the tree
 
@@ -63,7 +80,7 @@ unfolding dispatch
 dispatch_tree zero s = refl
 dispatch_tree (suc k) s = go (perform s (turn s)) (tree_kept s (turn s)) (λ x. dispatch_tree k x)
   where
-    go : (o : Result State) → (after o).bank.tree ≡ s.bank.tree → ((x : State) → (dispatch k x).bank.tree ≡ x.bank.tree)
+    go : (o : steps.Result State) → (after o).bank.tree ≡ s.bank.tree → ((x : State) → (dispatch k x).bank.tree ≡ x.bank.tree)
         → (onward o s (λ next. dispatch k next)).bank.tree ≡ s.bank.tree
     go (accepted x) e ih = ih x ∙ e
     go (refused n x) e ih = refl
@@ -95,6 +112,11 @@ counting t e =
     let q = earlier_none (tree_refusal t) (first (losses_conditions t)) e in
     let p = passed (losses_conditions t) tt q.1 in
     record { tree = q.0; few = ltb-false most_columns t.columns p.0 }
+
+-- where they are not refused, the losses are the counts
+pub losses_counted : (t : Tree) (steps : ℕ) → losses_refusal t ≡ 0 → losses_given t steps ≡ given (counted_of (begun t steps))
+unfolding losses_of
+losses_counted t steps e = rw (eq-eqb (losses_refusal t) 0 e)
 
 -- "23 for more than 8 columns or for watch=sender, after the table's own", and for nothing else
 module _ (t : Tree) where
@@ -135,13 +157,13 @@ counts_few t steps = go (eqb (losses_refusal t) 0) refl
     each : losses_refusal t ≡ 0 → (f : ℕ → Bool) → counted f (2 ^ (begun t steps).bank.tree.columns) ≤ 256
     each e f = omega (arith, sets e, counted_most f (2 ^ (begun t steps).bank.tree.columns))
 
-    go : (b : Bool) → eqb (losses_refusal t) 0 ≡ b → AtMost 256 (cond b (counted_of (begun t steps)) (refused_losses (losses_refusal t)))
+    go : (b : Bool) → eqb (losses_refusal t) 0 ≡ b → AtMost 256 (cond b (counted_of (begun t steps)) no_losses)
     go true e = let z = eqb-true (losses_refusal t) 0 e in record { kept = each z _; lost = each z _; none = each z _ }
     go false e = record { kept = omega arith; lost = omega arith; none = omega arith }
 
 -- ---- "give order 1": the order to the fresh bank is accepted
 
-accepted_after : {o : Result State} {s : State} → o ≡ accepted s → o ≡ accepted (after o)
+accepted_after : {o : steps.Result State} {s : State} → o ≡ accepted s → o ≡ accepted (after o)
 accepted_after e = e ∙ ap accepted (sym (ap after e))
 
 module _ (t : Tree) (good : tree_refusal t ≡ 0) where

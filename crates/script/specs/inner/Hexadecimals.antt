@@ -3,13 +3,6 @@ use Rattle.std.specs.Prelude.{ℕ, ◌+◌, ◌*◌, cond, ◌&&◌, List, eqb, 
 use Rattle.column.specs.Packets.{low_value}
 use Rattle.text.specs.Text.{Reading, read, unread}
 use Rattle.script.specs.Lines.{is_hexadecimal, hexadecimal, all_hexadecimal, hexadecimal_bytes}
-use Rattle.script.specs.declared.hexadecimal.Doors.{Doors}
-use Rattle.script.specs.declared.hexadecimal.Doors.TheVariants.{Are, Unread}
-
--- the values of each case of `Doors`
-abbrev pub doors_meant : Doors → Reading ℕ
-doors_meant (Are n) = read n
-doors_meant Unread = unread
 
 unfoldable pub digit_read : ℕ → Reading ℕ
 digit_read b = cond (is_hexadecimal b) (read (hexadecimal b)) unread

@@ -22,9 +22,8 @@ use Rattle.script.specs.Scripts.{rest_text, answered}
 use Rattle.script.specs.Lines.{parsed_meant}
 use Rattle.script.specs.Advances.{Progress, progress, Advanced, table_advance, first_advance, line_advance, advance, room, saying, onward, filled, most_texts, fill}
 use Rattle.script.specs.laws.AdvanceLaws.{advance_rest, advance_line, advance_first}
-use Rattle.script.specs.inner.ScriptLines.{Answers, ReadsLine, run_to, replied, Carried, Reaches, Fills}
+use Rattle.script.specs.inner.ScriptLines.{Answers, ReadsLine, run_to, Carried, Reaches, Fills}
 use Rattle.script.specs.laws.ScriptLaws.{text_advanced}
-use Rattle.script.specs.declared.line.Parsed.{Parsed}
 use Rattle.script.specs.declared.script.Run.{Run}
 use Rattle.script.specs.declared.script.NextLine.{NextLine}
 
@@ -137,15 +136,14 @@ module _ {input : List ℕ} {p : Progress} {s : State} {position at : ℕ} {out 
   size = omega (arith, c.left.place)
 
   -- a line more
-  pub carried_line : {b : Bank} {heads doors new : List ℕ} {r : ℕ} (l : NextLine) (parsed : Parsed) → l.parsed ≡ parsed → position < length input
+  pub carried_line : {b : Bank} {heads doors new : List ℕ} {r : ℕ} (l : NextLine) → position < length input
       → at ≤ room → ReadsLine l input position → length new ≡ length old → at ≤ length out
-      → Answers (answered s (parsed_meant parsed)) b heads doors r new out at → Carried input p (state b heads doors) l.next r new old
-  carried_line {b} {heads} {doors} {new} {r} l parsed e h fits reads kept within a =
-      let w = (answered s (parsed_meant parsed)).text in
+      → Answers (answered s (parsed_meant l.command)) b heads doors r new out at → Carried input p (state b heads doors) l.next r new old
+  carried_line {b} {heads} {doors} {new} {r} l h fits reads kept within a =
+      let w = (answered s (parsed_meant l.command)).text in
       let is : advance input here ≡ progress (state b heads doors) l.next true false w =
       advance_line input here refl refl h
       ∙ reads here refl
-      ∙ ap (λ (x : Parsed). replied l.next (answered s (parsed_meant x))) e
       ∙ ap (λ (m : State). progress m l.next true false w) a.state_is in
       let long : 0 + length (c.text ++ w) ≤ length old =
       omega (arith, length-append c.text w, size, a.text_is.place, writes_within within a.text_is, kept) in

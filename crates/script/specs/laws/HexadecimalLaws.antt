@@ -4,6 +4,7 @@ use Rattle.std.proofs.Math.Path.{refl, ap}
 use Rattle.std.proofs.Common.{sym, ◌∙◌, true≢false, ⊎_elim, add-one, drop-cons, ltb-true}
 use Rattle.std.proofs.Math.Bool.{true, false}
 use native.Mathlib.Omega.{arith}
+use Rattle.std.specs.Int.{w64, from_le_bytes}
 use Rattle.column.specs.laws.Cases.{or_cases, and_left, and_right, none_and}
 use Rattle.column.specs.Packets.{low_value}
 use Rattle.text.specs.Text.{read, unread, is_digit}
@@ -96,6 +97,11 @@ module _ (l : List ℕ) (i : ℕ) (h : 2 * i + 1 < length l) where
   unfolding low_value hexadecimal_bytes
   value_more = ap (λ t. low_value (hexadecimal_bytes t)) two_digits ∙ omega arith
 
+  pub bytes_more : hexadecimal_bytes (drop (2 * i) l)
+      ≡ (hexadecimal high_digit * 16 + hexadecimal low_digit) ∷ hexadecimal_bytes (drop (2 * (i + 1)) l)
+  unfolding hexadecimal_bytes
+  bytes_more = ap hexadecimal_bytes two_digits
+
   pub all_more : all_hexadecimal (drop (2 * i) l)
       ≡ ((is_hexadecimal high_digit && is_hexadecimal low_digit) && all_hexadecimal (drop (2 * (i + 1)) l))
   unfolding all_hexadecimal
@@ -110,3 +116,17 @@ unfolding all_hexadecimal
 all_part zero l e = e
 all_part (suc j) [] e = e
 all_part (suc j) (b ∷ l) e = none_and (is_hexadecimal b) (all_hexadecimal l) (λ t. all_part j l e)
+
+-- eight bytes mean what std reads of them
+pub eight_bytes : (l : List ℕ) → length l ≡ 8 → from_le_bytes w64 l ≡ low_value l
+unfolding low_value
+eight_bytes (a ∷ b ∷ c ∷ d ∷ e ∷ f ∷ g ∷ h ∷ []) size = omega arith
+eight_bytes [] size = absurd (omega arith)
+eight_bytes (a ∷ []) size = absurd (omega arith)
+eight_bytes (a ∷ b ∷ []) size = absurd (omega arith)
+eight_bytes (a ∷ b ∷ c ∷ []) size = absurd (omega arith)
+eight_bytes (a ∷ b ∷ c ∷ d ∷ []) size = absurd (omega arith)
+eight_bytes (a ∷ b ∷ c ∷ d ∷ e ∷ []) size = absurd (omega arith)
+eight_bytes (a ∷ b ∷ c ∷ d ∷ e ∷ f ∷ []) size = absurd (omega arith)
+eight_bytes (a ∷ b ∷ c ∷ d ∷ e ∷ f ∷ g ∷ []) size = absurd (omega arith)
+eight_bytes (a ∷ b ∷ c ∷ d ∷ e ∷ f ∷ g ∷ h ∷ i ∷ l) size = absurd (omega arith)

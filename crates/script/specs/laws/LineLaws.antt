@@ -1,21 +1,21 @@
 -- Laws of the lines of a script: which key the first bytes of a line allow, and a note as two numerals around its first comma.
 -- Assumes nothing.
-use Rattle.std.specs.Prelude.{ℕ, ◌+◌, ◌-◌, ◌≤◌, ◌<◌, ◌≡◌, refl, Bool, true, false, ◌||◌, cond, List, [], ◌∷◌, map, eqb, ltb, length, get_or, take, drop}
+use Rattle.std.specs.Prelude.{ℕ, ◌+◌, ◌-◌, ◌≤◌, ◌<◌, ◌≡◌, refl, Bool, true, false, ◌||◌, cond, List, [], ◌∷◌, Option, Some, None, map, eqb, ltb, length, get_or, take, drop}
 use Rattle.std.proofs.Common.{sym, ap, ◌∙◌, ⊎_elim, arith, take_all, ne_eqb, ltb-true, ltb-false, le-leb}
 use Rattle.std.proofs.Math.Bool.{or-false, or_assoc}
 use Rattle.column.specs.laws.Cases.{truth}
 use Rattle.column.specs.Sets.{has, insert}
 use Rattle.column.specs.laws.SetLaws.{has_none, has_insert}
 use Rattle.text.specs.Text.{order_key, send_key, take_key, ack_key, all_key, note_key, halt_key, back_key, list_key, run_key, comma, Reading, read, unread, numeral, starts_with, after_key}
+use Rattle.std.proofs.lemmas.List.Recursion.{is_position_or_len}
+use Rattle.std.specs.List.{position_or_len}
 use Rattle.text.specs.Pieces.{pieces, with_number, numerals, numeral_in, keyed}
 use Rattle.text.specs.laws.ReadingLaws.{starts_length, rest_of}
 use Rattle.text.specs.laws.Cutting.{Found, pieces_next, pieces_from, pieces_end, piece_from, comma_numeral}
 use Rattle.bank.specs.Strips.{among}
-use Rattle.bank.specs.declared.bank.Step.TheVariants.{Halt}
-use Rattle.text.specs.Search.{index_of, slice}
-use Rattle.script.specs.Lines.{Command, perform, asking, doors_in, note_of, note_of_pieces, note_in, member_of, with_members, halt_after, halt_in, or_else, command_of}
-use Rattle.script.specs.inner.ScriptLines.{asked}
-use Rattle.script.specs.declared.line.Asked.TheVariants as Asked-is
+use Rattle.bank.specs.declared.bank.Step.TheVariants.{Send, Take, Ack, All, Halt, Back}
+use Rattle.text.specs.Search.{index_of, index_after, slice}
+use Rattle.script.specs.Lines.{Command, perform, list, dispatch, asking, doors_in, note_of, note_of_pieces, note_in, member_of, with_members, halt_after, halt_in, or_else, command_of}
 
 -- ---- keys
 
@@ -74,21 +74,21 @@ pub order_line : (l : List ℕ) → get_or l 0 0 ≡ 111 → command_of l ≡ do
 unfolding command_of starts_with after_key asking doors_in note_in halt_in or_else numeral_in
 order_line = first_byte 111 _ (omega arith) (λ l. or_unread _)
 
-pub send_line : (l : List ℕ) → get_or l 0 0 ≡ 115 → command_of l ≡ asking (asked Asked-is.Send) (keyed send_key 2 l)
+pub send_line : (l : List ℕ) → get_or l 0 0 ≡ 115 → command_of l ≡ asking (λ n. perform (Send n)) (keyed send_key 2 l)
 unfolding command_of starts_with after_key asking doors_in note_in halt_in or_else numeral_in
 send_line = first_byte 115 _ (omega arith) (λ l. or_unread _)
 
-pub take_line : (l : List ℕ) → get_or l 0 0 ≡ 116 → command_of l ≡ asking (asked Asked-is.Take) (keyed take_key 3 l)
+pub take_line : (l : List ℕ) → get_or l 0 0 ≡ 116 → command_of l ≡ asking (λ n. perform (Take n)) (keyed take_key 3 l)
 unfolding command_of starts_with after_key asking doors_in note_in halt_in or_else numeral_in
 take_line = first_byte 116 _ (omega arith) (λ l. or_unread _)
 
-pub ack_line : (l : List ℕ) → get_or l 0 0 ≡ 97 → get_or l 1 0 ≡ 99 → command_of l ≡ asking (asked Asked-is.Ack) (keyed ack_key 2 l)
+pub ack_line : (l : List ℕ) → get_or l 0 0 ≡ 97 → get_or l 1 0 ≡ 99 → command_of l ≡ asking (λ n. perform (Ack n)) (keyed ack_key 2 l)
 unfolding command_of starts_with after_key asking doors_in note_in halt_in or_else numeral_in
 ack_line [] e f = absurd (omega arith)
 ack_line (a ∷ []) e f = absurd (omega arith)
 ack_line (a ∷ b ∷ l) e f = rw (e, f) (or_unread _)
 
-pub all_line : (l : List ℕ) → get_or l 0 0 ≡ 97 → (get_or l 1 0 ≡ 99 → ⊥) → command_of l ≡ asking (asked Asked-is.All) (keyed all_key 2 l)
+pub all_line : (l : List ℕ) → get_or l 0 0 ≡ 97 → (get_or l 1 0 ≡ 99 → ⊥) → command_of l ≡ asking (λ n. perform (All n)) (keyed all_key 2 l)
 unfolding command_of starts_with after_key asking doors_in note_in halt_in or_else numeral_in
 all_line [] e ne = absurd (omega arith)
 all_line (a ∷ []) e ne = rw e
@@ -102,17 +102,20 @@ pub halt_line : (l : List ℕ) → get_or l 0 0 ≡ 104 → command_of l ≡ hal
 unfolding command_of starts_with after_key asking doors_in note_in halt_in or_else numeral_in
 halt_line = first_byte 104 _ (omega arith) (λ l. or_unread _)
 
-pub back_line : (l : List ℕ) → get_or l 0 0 ≡ 98 → command_of l ≡ asking (asked Asked-is.Back) (keyed back_key 2 l)
+pub back_line : (l : List ℕ) → get_or l 0 0 ≡ 98 → command_of l ≡ asking (λ n. perform (Back n)) (keyed back_key 2 l)
 unfolding command_of starts_with after_key asking doors_in note_in halt_in or_else numeral_in
 back_line = first_byte 98 _ (omega arith) (λ l. or_unread _)
 
-pub list_line : (l : List ℕ) → get_or l 0 0 ≡ 108 → command_of l ≡ asking (asked Asked-is.List) (keyed list_key 2 l)
+pub list_line : (l : List ℕ) → get_or l 0 0 ≡ 108 → command_of l ≡ asking list (keyed list_key 2 l)
 unfolding command_of starts_with after_key asking doors_in note_in halt_in or_else numeral_in
 list_line = first_byte 108 _ (omega arith) (λ l. or_unread _)
 
-pub run_line : (l : List ℕ) → get_or l 0 0 ≡ 114 → command_of l ≡ asking (asked Asked-is.Run) (keyed run_key 4 l)
+pub run_line : (l : List ℕ) → get_or l 0 0 ≡ 114 → command_of l ≡ asking dispatch (keyed run_key 4 l)
 unfolding command_of starts_with after_key asking doors_in note_in halt_in or_else numeral_in
 run_line = first_byte 114 _ (omega arith) (λ l. refl)
+
+-- what a line asks for, by its first bytes
+pub ruleset keyed_lines = (short_line, other_line, order_line, send_line, take_line, ack_line, all_line, note_line, halt_line, back_line, list_line, run_line)
 
 -- ---- notes
 
@@ -151,6 +154,53 @@ module _ (l : List ℕ) (s : starts_with note_key l ≡ true) (r : ℕ) (h : r �
       pieces_of
       ∙ rw (le-leb (r + 1) (length l) (omega arith), rest_of l (r + 1)) (two_pieces (take (r - 5) (drop 5 l)) (drop (r + 1) l))
 
+-- ---- notes by the place that std finds of the first comma
+
+comma_is : (l : List ℕ) → position_or_len (λ b. eqb b comma) l ≡ index_of comma l
+unfolding index_of index_after
+comma_is l = sym (is_position_or_len (index_of comma) (λ b. eqb b comma) refl (λ x xs. step (index_of comma xs) (eqb x comma)) l)
+  where
+    step : (k : ℕ) (t : Bool) → index_after t k ≡ cond t 0 (1 + k)
+    step k true = refl
+    step k false = omega arith
+
+abbrev pub first_comma : List ℕ → Option ℕ
+first_comma l = cond (ltb (position_or_len (λ b. eqb b comma) l) (length l)) (Some (position_or_len (λ b. eqb b comma) l)) None
+
+note_next : (l : List ℕ) → note_of_pieces (pieces l)
+    ≡ cond (ltb (index_of comma l) (length l)) (note_of (numeral 2 (take (index_of comma l) l)) (numeral 2 (drop (index_of comma l + 1) l))) unread
+unfolding note_of_pieces
+note_next l = rw (pieces_next l) (go (ltb k (length l)))
+  where
+    k : ℕ
+    k = index_of comma l
+
+    go : (t : Bool) → note_of_pieces (take k l ∷ cond t (pieces (drop (k + 1) l)) [])
+        ≡ cond t (note_of (numeral 2 (take k l)) (numeral 2 (drop (k + 1) l))) unread
+    go true = two_pieces (take k l) (drop (k + 1) l)
+    go false = refl
+
+module _ (l : List ℕ) where
+  pub note_without : None ≡ first_comma l → note_in (read l) ≡ unread
+  unfolding note_in
+  note_without e = note_next l ∙ go (ltb (index_of comma l) (length l)) (rw (comma_is l) at e)
+    where
+      go : (t : Bool) → None ≡ cond t (Some (index_of comma l)) None
+          → cond t (note_of (numeral 2 (take (index_of comma l) l)) (numeral 2 (drop (index_of comma l + 1) l))) unread ≡ unread
+      go true e = cc
+      go false e = refl
+
+  pub note_around : (at : ℕ) → Some at ≡ first_comma l
+      → note_in (read l) ≡ note_of (numeral 2 (take at l)) (numeral 2 (take (length l - (at + 1)) (drop (at + 1) l)))
+  unfolding note_in
+  note_around at e = rw (rest_of l (at + 1)) (note_next l ∙ go (ltb (index_of comma l) (length l)) (rw (comma_is l) at e))
+    where
+      go : (t : Bool) → Some at ≡ cond t (Some (index_of comma l)) None
+          → cond t (note_of (numeral 2 (take (index_of comma l) l)) (numeral 2 (drop (index_of comma l + 1) l))) unread
+          ≡ note_of (numeral 2 (take at l)) (numeral 2 (drop (at + 1) l))
+      go true e = let same : index_of comma l ≡ at = cc in rw same refl
+      go false e = cc
+
 -- ---- halts
 
 halt_next : (m n : ℕ) (r : Reading (List ℕ)) → halt_after m (with_number (read n) r) ≡ halt_after (insert m (member_of n)) r
@@ -172,6 +222,20 @@ module _ (m : ℕ) (s : List ℕ) (from r : ℕ) (h : from ≤ length s) (f : Fo
 pub members_read : (m : ℕ) (s : List ℕ) (from : ℕ) → length s < from → halt_after m (numerals (pieces_from s from)) ≡ read (perform (Halt m))
 unfolding numerals halt_after with_members
 members_read m s from h = rw (pieces_end s from h)
+
+-- piece by piece
+module _ (m : ℕ) (p : List ℕ) (ps : List (List ℕ)) where
+  pub piece_read : (n : ℕ) → numeral 2 p ≡ read n → halt_after m (numerals (p ∷ ps)) ≡ halt_after (insert m (member_of n)) (numerals ps)
+  unfolding numerals
+  piece_read n k = rw k (halt_next m n (numerals ps))
+
+  pub piece_unread : numeral 2 p ≡ unread → halt_after m (numerals (p ∷ ps)) ≡ unread
+  unfolding numerals halt_after with_number
+  piece_unread k = rw k
+
+pub none_left : (m : ℕ) → halt_after m (numerals []) ≡ read (perform (Halt m))
+unfolding numerals halt_after with_members
+none_left m = refl
 
 -- "A column named twice counts as once": the members are the numbers named
 named : (l : List ℕ) (m j : ℕ) → has (with_members m l) j ≡ (has m j || among (map member_of l) j)

@@ -1,10 +1,12 @@
 -- What a call of the script's run leaves: laws from what was written to `Advanced`.
 -- Assumes nothing.
-use Rattle.std.specs.Prelude.{ℕ, ◌+◌, ◌-◌, ◌^◌, ◌≤◌, ◌<◌, ◌≡◌, refl, Bool, cond, List, [], eqb, length, drop}
+use Rattle.std.specs.Prelude.{ℕ, ◌+◌, ◌-◌, ◌^◌, ◌≤◌, ◌<◌, ◌≡◌, refl, Bool, cond, List, [], Result, Ok, Err, eqb, length, drop}
 use Rattle.std.proofs.Common.{sym, ap, ap₂, ◌∙◌, arith, length-append, lt-ltb, le-ltb, eq-eqb, eqb-true}
 use Rattle.std.proofs.Math.Bool.{true, false}
 use Rattle.std.proofs.Math.ListN.{take}
-use Rattle.column.specs.Refusals.{first}
+use Rattle.std.specs.Result.{result_unwrap_or}
+use Rattle.column.specs.Refusals.{first, refusal_number}
+use Rattle.column.specs.declared.error.Refusal.{Refusal}
 use Rattle.column.specs.Trees.{tree_refusal}
 use Rattle.column.specs.laws.RefusalLaws.{earlier_none}
 use Rattle.text.specs.Text.{newline, Reading, read, unread, Writes, refused_text}
@@ -14,18 +16,15 @@ use Rattle.text.specs.Pieces.{Cut, ended, unended, cut}
 use Rattle.text.specs.laws.Cutting.{Found, line_ended, line_unended, line_length}
 use Rattle.bank.specs.Banks.{State, state, fresh_bank, no_bank}
 use Rattle.bank.specs.Steps as steps
-use Rattle.bank.specs.Steps.{Result, after}
-use Rattle.bank.specs.Dispatch.{dispatched, dispatch_outcome, Dispatches}
+use Rattle.bank.specs.Steps.{after}
+use Rattle.bank.specs.Dispatch.{dispatched, dispatch_outcome, steps_of, Dispatches}
 use Rattle.bank.specs.declared.dispatch.Dispatched.{Dispatched}
 use Rattle.bank.specs.declared.bank.Bank.{Bank}
-use Rattle.bank.specs.declared.bank.Outcome.{Outcome}
-use Rattle.bank.specs.declared.bank.Answer.{Answer}
-use Rattle.bank.specs.declared.bank.Answer.TheVariants.{Done, Refused}
 use Rattle.table.specs.Tables.{Table, table_of, tree_in, count_listed, counted_conditions, table_refusal, Placed, placed_at, no_tree, judged, read_table, limit}
 use Rattle.script.specs.Lines.{command_of}
-use Rattle.script.specs.Scripts.{printed, answered, step_text, steps_text, dispatch_printed}
+use Rattle.script.specs.Scripts.{printed, answered, step_text, steps_text, dispatch_text, dispatch_printed}
 use Rattle.script.specs.Advances.{Progress, progress, Advanced, table_advance, first_advance, line_advance}
-use Rattle.script.specs.inner.ScriptLines.{WritesStep, Answers, WritesDispatch, replied, next_line, ReadsLine}
+use Rattle.script.specs.inner.ScriptLines.{WritesStep, WritesDispatch, bank_left, Answers, replied, next_line, ReadsLine}
 use Rattle.script.specs.declared.script.Run.{Run}
 use Rattle.script.specs.declared.script.NextLine.{NextLine}
 
@@ -48,24 +47,22 @@ text_advanced {b} {position} {n} {begun} {over} {heads} {doors} {out} {old} text
       buffer_is = w.left;
     }
 
-after_answered : {A : Type 0} (answer : Answer) (a : A) → after (steps.answered answer a) ≡ a
-after_answered Done a = refl
-after_answered (Refused n) a = refl
-
 -- ---- what a line leaves
 
-pub step_answers : {r at : ℕ} {heads doors new old : List ℕ} (d : Outcome) (o : Result State) → steps.outcome_meant d heads doors ≡ o
-    → WritesStep r new old at d.answer → Answers (printed (step_text o) (after o)) d.bank heads doors r new old at
-step_answers {heads} {doors} d o e w =
-    let s = state d.bank heads doors in
-    record { state_is = ap after (sym e) ∙ after_answered d.answer s; text_is = rw (← e) (w s) }
+-- the bank after a step that is accepted, and the bank before one that is refused
+pub step_answers : {r at : ℕ} {heads doors new old : List ℕ} (before : Bank) (d : Result Bank Refusal) (o : steps.Result State)
+    → steps.outcome_meant before d heads doors ≡ o → WritesStep r new old at d
+    → Answers (printed (step_text o) (after o)) (result_unwrap_or d before) heads doors r new old at
+unfolding step_text
+step_answers before (Ok b) o e w = rw (← e) (record { state_is = refl; text_is = w })
+step_answers before (Err n) o e w = rw (← e) (record { state_is = refl; text_is = w })
 
-pub dispatch_answers : {r at : ℕ} {heads doors new old : List ℕ} (d : Dispatched) (limit : ℕ) (s : State)
-    → Dispatches d heads doors limit s (dispatch_outcome limit s) → WritesDispatch r new old at d.steps d.answer
-    → Answers (dispatch_printed (length (dispatched limit s)) (dispatch_outcome limit s)) d.bank heads doors r new old at
-dispatch_answers {heads} {doors} d limit s e w =
-    let m = state d.bank heads doors in
-    record { state_is = ap after (sym e.outcome_is) ∙ after_answered d.answer m; text_is = rw (← e.outcome_is, ← e.count_is) (w m) }
+pub dispatch_answers : {r at : ℕ} {heads doors new old : List ℕ} (d : Result Dispatched Refusal) (limit : ℕ) (s : State)
+    → Dispatches d heads doors limit s (dispatch_outcome limit s) → WritesDispatch r new old at (steps_of d) d
+    → Answers (dispatch_printed (length (dispatched limit s)) (dispatch_outcome limit s)) (bank_left s.bank d) heads doors r new old at
+unfolding dispatch_text
+dispatch_answers (Ok d) limit s e w = rw (← e.outcome_is, ← e.count_is) (record { state_is = refl; text_is = w })
+dispatch_answers (Err n) limit s e w = rw (← e.outcome_is) (record { state_is = refl; text_is = w })
 
 -- ---- which advance it is
 
@@ -74,7 +71,7 @@ module _ (input : List ℕ) (p : Progress) where
   unfolding first_advance
   first_long h = rw (lt-ltb limit (length input) h)
 
-  pub first_read : (o : Result Placed) → length input ≤ limit → o ≡ read_table input → first_advance input p ≡ table_advance p o
+  pub first_read : (o : steps.Result Placed) → length input ≤ limit → o ≡ read_table input → first_advance input p ≡ table_advance p o
   unfolding first_advance
   first_read o h e = rw (le-ltb limit (length input) h) (ap (table_advance p) (sym e))
 
@@ -135,13 +132,19 @@ accepted_tree input t e = go (table_of input) e
         let z : ◌≡◌ {A = ℕ} 0 1 = cc in
         absurd (omega arith)
 
-pub fresh_bank_lem : (input : List ℕ) (t : Placed) (r : Outcome) → steps.accepted t ≡ read_table input
-    → steps.answered r.answer r.bank ≡ steps.fresh t.tree → r.bank ≡ fresh_bank t.tree
-unfolding steps.fresh
-fresh_bank_lem input t r e made =
-    sym (after_answered r.answer r.bank)
-    ∙ ap after made
-    ∙ rw (eq-eqb (tree_refusal t.tree) 0 (accepted_tree input t e)) refl
+-- the fresh bank of a table that is accepted, which is not refused
+module _ (input : List ℕ) (t : Placed) (accepts : steps.accepted t ≡ read_table input) where
+  fresh_is : steps.fresh t.tree ≡ steps.accepted (fresh_bank t.tree)
+  unfolding steps.fresh
+  fresh_is = rw (eq-eqb (tree_refusal t.tree) 0 (accepted_tree input t accepts))
+
+  pub fresh_bank_lem : (b : Bank) → steps.answered (no_bank t.tree) (Ok b) ≡ steps.fresh t.tree → b ≡ fresh_bank t.tree
+  fresh_bank_lem b made = ap after (made ∙ fresh_is)
+
+  pub fresh_not_refused : (n : Refusal) → steps.answered (no_bank t.tree) (Err n) ≡ steps.fresh t.tree → ⊥
+  fresh_not_refused n made =
+      let z : steps.refused (refusal_number n) (no_bank t.tree) ≡ steps.accepted (fresh_bank t.tree) = made ∙ fresh_is in
+      cc
 
 -- ---- what a caller prints
 

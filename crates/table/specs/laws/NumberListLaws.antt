@@ -1,12 +1,12 @@
 -- The numbers of a line as the reader holds them: how many, and the first sixteen.
-use Rattle.std.specs.Prelude.{ℕ, zero, suc, ◌+◌, ◌-◌, ◌≤◌, ◌<◌, ◌≡◌, refl, Bool, true, false, cond, List, [], ◌∷◌, ◌++◌, ltb, length, take, drop, set, replicate}
+use Rattle.std.specs.Prelude.{ℕ, zero, suc, ◌+◌, ◌≤◌, ◌<◌, ◌≡◌, refl, Bool, true, false, cond, List, [], ◌∷◌, ◌++◌, ltb, length, get_or, take, drop, set, replicate, Option, Some, None}
 use Rattle.std.proofs.Common.{sym, ap, ap₂, ◌∙◌, append_assoc, append-nil, arith, length-append, ltb-true, ltb-false}
-use Rattle.std.proofs.lemmas.List.{take-append-le}
-use Rattle.text.specs.Text.{comma, Reading, read, unread, numeral}
+use Rattle.std.proofs.lemmas.List.{take-append-le, at_drop_more, at_drop_all}
+use Rattle.text.specs.Text.{Reading, read, unread, numeral}
 use Rattle.text.specs.Pieces.{with_number, numerals}
-use Rattle.text.specs.laws.Cutting.{Found, pieces_from, piece_from, pieces_end}
 use Rattle.table.specs.Tables.{sixteen}
-use Rattle.table.specs.inner.NumberLists.{with_one, list_of, held}
+use Rattle.table.specs.inner.Held.{held}
+use Rattle.table.specs.inner.NumberLists.{with_one, list_of}
 use Rattle.table.specs.declared.number_list.NumberList.{NumberList}
 
 -- ---- one number after another
@@ -16,20 +16,20 @@ with_all p [] = p
 with_all p (n ∷ l) = with_all (with_one p n) l
 
 -- what is held after numerals still to be read
-unfoldable pub held_after : NumberList → Reading (List ℕ) → Reading NumberList
-held_after p (read l) = read (with_all p l)
-held_after p unread = unread
+unfoldable pub held_after : NumberList → Reading (List ℕ) → Option NumberList
+held_after p (read l) = Some (with_all p l)
+held_after p unread = None
 
 pub held_next : (p : NumberList) (n : ℕ) (r : Reading (List ℕ)) → held_after p (with_number (read n) r) ≡ held_after (with_one p n) r
 unfolding held_after with_all with_number
 held_next p n (read l) = refl
 held_next p n unread = refl
 
-pub held_none : (p : NumberList) (r : Reading (List ℕ)) → held_after p (with_number unread r) ≡ unread
+pub held_none : (p : NumberList) (r : Reading (List ℕ)) → held_after p (with_number unread r) ≡ None
 unfolding held_after with_number
 held_none p r = refl
 
-pub held_done : (p : NumberList) → held_after p (read []) ≡ read p
+pub held_done : (p : NumberList) → held_after p (read []) ≡ Some p
 unfolding held_after with_all
 held_done p = refl
 
@@ -69,22 +69,25 @@ unfolding with_all
 with_all_lem done [] = ap list_of (sym (append-nil done))
 with_all_lem done (n ∷ l) = rw (with_next done n) (with_all_lem (done ++ (n ∷ [])) l ∙ ap list_of (append_assoc done (n ∷ []) l))
 
-pub held_all : (r : Reading (List ℕ)) → held r ≡ held_after (list_of []) r
-unfolding held held_after
-held_all (read l) = ap read (sym (with_all_lem [] l))
+pub held_all : (r : Reading (List ℕ)) → held list_of r ≡ held_after (list_of []) r
+unfolding held_after
+held_all (read l) = ap Some (sym (with_all_lem [] l))
 held_all unread = refl
 
--- the piece from `from` up to r is read next
-module _ (p : NumberList) (s : List ℕ) (from r : ℕ) (h : from ≤ length s) (f : Found comma s from r) where
-  pub piece_read : (n : ℕ) → numeral 2 (take (r - from) (drop from s)) ≡ read n
-      → held_after p (numerals (pieces_from s from)) ≡ held_after (with_one p n) (numerals (pieces_from s (r + 1)))
-  unfolding numerals
-  piece_read n k = rw (piece_from s from r h f, k) (held_next p n (numerals (pieces_from s (r + 1))))
+-- ---- one piece after another
 
-  pub piece_unread : numeral 2 (take (r - from) (drop from s)) ≡ unread → held_after p (numerals (pieces_from s from)) ≡ unread
-  unfolding numerals
-  piece_unread k = rw (piece_from s from r h f, k) (held_none p (numerals (pieces_from s (r + 1))))
+module _ (p : NumberList) (pieces : List (List ℕ)) (at : ℕ) where
+  module _ (piece : List ℕ) (h : (at < length pieces) × (piece ≡ get_or pieces at piece)) where
+    next : numerals (drop at pieces) ≡ with_number (numeral 2 piece) (numerals (drop (at + 1) pieces))
+    unfolding numerals
+    next = at_drop_more numerals pieces at piece h.0 ∙ ap (λ l. with_number (numeral 2 l) (numerals (drop (at + 1) pieces))) (sym h.1)
 
-pub pieces_read : (p : NumberList) (s : List ℕ) (from : ℕ) → length s < from → held_after p (numerals (pieces_from s from)) ≡ read p
-unfolding numerals
-pieces_read p s from h = rw (pieces_end s from h) (held_done p)
+    pub piece_read : (n : ℕ) → numeral 2 piece ≡ read n → held_after p (numerals (drop at pieces)) ≡ held_after (with_one p n) (numerals (drop (at + 1) pieces))
+    piece_read n e = rw (next, e) (held_next p n (numerals (drop (at + 1) pieces)))
+
+    pub piece_unread : numeral 2 piece ≡ unread → held_after p (numerals (drop at pieces)) ≡ None
+    piece_unread e = rw (next, e) (held_none p (numerals (drop (at + 1) pieces)))
+
+  pub pieces_read : length pieces ≤ at → held_after p (numerals (drop at pieces)) ≡ Some p
+  unfolding numerals
+  pieces_read h = ap (held_after p) (at_drop_all numerals pieces at h) ∙ held_done p

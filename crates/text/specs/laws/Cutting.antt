@@ -61,6 +61,13 @@ Found b s from r = (r ≡ from + index_of b (slice from (length s) s)) × (r ≤
 pub found : (b : ℕ) (s : List ℕ) (from r : ℕ) → (r ≡ place_of b from (length s) s) × (r ≤ length s) → from ≤ length s → Found b s from r
 found b s from r e h = (e.0 ∙ rw (le-leb from (length s) h, le-leb (length s) (length s) (omega arith)), e.1)
 
+-- what the search for the end of a line answers from a place of the text on
+pub end_found : (s : List ℕ) (from at : ℕ) → (at ≡ place_of newline from (length s) s) × (at < length s) → from ≤ length s → Found newline s from at
+end_found s from at e h = found newline s from at (e.0, omega (arith, e.1)) h
+
+pub none_found : (s : List ℕ) (from : ℕ) → place_of newline from (length s) s ≡ length s → from ≤ length s → Found newline s from (length s)
+none_found s from e h = found newline s from (length s) (sym e, omega arith) h
+
 module _ (s : List ℕ) (from r : ℕ) (h : from ≤ length s) where
   place : (b : ℕ) → Found b s from r → index_of b (drop from s) ≡ r - from
   place b f = let e : r ≡ from + index_of b (slice from (length s) s) = f.0 in ap (index_of b) (sym (slice_rest s from)) ∙ omega arith

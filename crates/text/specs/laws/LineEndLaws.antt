@@ -5,11 +5,12 @@ use Rattle.text.specs.Text.{newline, read, unread}
 use Rattle.text.specs.Pieces.{third_line, second_line, first_line, three_lines, Rising, lines_at, ends_meant}
 use Rattle.text.specs.laws.Cutting.{Found, line_ended, line_unended}
 use Rattle.text.specs.declared.three_lines.LineEnds.{LineEnds}
-use Rattle.text.specs.declared.three_lines.LineEnds.TheVariants as ends
+use Rattle.std.specs.declared.option.Option.{Option}
+use Rattle.std.specs.declared.option.Option.TheVariants.{Some, None}
 
-pub as_rising : {r : LineEnds} {one two three : ℕ} (s : List ℕ) → r ≡ ends.At one two three → Rising r s
-    → (one < two) × (two < three) × (three < length s)
-as_rising s e h = subst (λ (r : LineEnds). Rising r s) e h
+pub as_rising : {r : Option LineEnds} {e : LineEnds} (s : List ℕ) → r ≡ Some e → Rising r s
+    → (e.one < e.two) × (e.two < e.three) × (e.three < length s)
+as_rising s e h = subst (λ (r : Option LineEnds). Rising r s) e h
 
 -- ---- line by line
 
@@ -36,9 +37,9 @@ module _ (s : List ℕ) (one : ℕ) (f : Found newline s 0 one) where
 
 -- ---- what the search found, as the lines
 
-module _ {r : LineEnds} (s : List ℕ) (f : ends_meant r s ≡ three_lines s) where
-  pub no_lines : r ≡ ends.Fewer → three_lines s ≡ unread
-  no_lines e = sym f ∙ ap (λ (x : LineEnds). ends_meant x s) e
+module _ {r : Option LineEnds} (s : List ℕ) (f : ends_meant r s ≡ three_lines s) where
+  pub no_lines : r ≡ None → three_lines s ≡ unread
+  no_lines e = sym f ∙ ap (λ (x : Option LineEnds). ends_meant x s) e
 
-  pub lines_are : {one two three : ℕ} → r ≡ ends.At one two three → three_lines s ≡ read (lines_at s one two three)
-  lines_are e = sym f ∙ ap (λ (x : LineEnds). ends_meant x s) e
+  pub lines_are : {e : LineEnds} → r ≡ Some e → three_lines s ≡ read (lines_at s e.one e.two e.three)
+  lines_are e = sym f ∙ ap (λ (x : Option LineEnds). ends_meant x s) e

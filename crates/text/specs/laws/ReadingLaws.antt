@@ -1,11 +1,13 @@
 -- What the readers of a text answer, and the laws by which they go through it byte by byte.
 use Rattle.std.specs.Prelude.{ℕ, suc, ◌+◌, ◌-◌, ◌*◌, ◌≤◌, ◌<◌, ◌≡◌, Bool, not, ◌&&◌, List, [], ◌∷◌, T, eqb, leb, ltb, length, get_or, take, drop}
 use Rattle.std.proofs.Math.Path.{refl}
-use Rattle.std.proofs.Common.{sym, subst, arith, length-drop, drop_of_length-le, take_all}
+use Rattle.std.proofs.Common.{sym, ap, subst, arith, length-drop, drop_of_length-le, take_all}
 use Rattle.std.proofs.Math.Bool.{true, false, cond}
 use Rattle.std.proofs.Math.Numerals.{add-one}
 use Rattle.std.proofs.Math.Seq.{drop-cons}
 use borrow.Author.Tests.{eq-eqb, ne_eqb, le-leb, lt-leb, lt-ltb, le-ltb, ltb-true}
+use Rattle.std.specs.Cmp.Lexicographic.{pointwise}
+use Rattle.std.proofs.lemmas.Bool.Decides.{nat_tests}
 use Rattle.text.specs.Text.{Reading, read, unread, all_digits, value_from, leading_zero, numeral, starts_with, after_key}
 use Rattle.text.specs.inner.Texts.{digits}
 
@@ -111,6 +113,23 @@ leading_other (b ∷ l) ne = rw (ne_eqb b 48 ne)
 
 -- ---- keys
 
+-- what std's test says of a text and a key
+pub starts_is : (key l : List ℕ) → pointwise eqb key (take (length key) l) ≡ starts_with key l
+unfolding starts_with
+starts_is [] l = refl
+starts_is (k ∷ key) [] = refl
+starts_is (k ∷ key) (b ∷ l) = ap (λ t. eqb k b && t) (starts_is key l)
+
+eqb_swap : (a b : ℕ) → eqb a b ≡ eqb b a
+eqb_swap a b = grind (arith, nat_tests)
+
+-- what std's cut says of them
+pub cut_is : (key l : List ℕ) → pointwise eqb (take (length key) l) key ≡ starts_with key l
+unfolding starts_with
+cut_is [] l = refl
+cut_is (k ∷ key) [] = refl
+cut_is (k ∷ key) (b ∷ l) = rw (eqb_swap b k, cut_is key l)
+
 -- one byte, at a place of both lists
 module _ (key l : List ℕ) (i : ℕ) (hk : i < length key) (hl : i < length l) where
   pub starts_same : get_or key i 0 ≡ get_or l i 0 → starts_with (drop i key) (drop i l) ≡ starts_with (drop (i + 1) key) (drop (i + 1) l)
@@ -147,6 +166,10 @@ rest_of l from = take_all (length l - from) (drop from l) (simp length-drop (ome
 pub after_other : (key l : List ℕ) → starts_with key l ≡ false → after_key key l ≡ unread
 unfolding after_key
 after_other key l e = rw e
+
+pub after_key_is : (key l : List ℕ) → starts_with key l ≡ true → after_key key l ≡ read (drop (length key) l)
+unfolding after_key
+after_key_is key l e = rw e
 
 pub after_rest : (key l : List ℕ) → starts_with key l ≡ true → after_key key l ≡ read (take (length l - length key) (drop (length key) l))
 unfolding after_key

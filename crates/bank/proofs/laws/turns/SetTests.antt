@@ -1,16 +1,16 @@
--- In a valid bank a step of a running column is refused exactly where the test by sets fails. Assumes nothing.
+-- In a valid bank a step of a running column is refused exactly where the test by sets fails, and the first accepted one is found by these tests. Assumes nothing.
 use Rattle.std.specs.Prelude.{ℕ, ◌^◌, ◌<◌, ◌≡◌, ◌⊎◌, Bool, ◌&&◌, ◌||◌, cond, eqb, ltb}
 use Rattle.std.proofs.Math.Path.{refl, sym, ap}
 use Rattle.std.proofs.Common.{◌∙◌, inl, inr, true≢false, arith, lt_of_lt_of_le, pow_mono}
 use Rattle.std.proofs.Math.Bool.{true, false, not, or-true}
 use mathlib.Core.List.{[], ◌∷◌}
-use borrow.Author.Tests.{eq-eqb, ne_eqb, eqb-false, ltb-true, ltb-false, lt-leb, not-false}
-use Rattle.column.specs.laws.Cases.{truth}
+use borrow.Author.Tests.{eq-eqb, ne_eqb, eqb-false, ltb-true, ltb-false, lt-leb, not-false, eqb-true}
+use Rattle.column.specs.laws.Cases.{truth, and_left}
 use Rattle.column.specs.Refusals.{first, earlier}
-use Rattle.column.specs.Sets.{within, has, minus, lowest}
+use Rattle.column.specs.Sets.{within, has, minus, lowest, join}
 use Rattle.column.specs.Trees.{choose}
-use Rattle.column.specs.laws.SetLaws.{has_minus, selected_has, within_lt}
-use Rattle.column.specs.laws.Digits.{lowest_member}
+use Rattle.column.specs.laws.SetLaws.{has_minus, selected_has, within_lt, selected_lt, join_lt, has_none, member_lt}
+use Rattle.column.specs.laws.Digits.{lowest_member, lowest_none}
 use Rattle.column.specs.laws.TreeLaws.{tree_sixteen}
 use Rattle.column.proofs.laws.ChoiceLaws.{choose_lt}
 use Rattle.column.specs.Columns.{idle, validity_refusal, state_conditions, state_refusal, watched, may_acknowledge}
@@ -20,7 +20,7 @@ use Rattle.column.specs.Steps as core
 use Rattle.column.specs.declared.tree.Tree.{Tree}
 use Rattle.column.specs.declared.state.Column.{Column}
 use Rattle.column.specs.declared.packet.Packet.TheVariants.{Message}
-use Rattle.bank.specs.Banks.{State, column_at, runs, halted_of, capacity}
+use Rattle.bank.specs.Banks.{State, column_at, runs, halted_of, capacity, places}
 use Rattle.bank.specs.laws.ValidityLaws.{Valid, valid_passes}
 use Rattle.bank.specs.Steps.{send, ack, all, note}
 use Rattle.bank.specs.Performs.{perform}
@@ -29,8 +29,11 @@ use Rattle.bank.proofs.laws.RestSteps.{refuses, refused_exactly, then_refuses}
 use Rattle.bank.specs.Exact.{own_refusal, raises, raised, overfull}
 use Rattle.bank.specs.declared.bank.Step.{Step}
 use Rattle.bank.specs.declared.bank.Step.TheVariants.{Send, Ack, All, Note}
-use Rattle.bank.specs.inner.Turning.{fits, can_send, can_ack, can_take_over, is_full}
+use Rattle.bank.specs.inner.Turning.{fits, can_send, can_ack, can_take_over, is_full, step_of}
 use Rattle.bank.specs.declared.bank.Bank.{Bank}
+use Rattle.bank.proofs.laws.turns.AcceptedLists.{first_append, first_none, first_at}
+use Rattle.std.specs.Int.Bits.{xor_lt}
+use Rattle.bank.specs.Dispatch.{offers, first_accepted}
 
 -- ---- a valid bank refuses by the step's own number, and where a packet has no room
 
@@ -206,3 +209,58 @@ module _ (s : State) (st : Valid s) (i : ℕ) (h : i < s.bank.tree.columns) (r :
       go : (x : Bool) → runs b j ≡ x → (x || refuses (core.note_refusal t i c j)) ≡ not (not x && not (has c.noted j))
       go true e = refl
       go false e = note_own j l (λ z. true≢false (sym r ∙ ap (runs b) (sym z) ∙ e)) ∙ twice (has c.noted j)
+
+  -- ---- the first that is accepted
+
+  abbrev new : ℕ
+  new = minus (halted_of b) c.noted
+
+  new_lt : new < 2 ^ 16
+  unfolding state_refusal
+  new_lt =
+      let p = passed (state_conditions t i c) tt (st.columns i h) in
+      let n = tree_sixteen t st.tree in
+      let small : c.noted < 2 ^ 16 = lt_of_lt_of_le (within_lt c.noted t.columns (not-false _ p.1.1.1.1.0)) (pow_mono n) in
+      xor_lt 16 (join (halted_of b) c.noted) c.noted (join_lt 16 (halted_of b) c.noted (selected_lt (λ k. not (runs b k)) t.columns 16 n) small) small
+
+  first_notes : (other : Step) → first_accepted s (places (λ j. Note i j) t.columns) other ≡ cond (eqb new 0) other (Note i (lowest new))
+  unfolding perform
+  first_notes other = go (eqb new 0) refl
+    where
+      go : (z : Bool) → eqb new 0 ≡ z → first_accepted s (places (λ j. Note i j) t.columns) other ≡ cond z other (Note i (lowest new))
+      go true e = first_none s (λ j. Note i j) t.columns other (λ j l. note_exact j l ∙ ap not (ap (λ (m : ℕ). has m j) (eqb-true new 0 e) ∙ has_none j))
+      go false e =
+          let some : 0 < new = omega (arith, eqb-false new 0 e) in
+          let here : has new (lowest new) ≡ true = lowest_member 16 new new_lt some in
+          let l : lowest new < t.columns = halted_below (lowest new) here in
+          first_at s (λ j. Note i j) t.columns other (lowest new) l (note_exact (lowest new) l ∙ ap not here)
+          (λ k z. note_exact k (omega (arith, l, z)) ∙ ap not (lowest_none 16 new k z))
+        where
+          halted_below : (j : ℕ) → has new j ≡ true → j < t.columns
+          halted_below j e = member_lt t.columns (halted_of b) j (selected_lt (λ k. not (runs b k)) t.columns t.columns (omega arith))
+              (and_left (has (halted_of b) j) _ (sym (has_minus (halted_of b) c.noted j) ∙ e))
+
+  pub first_column : (other : Step) → first_accepted s (offers t.columns i) other ≡ step_of t full halted i c other
+  unfolding first_accepted step_of perform
+  first_column other =
+      first_append s (places (λ j. Note i j) t.columns) (Send i ∷ Ack i ∷ All i ∷ []) other
+      ∙ first_notes _
+      ∙ ap (λ (y : Step). cond (eqb new 0) y (Note i (lowest new)))
+      (ap (λ (y : Step). cond (is_refused (send s i)) y (Send i))
+      (ap (λ (y : Step). cond (is_refused (ack s i)) y (Ack i)) (pick (can_take_over t i c) (is_refused (all s i)) (All i) other all_exact)
+      ∙ pick (can_ack t full halted i c) (is_refused (ack s i)) (Ack i) third ack_exact)
+      ∙ pick (can_send t full halted i c) (is_refused (send s i)) (Send i) second send_exact)
+      ∙ sym (ap (λ (x : Bool). cond x (cond (eqb new 0) (cond (can_send t full halted i c) (Send i) second) (Note i (lowest new))) other) r)
+    where
+      third : Step
+      third = cond (can_take_over t i c) (All i) other
+
+      second : Step
+      second = cond (can_ack t full halted i c) (Ack i) third
+
+      pick : (p q : Bool) (x y : Step) → q ≡ not p → cond q y x ≡ cond p x y
+      pick p q x y e = ap (λ (z : Bool). cond z y x) e ∙ turned p
+        where
+          turned : (p : Bool) → cond (not p) y x ≡ cond p x y
+          turned true = refl
+          turned false = refl

@@ -17,7 +17,6 @@ use Rattle.column.specs.laws.UncheckedLaws.{take_bounded, ack_bounded, all_bound
 use Rattle.column.proofs.laws.UncheckedLaws.{send_bounded}
 use Rattle.column.specs.declared.tree.Tree.{Tree}
 use Rattle.column.specs.declared.state.Column.{Column}
-use Rattle.column.specs.declared.outcome.Outcome as core-outcome
 use Rattle.bank.specs.Banks.{State, state, column_at, runs, packet_at, bank_refusal}
 use Rattle.bank.specs.laws.ValidityLaws.{valid}
 use Rattle.bank.specs.laws.WordLaws.{receiver_of}
@@ -174,13 +173,13 @@ module _ {b : Bank} {t : Tree} {running i : ℕ} {c : Column} {count : ℕ} (hea
       let z : refusal_of s x ≡ 0 = eqb-true (refusal_of s x) 0 (not-false (eqb (refusal_of s x) 0) (sym (refused_exactly s x) ∙ goes)) in
       (earlier_none (own_refusal s x) _ (earlier_none (bank_refusal s) _ z).1).0
 
-  pub turn_own : is_take x ≡ false → (o : core-outcome.Outcome) → core.outcome_meant o ≡ turn_effect t x i c → {after : Result State}
-      → (Steady (column_at b i) (core.outcome_meant o) → Aimed b.tree (core.outcome_meant o) → after ≡ settled s s i (core.outcome_meant o)) → after ≡ perform s x
-  turn_own none o e settles =
+  pub turn_own : is_take x ≡ false → (m : core.Result) → m ≡ turn_effect t x i c → {after : Result State}
+      → (Steady (column_at b i) (m) → Aimed b.tree (m) → after ≡ settled s s i (m)) → after ≡ perform s x
+  turn_own none m e settles =
       let stood = valid s ok in
       let below : i < b.tree.columns = omega (arith, is, turns.below none) in
       let actor = ap (acts s x) is ∙ turns.actor in
-      let same : core.outcome_meant o ≡ core_step b.tree running x i (column_at b i) =
+      let same : m ≡ core_step b.tree running x i (column_at b i) =
       e ∙ ap (λ (t : Tree). turn_effect t x i c) (sym handed.tree_is) ∙ ap (turn_effect b.tree x i) (sym handed.column_is)
       ∙ effect_is s i (valid_at s stood i below) running handed.running_is x turns.moves turns.given none actor (none_refuses none) in
       own_done s stood i below running handed.running_is x (own_turn x turns.moves none) actor same settles
@@ -197,10 +196,10 @@ module _ {b : Bank} {t : Tree} {running i : ℕ} {c : Column} {count : ℕ} (hea
     unfolding perform
     turn_takes some = rw (turns.oldest takes, eq-eqb (bank_refusal s) 0 ok, lt-leb b.count 0 (omega (arith, handed.count_is, some)))
 
-    pub turn_taken : (count ≡ 0 → ⊥) → (o : core-outcome.Outcome) → core.outcome_meant o ≡ bounded_take t i c (packet_at s 0) → {after : Result State}
-        → (Steady (column_at b i) (core.outcome_meant o) → Aimed b.tree (core.outcome_meant o) → after ≡ settled s (removed s 0) i (core.outcome_meant o)) → after ≡ perform s x
+    pub turn_taken : (count ≡ 0 → ⊥) → (m : core.Result) → m ≡ bounded_take t i c (packet_at s 0) → {after : Result State}
+        → (Steady (column_at b i) (m) → Aimed b.tree (m) → after ≡ settled s (removed s 0) i (m)) → after ≡ perform s x
     unfolding core.take_refusal
-    turn_taken some o e settles =
+    turn_taken some m e settles =
         let p = packet_at s 0 in
         let held : 0 < b.count = omega (arith, handed.count_is, some) in
         let stood = valid s ok in
@@ -208,7 +207,7 @@ module _ {b : Bank} {t : Tree} {running i : ℕ} {c : Column} {count : ℕ} (hea
         subst (λ (k : ℕ). core.take_refusal b.tree k (column_at b k) p ≡ 0) (sym turn_receiver) (core_takes s stood 0 held) in
         let q = earlier_none (validity_refusal b.tree i (column_at b i)) _ none in
         let own = (earlier_none (core.packet_refusal b.tree p) (first (core.take_conditions b.tree i (column_at b i) p)) q.1).1 in
-        taken_done s stood 0 held i turn_receiver o
+        taken_done s stood 0 held i turn_receiver m
         (e ∙ ap (λ (t : Tree). bounded_take t i c p) (sym handed.tree_is) ∙ ap (λ (c : Column). bounded_take b.tree i c p) (sym handed.column_is)
         ∙ take_bounded b.tree i (column_at b i) q.0 p own)
         settles

@@ -8,7 +8,7 @@ use Rattle.bank.specs.Networks.{keeping, elsewhere}
 use Rattle.bank.specs.laws.ListSteps.{keeping_longer, keeping_no, partly_start, partly_read, partly_yes, partly_no}
 use Rattle.bank.specs.inner.NetworkWords.{partly}
 use Rattle.bank.proofs.network.keep.Goals as goal
-use Rattle.bank.proofs.network.keep.Goals.{then-not-member, else-not-member}
+use Rattle.bank.proofs.network.keep.Goals.{then-not-has, else-not-has}
 
 pub loop-j-init : goal.loop-j-init
 unfolding keeping
@@ -33,11 +33,11 @@ loop-j-preserved c =
     let kd : length (keeping f (take j h) (take j d)) ≤ j = omega arith in
     let hr : get_or c.loop-j.heads j 0 ≡ get_or h j 0 = rw v.6 (partly_read f h h 0 0 j kh) in
     let dr : get_or c.loop-j.doors j 0 ≡ get_or d j 0 = rw v.7 (partly_read f h d 0 0 j kd) in
-    let tested : f (get_or h j 0) ≡ not c.member.result =
-    ap f (sym hr) ∙ ap (λ n. not (has a.m n)) (sym c.receiver_in.ensures) ∙ ap not (sym c.member.ensures) in
-    elim c.if-not-member.branch [
-      | then-not-member w ↦
-          let y : f (get_or h j 0) ≡ true = tested ∙ ap not w.if-not-member.true in (
+    let tested : f (get_or h j 0) ≡ not c.has.result =
+    ap f (sym hr) ∙ ap (λ n. not (has a.m n)) (sym c.receiver_in.ensures) ∙ ap not (sym c.has.ensures) in
+    elim c.if-not-has.branch [
+      | then-not-has w ↦
+          let y : f (get_or h j 0) ≡ true = tested ∙ ap not w.if-not-has.true in (
             omega arith,
             omega (arith, w.kept-is),
             ap length w.heads-is ∙ length-set c.loop-j.heads c.loop-j.kept _ ∙ v.2,
@@ -47,8 +47,8 @@ loop-j-preserved c =
             w.heads-is ∙ (λ k. set (v.6 k) (v.4 k) (hr k)) ∙ partly_yes f h h 0 0 j hl hl kh y,
             w.doors-is ∙ (λ k. set (v.7 k) (v.5 k) (dr k)) ∙ partly_yes f h d 0 0 j hl dl kd y,
           )
-      | else-not-member w ↦
-          let y : f (get_or h j 0) ≡ false = tested ∙ ap not w.if-not-member.false in (
+      | else-not-has w ↦
+          let y : f (get_or h j 0) ≡ false = tested ∙ ap not w.if-not-has.false in (
             omega arith,
             omega (arith, w.kept-is),
             ap length w.heads-is ∙ v.2,

@@ -1,4 +1,4 @@
-use Prim.Native.Nat.{◌-◌, ◌≤◌}
+use Prim.Native.Nat.{◌≤◌}
 use mathlib.Core.Path.{◌≡◌}
 use Rattle.column.specs.Sets.{has}
 use lib.ListN.{length, take}
@@ -16,6 +16,3 @@ invariant-loop-j l =
     × (l.kept ≡ length (keeping (elsewhere (has l.m)) (take l.j l.initial.heads) (take l.j l.initial.doors)))
     × (l.heads ≡ partly (elsewhere (has l.m)) l.initial.heads l.initial.heads l.j)
     × (l.doors ≡ partly (elsewhere (has l.m)) l.initial.heads l.initial.doors l.j)
-
-abbrev pub decreases-loop-j : goal.decreases-loop-j
-decreases-loop-j l = l.count - l.j

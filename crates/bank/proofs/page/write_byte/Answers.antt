@@ -1,58 +1,60 @@
 use borrow.Author.Rules.{rules}
-use Prim.Native.Nat.{ℕ, ◌<◌}
-use mathlib.Core.Path.{◌≡◌, sym, ap, ◌∙◌}
-use mathlib.Core.List.{List, []}
+use Rattle.std.proofs.lemmas.Result.{err_from_is_err_and}
+use Prim.Native.Nat.{◌<◌}
+use mathlib.Core.Path.{sym, ap, ◌∙◌}
+use mathlib.Core.List.{[]}
 use native.Mathlib.Omega.{arith}
-use Rattle.column.specs.laws.RefusalLaws.{earlier_none}
 use Rattle.column.specs.laws.TreeLaws.{tree_sixteen}
 use Rattle.column.specs.declared.state.Column.{Column}
-use Rattle.bank.specs.Banks.{State, state, acting_refusal}
+use Rattle.bank.specs.Banks.{state, acting_refusal}
 use Rattle.bank.specs.laws.ValidityLaws.{acting}
-use Rattle.bank.specs.laws.StepLaws.{unless_refused, unless_goes, accepted_words}
+use Rattle.bank.specs.laws.StepLaws.{earlier_refused, refused_unless}
 use Rattle.bank.specs.Steps.{accepted, with_place}
 use Rattle.bank.specs.Pages.{write_refusal}
 use Rattle.bank.proofs.page.write_byte.Goals as goal
-use Rattle.bank.proofs.page.write_byte.Goals.{After-refuse_if-n, Else-n-ne0, Start}
+use Rattle.bank.proofs.page.write_byte.Goals.{In_ok-check_acting}
 
-abbrev given : Start → List ℕ → State
-given c doors = state c.args.b c.args.heads.now doors
-
-refusal : (c : After-refuse_if-n) (doors : List ℕ) → c.refuse_if-n.result ≡ write_refusal (given c.before.before.before.before.before.before doors) c.args.i c.args.offset
-unfolding write_refusal
-refusal c doors =
-    rw (c.refuse_if-n.ensures, c.writable.ensures, c.refuse_if-acting.ensures, c.survey-v.ensures.refuses doors)
-
-abbrev start : After-refuse_if-n → Start
-start c = c.before.before.before.before.before.before
-
--- the refusal has tested that the bank has the column
-below : (c : Else-n-ne0) → (start c.before).args.i < 16
-unfolding write_refusal
+-- the bank has the column
+below : (c : In_ok-check_acting) → c.args.i < 16
 below c =
-    let s = given (start c.before) [] in
-    let i = (start c.before).args.i in
-    let q = acting s i (earlier_none (acting_refusal s i) _ (sym (refusal c.before []) ∙ c.if-n-ne0.false)).0 in
+    let a = c.args in
+    let s = state a.b a.heads.now [] in
+    let q = acting s a.i (sym (c.in_ok-check_acting.ensures [])) in
     omega (arith, q.1, tree_sixteen s.bank.tree q.0.tree)
 
-pub returns-then-n-ne0 : goal.returns-then-n-ne0
-returns-then-n-ne0 c = λ doors. unless_refused (given (start (goal.at.returns-then-n-ne0 c).After-refuse_if-n) doors) _ _ _ c.refused.result (refusal (goal.at.returns-then-n-ne0 c).After-refuse_if-n doors) c.if-n-ne0.true c.refused.ensures
+pub returns-in_err-check_acting : goal.returns-in_err-check_acting
+unfolding write_refusal
+returns-in_err-check_acting c =
+    let a = c.args in
+    let p = err_from_is_err_and c.from_residual.result c.from_residual.ensures.1 in
+    let is = c.in_err-check_acting.ensures in
+    λ doors.
+    let s = state a.b a.heads.now doors in
+    rw (p.1, p.2) (refused_unless s _ (write_refusal s a.i a.offset) _ (earlier_refused _ (acting_refusal s a.i) _ (is doors)))
 
-pub offset_bounds-d-i : goal.offset_bounds-d-i
-offset_bounds-d-i c = search (rules, below (goal.at.offset_bounds-d-i c).Else-n-ne0)
+pub returns-then-not-writable : goal.returns-then-not-writable
+unfolding write_refusal
+returns-then-not-writable c =
+    let a = c.args in
+    λ doors.
+    rw (sym (c.in_ok-check_acting.ensures doors), sym c.writable.ensures, c.if-not-writable.true-raw)
 
-pub bounds-d-i : goal.bounds-d-i
-bounds-d-i c = search (rules, below (goal.at.bounds-d-i c).Else-n-ne0)
+pub offset_bounds-b-i : goal.offset_bounds-b-i
+offset_bounds-b-i c = search (rules, below (goal.at.offset_bounds-b-i c).In_ok-check_acting)
 
-pub offset_bounds-d-i-2 : goal.offset_bounds-d-i-2
-offset_bounds-d-i-2 c = search (rules, below (goal.at.offset_bounds-d-i-2 c).Else-n-ne0)
+pub bounds-b-i : goal.bounds-b-i
+bounds-b-i c = search (rules, below (goal.at.bounds-b-i c).In_ok-check_acting)
 
-pub bounds-d-i-2 : goal.bounds-d-i-2
-bounds-d-i-2 c = search (rules, below (goal.at.bounds-d-i-2 c).Else-n-ne0)
+pub offset_bounds-b-i-2 : goal.offset_bounds-b-i-2
+offset_bounds-b-i-2 c = search (rules, below (goal.at.offset_bounds-b-i-2 c).In_ok-check_acting)
+
+pub bounds-b-i-2 : goal.bounds-b-i-2
+bounds-b-i-2 c = search (rules, below (goal.at.bounds-b-i-2 c).In_ok-check_acting)
 
 pub returns : goal.returns
+unfolding write_refusal
 returns c =
-    let a = (start (goal.at.returns c).After-refuse_if-n).args in
+    let a = c.args in
     λ doors.
-    accepted_words c.done.result _ a.heads.now doors c.done.ensures
-    ∙ ap (λ (y : Column). accepted (state (with_place a.b a.i y) a.heads.now doors)) c.written-changed.ensures
-    ∙ unless_goes (given (start (goal.at.returns c).After-refuse_if-n) doors) _ _ _ (refusal (goal.at.returns c).After-refuse_if-n doors) c.if-n-ne0.false
+    ap (λ (y : Column). accepted (state (with_place a.b a.i y) a.heads.now doors)) c.written.ensures
+    ∙ rw (sym (c.in_ok-check_acting.ensures doors), sym c.writable.ensures, c.if-not-writable.false-raw)

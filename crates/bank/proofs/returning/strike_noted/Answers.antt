@@ -25,7 +25,7 @@ loop-i-preserved c =
     let a = c.args in
     let i = c.loop-i.i in (
       omega arith,
-      ap (λ (x : Column). placed c.loop-i.d (set c.loop-i.d.columns i x)) c.strike.ensures
+      ap (λ (x : Column). placed c.loop-i.b (set c.loop-i.b.columns i x)) c.strike.ensures
           ∙ ap (λ (x : Bank). placed x (set x.columns i (struck (get_or x.columns i no_column) a.j))) c.loop-i.invariant.1
           ∙ ap (placed a.b) (rewrite_yes (λ q. true) i (λ (x : Column). struck x a.j) a.b.columns refl),
     )

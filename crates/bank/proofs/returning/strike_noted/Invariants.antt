@@ -1,5 +1,5 @@
 -- The columns below i have j no longer noted.
-use Prim.Native.Nat.{ℕ, ◌≤◌, ◌-◌}
+use Prim.Native.Nat.{ℕ, ◌≤◌}
 use mathlib.Core.Path.{◌≡◌}
 use mathlib.Core.Bool.{true}
 use Rattle.column.specs.Returns.{struck}
@@ -12,7 +12,4 @@ abbrev pub struck_below : Bank → ℕ → ℕ → Bank
 struck_below b j = λ i. with_rewritten (λ c. struck c j) b (upto (λ k. true) i)
 
 abbrev pub invariant-loop-i : goal.invariant-loop-i
-invariant-loop-i l = (l.i ≤ l.n) × (l.d ≡ struck_below l.initial.d l.j l.i)
-
-abbrev pub decreases-loop-i : goal.decreases-loop-i
-decreases-loop-i l = l.n - l.i
+invariant-loop-i l = (l.i ≤ l.n) × (l.b ≡ struck_below l.initial.b l.j l.i)

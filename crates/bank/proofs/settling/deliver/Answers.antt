@@ -4,7 +4,6 @@ use native.Mathlib.Omega.{arith}
 use borrow.Author.Tests.{not-true, not-false}
 use Rattle.column.specs.Sets.{has}
 use Rattle.column.specs.Packets.{receiver}
-use Rattle.bank.specs.laws.SettledLaws.{comes}
 use Rattle.bank.proofs.laws.ChangeLaws.{delivered_halted, delivered_full, delivered_put}
 use Rattle.bank.proofs.settling.deliver.Goals as goal
 use Rattle.bank.proofs.settling.deliver.Goals.{After-has}
@@ -16,14 +15,14 @@ pub returns-then-not-has : goal.returns-then-not-has
 returns-then-not-has c =
     λ d b i n running_is steady below.
     let a = c.args in
-    delivered_halted b i a.heads.now a.doors.now d a.count n a.p a.running running_is steady below (comes d c.changed.ensures)
+    delivered_halted b i a.network.now.heads a.network.now.doors d a.count n a.p a.running running_is steady below
     (sym (asked (goal.at.returns-then-not-has c).After-has) ∙ not-true _ c.if-not-has.true-raw) c.requires
 
 pub returns-then-count-eq-CAPACITY : goal.returns-then-count-eq-CAPACITY
 returns-then-count-eq-CAPACITY c =
     λ d b i n running_is steady below.
     let a = c.args in
-    delivered_full b i a.heads.now a.doors.now d a.count n a.p a.running running_is steady below (comes d c.unchanged.ensures)
+    delivered_full b i a.network.now.heads a.network.now.doors d a.count n a.p a.running running_is steady below
     (sym (asked (goal.at.returns-then-count-eq-CAPACITY c).After-has) ∙ not-false _ c.if-not-has.false-raw) c.if-count-eq-CAPACITY.true
 
 pub returns : goal.returns
@@ -31,5 +30,5 @@ returns c =
     λ d b i n running_is steady below.
     let a = c.args in
     let room : a.count < 512 = omega (arith, c.if-count-eq-CAPACITY.false, c.requires) in
-    delivered_put b i a.heads.now a.doors.now d a.count n a.p a.running running_is steady below c.append.ensures (comes d c.changed-2.ensures)
+    delivered_put b i a.network.now.heads a.network.now.doors d a.count n a.p a.running running_is steady below c.append.ensures
     (sym (asked (goal.at.returns c).After-has) ∙ not-false _ c.if-not-has.false-raw) room

@@ -26,18 +26,3 @@ returns-in-All c =
     λ good.
     let a = c.args in
     rw c.in-All.is (c.all.ensures ∙ all_unchecked_lem a.t a.i a.c good)
-
-pub returns-in-Note : goal.returns-in-Note
-returns-in-Note c = λ good. rw c.in-Note.is (c.noted.ensures good)
-
-pub returns-in-Take : goal.returns-in-Take
-returns-in-Take c = λ good. rw c.in-Take.is c.no_step.ensures
-
-pub returns-in-Halt : goal.returns-in-Halt
-returns-in-Halt c = λ good. rw c.in-Halt.is c.no_step-in-Halt.ensures
-
-pub returns-in-Back : goal.returns-in-Back
-returns-in-Back c = λ good. rw c.in-Back.is c.no_step-in-Back.ensures
-
-pub returns-in-Write : goal.returns-in-Write
-returns-in-Write c = λ good. rw c.in-Write.is c.no_step-in-Write.ensures

@@ -6,7 +6,7 @@ use Rattle.bank.proofs.step.take.Goals as goal
 pub act-requires : goal.act-requires
 act-requires c =
     let a = c.args in
-    taker (state a.b a.heads.now a.doors.now) a.place c.receiver_at-i.ensures
+    taker (state a.b a.network.now.heads a.network.now.doors) a.place c.receiver_at-i.ensures
 
 pub returns : goal.returns
 unfolding perform

@@ -11,7 +11,7 @@ use Rattle.column.specs.Columns.{stopped}
 use Rattle.bank.specs.laws.strips.Rewriting.{upto, rewrite_start, rewrite_yes, rewrite_no, rewrite_end}
 use Rattle.bank.specs.declared.bank.Bank.{Bank}
 use Rattle.bank.proofs.strip.stop.Goals as goal
-use Rattle.bank.proofs.strip.stop.Goals.{then-member, else-member}
+use Rattle.bank.proofs.strip.stop.Goals.{then-has, else-has}
 
 abbrev placed : Bank → List Column → Bank
 placed b l = record { tree = b.tree; columns = l; count = b.count }
@@ -25,14 +25,14 @@ loop-j-preserved c =
     let v = c.loop-j.invariant in
     let j = c.loop-j.j in (
       omega arith,
-      elim c.if-member.branch [
-        | then-member w ↦
-            w.d-is
-            ∙ ap (λ (x : Column). placed c.loop-j.d (set c.loop-j.d.columns j x)) w.stopped.ensures
+      elim c.if-has.branch [
+        | then-has w ↦
+            w.b-is
+            ∙ ap (λ (x : Column). placed c.loop-j.b (set c.loop-j.b.columns j x)) w.stopped.ensures
             ∙ ap (λ (x : Bank). placed x (set x.columns j (stopped (get_or x.columns j no_column)))) v.1
-            ∙ ap (placed a.b) (rewrite_yes (has a.m) j stopped a.b.columns (sym c.member.ensures ∙ w.if-member.true))
-        | else-member w ↦
-            w.d-is ∙ v.1 ∙ ap (placed a.b) (rewrite_no (has a.m) j stopped a.b.columns (sym c.member.ensures ∙ w.if-member.false))
+            ∙ ap (placed a.b) (rewrite_yes (has a.m) j stopped a.b.columns (sym c.has.ensures ∙ w.if-has.true))
+        | else-has w ↦
+            w.b-is ∙ v.1 ∙ ap (placed a.b) (rewrite_no (has a.m) j stopped a.b.columns (sym c.has.ensures ∙ w.if-has.false))
       ],
     )
 
@@ -41,4 +41,4 @@ returns c =
     let a = c.args in
     let e : c.loop-j.j ≡ 16 = omega arith in
     c.loop-j.invariant.1 ∙ ap (λ (n : ℕ). with_stopped a.b (upto (has a.m) n)) e
-    ∙ ap (placed a.b) (rewrite_end stopped 16 a.m c.requires a.b.columns)
+    ∙ ap (placed a.b) (rewrite_end stopped 16 a.m (omega (arith, c.ranges.m)) a.b.columns)

@@ -1,5 +1,5 @@
 -- The packets before place k have valid ends, and whether they are valid is whether their receivers, gathered, run.
-use Prim.Native.Nat.{ℕ, ◌<◌, ◌≤◌, ◌-◌, ◌^◌}
+use Prim.Native.Nat.{ℕ, ◌<◌, ◌≤◌, ◌^◌}
 use mathlib.Core.Path.{◌≡◌}
 use lib.Dec.{eqb}
 use lib.ListN.{get_or}
@@ -8,10 +8,7 @@ use Rattle.column.specs.Trees.{every}
 use Rattle.bank.specs.inner.Surveys.{head_valid}
 use Rattle.bank.proofs.survey.heads_valid.Given as goal
 
-abbrev pub invariant-loop-k : goal.invariant-loop-k
-invariant-loop-k l =
-    (l.k ≤ l.count)
-    × ((l.receivers < 2 ^ 16) × (eqb (join l.receivers l.running) l.running ≡ every (λ (j : ℕ). head_valid l.columns l.root l.watch l.running (get_or l.heads j 0)) l.k))
-
-abbrev pub decreases-loop-k : goal.decreases-loop-k
-decreases-loop-k l = l.count - l.k
+abbrev pub invariant-loop-head : goal.invariant-loop-head
+invariant-loop-head l =
+    (l.head-index ≤ l.count)
+    × ((l.receivers < 2 ^ 16) × (eqb (join l.receivers l.running) l.running ≡ every (λ (j : ℕ). head_valid l.columns l.root l.watch l.running (get_or l.heads j 0)) l.head-index))

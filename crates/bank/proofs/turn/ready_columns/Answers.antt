@@ -1,6 +1,6 @@
 -- The set so far is that of the columns below i that can do anything.
 use Prim.Native.Nat.{ℕ, ◌<◌, ◌*◌, ◌^◌}
-use mathlib.Core.Path.{◌≡◌, refl, sym, ap, ◌∙◌}
+use mathlib.Core.Path.{◌≡◌, sym, ap, ◌∙◌}
 use native.Mathlib.Nat.{mod-eq_of_lt}
 use native.Mathlib.Numerals.{add-one}
 use native.Mathlib.Omega.{arith}
@@ -9,10 +9,6 @@ use Rattle.column.specs.Sets.{selected}
 use Rattle.bank.proofs.turn.ready_columns.Goals as goal
 use Rattle.bank.proofs.turn.ready_columns.Goals.{then-is_ready, else-is_ready}
 use Rattle.bank.proofs.turn.ready_columns.Invariants.{tests}
-
-pub loop-i-init : goal.loop-i-init
-unfolding selected
-loop-i-init c = (omega arith, refl)
 
 pub loop-i-preserved : goal.loop-i-preserved
 unfolding selected
@@ -31,6 +27,6 @@ loop-i-preserved c =
 
 pub returns : goal.returns
 returns c =
-    let b = c.args.b in
+    let b = c.args.b.now in
     let end : c.loop-i.i ≡ b.tree.columns = omega arith in
     c.loop-i.invariant.1 ∙ ap (selected (tests b c.args.halted)) end ∙ ap (λ (h : ℕ). selected (tests b h) b.tree.columns) c.requires.1

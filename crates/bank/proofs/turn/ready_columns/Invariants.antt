@@ -1,5 +1,5 @@
 -- The set so far is that of the columns below i that can do anything.
-use Prim.Native.Nat.{ℕ, ◌≤◌, ◌-◌}
+use Prim.Native.Nat.{ℕ, ◌≤◌}
 use mathlib.Core.Bool.{Bool}
 use mathlib.Core.Path.{◌≡◌}
 use Rattle.column.specs.Sets.{selected}
@@ -14,6 +14,3 @@ tests b halted = λ k. is_ready b.tree (is_full b) halted k (column_at b k)
 
 abbrev pub invariant-loop-i : goal.invariant-loop-i
 invariant-loop-i l = (l.i ≤ l.n) × (l.set ≡ selected (tests l.b l.halted) l.i)
-
-abbrev pub decreases-loop-i : goal.decreases-loop-i
-decreases-loop-i l = l.n - l.i

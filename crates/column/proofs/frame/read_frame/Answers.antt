@@ -1,85 +1,70 @@
--- `frame::read_frame` meets its contract. The loop's invariant: what is left of the frame, laid after the packets so far, is the answer.
--- Assumes nothing.
-use Prim.Native.Nat.{ℕ, suc, ◌+◌, ◌-◌, ◌≤◌}
-use mathlib.Core.Path.{◌≡◌, refl, sym, ap, ◌∙◌}
-use mathlib.Core.List.{List}
-use native.Mathlib.Omega.{arith}
-use lib.ListN.{length, take, drop, set, length-drop, length-set}
-use lib.Seq.{drop-drop, take_all}
+use Rattle.std.proofs.Common.{rules, ◌≡◌, ℕ, suc, ◌+◌, ◌-◌, ◌≤◌, ◌<◌, ◌==◌, false, true, List, refl, sym, ap, ◌∙◌, arith, length, take, drop, set, length-drop}
+use Rattle.std.proofs.lemmas.List.{length-set}
+use Rattle.std.proofs.lemmas.Grind.{common_steps}
+use lib.Seq.{take_all}
 use Rattle.column.specs.Refusals.{given}
-use Rattle.column.specs.Packets.{part, wide, read}
-use Rattle.column.specs.laws.PacketLaws.{read_sized}
-use Rattle.column.specs.Frames.{frame_packets, read_frame, slot, frame_of}
-use Rattle.column.specs.inner.Answers.{no_frame}
+use Rattle.column.specs.Packets.{Part, wide, read}
+use Rattle.column.specs.laws.PacketLaws.{read_sized, read_refused}
+use Rattle.column.specs.Frames.{frame_packets}
 use Rattle.column.specs.laws.PacketPlaces.{laid_from, laid_frame, laid_ends, laid_full, laid_refused, laid_more}
 use Rattle.column.proofs.frame.read_frame.Goals as goal
-use Rattle.column.proofs.frame.read_frame.Goals.{In-Is, In-Refused}
 
--- the part that is lent
-whole : (s : List ℕ) (at : ℕ) → read (take (length s - at) (drop at s)) ≡ read (drop at s)
-whole s at = ap read (take_all (length s - at) (drop at s) (simp length-drop (omega arith)))
+some : (n : ℕ) → false ≡ (n == 0) → 0 < n
+some n e = grind arith
 
--- where no packet is, the answer is no frame
-bad : (c : In-Refused) → no_frame ≡ frame_of (read_frame c.args.frame.now)
-bad c =
-    let s = c.args.frame.now in
-    sym (laid_refused (frame_packets - c.loop-at.count) c.loop-at.packets c.loop-at.count (drop c.loop-at.at s) c.in-Refused.field-0
-    (simp length-drop (omega arith)) (sym (rw c.in-Refused.is at c.read.ensures ∙ whole s c.loop-at.at))) ∙ c.loop-at.invariant.1.1.1
+none : (n : ℕ) → true ≡ (n == 0) → n ≡ 0
+none n e = grind arith
 
--- the packet where the loop is, and what it takes
-valid : (c : In-Is)
-    → read (drop c.loop-at.at c.args.frame.now) ≡ given (part c.in-Is.packet c.in-Is.used)
-valid c =
-    sym (rw c.in-Is.is at c.read.ensures ∙ whole c.args.frame.now c.loop-at.at)
+-- what a packet leaves of the bytes that it is at the start of
+whole : (s : List ℕ) (used : ℕ) → drop used s ≡ take (length s - used) (drop used s)
+whole s used = sym (take_all (length s - used) (drop used s) (simp length-drop (omega arith)))
 
-sized : (c : In-Is)
-    → (1 ≤ c.in-Is.used) × (c.loop-at.at + c.in-Is.used ≤ length c.args.frame.now)
-sized c =
-    let s = c.args.frame.now in
-    let k = read_sized wide (drop c.loop-at.at s) (part c.in-Is.packet c.in-Is.used) (valid c) in
-    (omega (arith, k.0), omega (arith, k.1, length-drop c.loop-at.at s))
+sized : (s : List ℕ) (q : Part) → given q ≡ read s → (1 ≤ q.used) × (q.used ≤ length s)
+sized s q e = let k = read_sized wide s q (sym e) in (omega (arith, k.0), k.1)
 
-pub loop-at-init : goal.loop-at-init
-loop-at-init c = (omega arith, (omega arith, (refl, laid_frame c.args.frame.now)))
+pub loop-rest-init : goal.loop-rest-init
+loop-rest-init c = record { few = omega arith; places = refl; is_laid = laid_frame c.args.frame.now }
 
 pub returns-then-count-eq-CAPACITY : goal.returns-then-count-eq-CAPACITY
 returns-then-count-eq-CAPACITY c =
-    let s = c.args.frame.now in
-    let rest = drop c.loop-at.at s in
-    let full : frame_packets - c.loop-at.count ≡ 0 = omega arith in
-    c.no_frame.ensures ∙ sym (laid_full c.loop-at.packets c.loop-at.count rest (simp length-drop (omega arith)))
-    ∙ ap (λ n. laid_from n rest c.loop-at.packets c.loop-at.count) (sym full) ∙ c.loop-at.invariant.1.1.1
+    let l = c.loop-rest in
+    let full : frame_packets - l.count ≡ 0 = omega arith in
+    sym (laid_full l.packets l.count l.rest.now (some _ c.loop-rest-test.ensures)) ∙ ap (λ n. laid_from n l.rest.now l.packets l.count) (sym full)
+    ∙ l.invariant.is_laid
 
-pub returns-in-Refused : goal.returns-in-Refused
-returns-in-Refused c = c.no_frame-in-Refused.ensures ∙ bad (goal.at.returns-in-Refused c).In-Refused
+pub returns-in_err-packet : goal.returns-in_err-packet
+returns-in_err-packet c =
+    let l = c.loop-rest in
+    let twelve = read_refused wide l.rest.now _ c.in_err-packet.ensures in
+    let laid = sym (laid_refused (frame_packets - l.count) l.packets l.count l.rest.now _ (some _ c.loop-rest-test.ensures) (sym c.in_err-packet.ensures)) ∙ l.invariant.is_laid in
+    grind (arith, common_steps, twelve, laid)
 
-pub overflow_add-at : goal.overflow_add-at
-overflow_add-at c = omega (arith, (sized (goal.at.overflow_add-at c).In-Is).1, c.shared_slice_known-1.given 0)
+pub slice_bounds-rest-count : goal.slice_bounds-rest-count
+slice_bounds-rest-count c = (sized c.loop-rest.rest.now _ c.in_ok-packet.ensures).1
 
-pub loop-at-smaller : goal.loop-at-smaller
-loop-at-smaller c = omega (arith, (sized (goal.at.loop-at-smaller c).In-Is).0, (sized (goal.at.loop-at-smaller c).In-Is).1)
+pub slice_bounds-rest-start : goal.slice_bounds-rest-start
+slice_bounds-rest-start c = let k = sized c.loop-rest.rest.now _ c.in_ok-packet.ensures in search (rules, k.1)
 
-pub loop-at-preserved : goal.loop-at-preserved
-loop-at-preserved c =
-    let s = c.args.frame.now in
-    let count = c.loop-at.count in
-    let at = c.loop-at.at in
-    let p = c.in-Is.packet in
-    let used = c.in-Is.used in
-    let some : frame_packets - count ≡ suc (frame_packets - (count + 1)) = omega arith in
-    let more = laid_more (frame_packets - (count + 1)) c.loop-at.packets count (drop at s) p used (simp length-drop (omega arith)) (valid (goal.at.loop-at-preserved c).In-Is) in (
-      omega (arith, (sized (goal.at.loop-at-preserved c).In-Is).1),
-      (
-        omega arith,
-        (
-          length-set c.loop-at.packets count (slot p) ∙ c.loop-at.invariant.1.1.0,
-          ap (λ r. laid_from (frame_packets - (count + 1)) r (set c.loop-at.packets count (slot p)) (count + 1)) (sym (drop-drop used at s))
-              ∙ sym more ∙ ap (λ n. laid_from n (drop at s) c.loop-at.packets count) (sym some) ∙ c.loop-at.invariant.1.1.1,
-        ),
-      ),
-    )
+pub loop-rest-smaller : goal.loop-rest-smaller
+loop-rest-smaller c =
+    let k = sized c.loop-rest.rest.now _ c.in_ok-packet.ensures in
+    rw (sym (whole c.loop-rest.rest.now c.in_ok-packet.field-0.used), length-drop) (omega (arith, k.0, k.1))
+
+pub loop-rest-preserved : goal.loop-rest-preserved
+loop-rest-preserved c =
+    let l = c.loop-rest in
+    let p = c.in_ok-packet.field-0.packet in
+    let used = c.in_ok-packet.field-0.used in
+    let some_left : frame_packets - l.count ≡ suc (frame_packets - (l.count + 1)) = omega arith in
+    let more = laid_more (frame_packets - (l.count + 1)) l.packets l.count l.rest.now p used (some _ c.loop-rest-test.ensures) (sym c.in_ok-packet.ensures) in
+    record {
+      few = omega arith;
+      places = length-set l.packets l.count p ∙ l.invariant.places;
+      is_laid = ap (λ r. laid_from (frame_packets - (l.count + 1)) r (set l.packets l.count p) (l.count + 1)) (sym (whole l.rest.now used))
+          ∙ sym more ∙ ap (λ n. laid_from n l.rest.now l.packets l.count) (sym some_left) ∙ l.invariant.is_laid;
+    }
 
 pub returns : goal.returns
 returns c =
-    let s = c.args.frame.now in
-    sym (laid_ends (frame_packets - c.loop-at.count) c.loop-at.packets c.loop-at.count (drop c.loop-at.at s) (simp length-drop (omega arith))) ∙ c.loop-at.invariant.1.1.1
+    let l = c.loop-rest in
+    sym (laid_ends (frame_packets - l.count) l.packets l.count l.rest.now (none _ c.loop-rest-test.ensures)) ∙ l.invariant.is_laid

@@ -29,7 +29,7 @@ returns-then-s-gt-WORD_SIZE c = rw (lt-leb (length c.args.s.now) 8 c.if-s-gt-WOR
 
 pub loop-i-init : goal.loop-i-init
 unfolding low_value
-loop-i-init c = (omega arith, sym (ap low_value (drop-length c.args.s.now)))
+loop-i-init c = sym (ap low_value (drop-length c.args.s.now))
 
 pub overflow_cast-byte : goal.overflow_cast-byte
 overflow_cast-byte c = omega (arith, c.shared_slice_known-1.given (c.loop-i.i - 1))
@@ -45,11 +45,11 @@ loop-i-preserved c =
     let s = c.args.s.now in
     let i = c.loop-i.i in
     let e : i - 1 + 1 ≡ i = omega arith in
-    (omega arith, omega (arith, rw e at (more s (i - 1) (omega arith))))
+    omega (arith, rw e at (more s (i - 1) (omega arith)))
 
 pub returns : goal.returns
 returns c =
     let s = c.args.s.now in
     let e : c.loop-i.i ≡ 0 = omega arith in
     rw (le-leb (length s) 8 (omega arith))
-    (c.loop-i.invariant.1 ∙ ap (λ (k : ℕ). low_value (drop k s)) e)
+    (c.loop-i.invariant ∙ ap (λ (k : ℕ). low_value (drop k s)) e)

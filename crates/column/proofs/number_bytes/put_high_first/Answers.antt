@@ -19,19 +19,18 @@ more out i n h =
     rw add-one (ap (λ t. reverse low ++ t) stored ∙ sym (append_snoc (reverse low) (n % 256) _) ∙ ap (λ t. t ++ drop (suc i) out) (sym (reverse-cons (n % 256) low)))
 
 pub loop-i-init : goal.loop-i-init
-loop-i-init c = (omega arith, refl, rw drop-length (append-nil _))
+loop-i-init c = (refl, rw drop-length (append-nil _))
 
 pub loop-i-preserved : goal.loop-i-preserved
 loop-i-preserved c =
     let i = c.loop-i.i in
     let e : i - 1 + 1 ≡ i = omega arith in (
-      omega arith,
-      simp length-set c.loop-i.invariant.1,
-      more c.loop-i.out (i - 1) c.loop-i.rest (omega arith) ∙ rw e c.loop-i.invariant.2,
+      simp length-set c.loop-i.invariant.0,
+      more c.loop-i.out (i - 1) c.loop-i.rest (omega arith) ∙ rw e c.loop-i.invariant.1,
     )
 
 pub returns : goal.returns
 unfolding low_first
 returns c =
     let e : c.loop-i.i ≡ 0 = omega arith in
-    rw e at c.loop-i.invariant.2
+    rw e at c.loop-i.invariant.1

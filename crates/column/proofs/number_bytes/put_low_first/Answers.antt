@@ -19,16 +19,15 @@ pub loop-i-init : goal.loop-i-init
 loop-i-init c =
     let n = length c.args.out.now in
     let e : n - 0 ≡ n = omega arith in
-    (omega arith, refl, ap (λ (k : ℕ). low_first k c.args.number) e)
+    (refl, ap (λ (k : ℕ). low_first k c.args.number) e)
 
 pub loop-i-preserved : goal.loop-i-preserved
 loop-i-preserved c =
     let n = length c.args.out.now in
     let i = c.loop-i.i in
     let e : n - (i + 1) + 1 ≡ n - i = omega arith in (
-      omega arith,
-      simp length-set c.loop-i.invariant.1,
-      more c.loop-i.out i (n - (i + 1)) c.loop-i.rest (omega arith) ∙ rw e c.loop-i.invariant.2,
+      simp length-set c.loop-i.invariant.0,
+      more c.loop-i.out i (n - (i + 1)) c.loop-i.rest (omega arith) ∙ rw e c.loop-i.invariant.1,
     )
 
 pub returns : goal.returns
@@ -36,4 +35,4 @@ unfolding low_first
 returns c =
     let e : length c.args.out.now - c.loop-i.i ≡ 0 = omega arith in
     let all : take c.loop-i.i c.loop-i.out ≡ c.loop-i.out = take_all c.loop-i.i c.loop-i.out (omega arith) in
-    sym (append-nil c.loop-i.out) ∙ rw (e, all) at c.loop-i.invariant.2
+    sym (append-nil c.loop-i.out) ∙ rw (e, all) at c.loop-i.invariant.1

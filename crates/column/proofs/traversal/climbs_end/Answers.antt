@@ -1,6 +1,6 @@
 -- Every climb so far ends at the root.
 use borrow.Author.Rules.{rules}
-use mathlib.Core.Path.{refl, sym, ap, ◌∙◌}
+use mathlib.Core.Path.{sym, ap, ◌∙◌}
 use native.Mathlib.Numerals.{add-one}
 use native.Mathlib.Omega.{arith}
 use borrow.Author.Tests.{not-true, not-false}
@@ -8,12 +8,8 @@ use Rattle.column.specs.Trees.{tree_of, every, climbs_in}
 use Rattle.column.specs.laws.TreeLaws.{every_fails}
 use Rattle.column.proofs.traversal.climbs_end.Goals as goal
 
-pub loop-j-init : goal.loop-j-init
-unfolding every
-loop-j-init c = (omega arith, refl)
-
 pub climbs_in-requires : goal.climbs_in-requires
-climbs_in-requires c = (search rules, (search rules, (c.requires.1, c.loop-j.invariant.1)))
+climbs_in-requires c = (search rules, (search rules, (c.requires.1, c.loop-j.invariant)))
 
 pub returns-then-not-climbs_in : goal.returns-then-not-climbs_in
 returns-then-not-climbs_in c =
@@ -23,10 +19,10 @@ returns-then-not-climbs_in c =
 
 pub loop-j-preserved : goal.loop-j-preserved
 unfolding every
-loop-j-preserved c = (omega arith, rw (add-one c.loop-j.j) (rw (c.loop-j.invariant.1, sym c.climbs_in.ensures ∙ not-false _ c.if-not-climbs_in.false-raw)))
+loop-j-preserved c = rw (add-one c.loop-j.j) (rw (c.loop-j.invariant, sym c.climbs_in.ensures ∙ not-false _ c.if-not-climbs_in.false-raw))
 
 pub returns : goal.returns
 returns c =
     let a = c.args in
     let t = tree_of a.n a.root a.up.now in
-    sym (ap (every (climbs_in t t.columns)) (omega arith) ∙ c.loop-j.invariant.1)
+    sym (ap (every (climbs_in t t.columns)) (omega arith) ∙ c.loop-j.invariant)

@@ -1,5 +1,5 @@
 -- Every parent and every listed column so far is below, and the set is that of the columns listed.
-use mathlib.Core.Path.{◌≡◌, refl, sym, ap, ap₂, ◌∙◌}
+use mathlib.Core.Path.{◌≡◌, sym, ap, ap₂, ◌∙◌}
 use mathlib.Core.Bool.{Bool, true, ◌&&◌, and-false}
 use native.Mathlib.Numerals.{add-one}
 use native.Mathlib.Omega.{arith}
@@ -10,10 +10,6 @@ use Rattle.column.specs.Sets.{insert, whole}
 use Rattle.column.specs.Trees.{tree_in_sequence, every, is_parent_below, is_listed_below, listed_in, lists_each}
 use Rattle.column.specs.laws.TreeLaws.{every_fails}
 use Rattle.column.proofs.traversal.lists_hold.Goals as goal
-
-pub loop-j-init : goal.loop-j-init
-unfolding every
-loop-j-init c = (omega arith, refl, refl, refl)
 
 pub returns-then-bound-up : goal.returns-then-bound-up
 returns-then-bound-up c =
@@ -42,10 +38,9 @@ loop-j-preserved c =
     let a = c.args in
     let j = c.loop-j.j in
     let x = get_or a.first.now j 0 in (
-      omega arith,
-      rw (add-one j) (rw (c.loop-j.invariant.1, lt-ltb (get_or a.up.now j 0) a.n c.if-bound-up.false)),
-      rw (add-one j) (rw (c.loop-j.invariant.2, lt-ltb x a.n c.if-bound-c.false)),
-      c.insert-listed.ensures ∙ rw (add-one j) (ap (λ s. insert s x) c.loop-j.invariant.3),
+      rw (add-one j) (rw (c.loop-j.invariant.0, lt-ltb (get_or a.up.now j 0) a.n c.if-bound-up.false)),
+      rw (add-one j) (rw (c.loop-j.invariant.1, lt-ltb x a.n c.if-bound-c.false)),
+      c.insert-listed.ensures ∙ rw (add-one j) (ap (λ s. insert s x) c.loop-j.invariant.2),
     )
 
 pub returns : goal.returns
@@ -53,9 +48,9 @@ returns c =
     let a = c.args in
     let t = tree_in_sequence a.n 0 a.up.now a.first.now in
     let done : c.loop-j.j ≡ a.n = omega arith in
-    let parents : true ≡ every (is_parent_below t) a.n = sym (ap (every (is_parent_below t)) (sym done) ∙ c.loop-j.invariant.1) in
-    let listed : true ≡ every (is_listed_below t) a.n = sym (ap (every (is_listed_below t)) (sym done) ∙ c.loop-j.invariant.2) in
+    let parents : true ≡ every (is_parent_below t) a.n = sym (ap (every (is_parent_below t)) (sym done) ∙ c.loop-j.invariant.0) in
+    let listed : true ≡ every (is_listed_below t) a.n = sym (ap (every (is_listed_below t)) (sym done) ∙ c.loop-j.invariant.1) in
     record {
-      told = ap₂ eqb (c.loop-j.invariant.3 ∙ ap (listed_in a.first.now) done) c.whole.ensures
+      told = ap₂ eqb (c.loop-j.invariant.2 ∙ ap (listed_in a.first.now) done) c.whole.ensures
           ∙ ap₂ (λ (p q : Bool). p && (q && eqb (listed_in a.first.now a.n) (whole a.n))) parents listed;
     }

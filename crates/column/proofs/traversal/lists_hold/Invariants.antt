@@ -1,5 +1,4 @@
 -- Every parent and every listed column so far is below, and the set is that of the columns listed.
-use Prim.Native.Nat.{◌≤◌, ◌-◌}
 use mathlib.Core.Path.{◌≡◌}
 use mathlib.Core.Bool.{true}
 use Rattle.column.specs.Trees.{tree_in_sequence, every, is_parent_below, is_listed_below, listed_in}
@@ -8,7 +7,4 @@ use Rattle.column.proofs.traversal.lists_hold.Given as goal
 abbrev pub invariant-loop-j : goal.invariant-loop-j
 invariant-loop-j l =
     let t = tree_in_sequence l.n 0 l.up l.first in
-    (l.j ≤ l.n) × (every (is_parent_below t) l.j ≡ true) × (every (is_listed_below t) l.j ≡ true) × (l.listed ≡ listed_in l.first l.j)
-
-abbrev pub decreases-loop-j : goal.decreases-loop-j
-decreases-loop-j l = l.n - l.j
+    (every (is_parent_below t) l.j ≡ true) × (every (is_listed_below t) l.j ≡ true) × (l.listed ≡ listed_in l.first l.j)

@@ -1,6 +1,6 @@
 -- Whether every place so far is plainly good.
 use Prim.Native.Nat.{ℕ, ◌≤◌}
-use mathlib.Core.Path.{◌≡◌, refl, sym, ap, ap₂, ◌∙◌}
+use mathlib.Core.Path.{◌≡◌, sym, ap, ap₂, ◌∙◌}
 use mathlib.Core.Bool.{Bool, ◌&&◌}
 use mathlib.Core.List.{List}
 use native.Mathlib.Numerals.{add-one}
@@ -25,10 +25,6 @@ returns-then-n-gt16 c = simp (ne_eqb _ _ c.if-n-eq0.false, lt-leb _ _ c.if-n-gt1
 pub returns-then-root-ne0 : goal.returns-then-root-ne0
 returns-then-root-ne0 c = simp (ne_eqb _ _ c.if-n-eq0.false, le-leb _ _ c.if-n-gt16.false, ne_eqb _ _ c.if-root-ne0.true)
 
-pub loop-k-init : goal.loop-k-init
-unfolding every
-loop-k-init c = (omega arith, omega arith, refl)
-
 pub loop-k-preserved : goal.loop-k-preserved
 unfolding every
 loop-k-preserved c =
@@ -36,10 +32,10 @@ loop-k-preserved c =
     let k = c.loop-k.k in
     let here : Bool → ℕ → Bool = λ all most.
     all && (ltb (get_or a.up.now k 0) a.n && (leb (get_or a.up.now k 0) most && eqb (get_or a.first.now k 0) k)) in
-    (omega arith, omega arith, rw (add-one k) (ap₂ here c.loop-k.invariant.2 c.loop-k.invariant.1))
+    (omega arith, rw (add-one k) (ap₂ here c.loop-k.invariant.1 c.loop-k.invariant.0))
 
 pub returns : goal.returns
 returns c =
     let a = c.args in
     let tested = past a.n a.root a.up.now a.first.now c.if-n-eq0.false c.if-n-gt16.false c.if-root-ne0.false in
-    c.loop-k.invariant.2 ∙ ap (every (plain_at a.n a.up.now a.first.now)) (omega arith) ∙ sym tested
+    c.loop-k.invariant.1 ∙ ap (every (plain_at a.n a.up.now a.first.now)) (omega arith) ∙ sym tested

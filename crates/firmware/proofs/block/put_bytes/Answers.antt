@@ -1,23 +1,9 @@
-use Prim.Native.Nat.{ℕ, ◌+◌, ◌-◌}
-use mathlib.Core.Path.{◌≡◌, ap, ◌∙◌}
-use mathlib.Core.List.{List, ◌++◌}
-use native.Mathlib.Omega.{arith}
-use lib.ListN.{length, take, drop}
-use Rattle.firmware.specs.laws.FillLaws.{part_written}
-use borrow.Author.Rules.{rules}
+use Rattle.std.proofs.Common.{sym, arith}
+use Rattle.text.specs.laws.WritingLaws.{written_none, written_next}
 use Rattle.firmware.proofs.block.put_bytes.Goals as goal
 
-pub slice_bounds-fill-end : goal.slice_bounds-fill-end
-slice_bounds-fill-end c = omega (arith, c.requires)
+pub loop-i-init : goal.loop-i-init
+loop-i-init c = sym (written_none c.args.out.now c.args.at)
 
-pub fill-requires : goal.fill-requires
-fill-requires c = search (rules, c.requires)
-
-pub returns : goal.returns
-returns c =
-    let a = c.args in
-    let old = a.out.now in
-    let w = a.bytes.now in
-    let n : length w ≡ a.at + length w - a.at = omega arith in
-    ap (λ (x : List ℕ). take a.at old ++ (x ++ drop (a.at + length w - a.at) (drop a.at old))) c.fill.ensures
-    ∙ part_written old w a.at (a.at + length w) n
+pub loop-i-preserved : goal.loop-i-preserved
+loop-i-preserved c = rw c.loop-i.invariant (written_next c.args.out.now c.args.at c.args.bytes.now c.loop-i.i (omega arith) (omega arith))

@@ -1,40 +1,23 @@
-use Prim.Native.Nat.{ℕ, ◌≤◌}
-use mathlib.Core.Path.{◌≡◌, sym, ap, ◌∙◌}
-use mathlib.Core.List.{List}
-use native.Mathlib.Omega.{arith}
-use lib.ListN.{length, take}
+use Rattle.std.proofs.Common.{◌≡◌, ℕ, List, sym, ap, ◌∙◌}
+use borrow.Author.Tests.{eq-eqb}
+use Rattle.column.specs.Packets.{part, number_of}
 use Rattle.list.specs.Closing.{placed}
-use Rattle.firmware.specs.Calls.{list_left}
-use Rattle.firmware.specs.inner.JournalTexts.{packet_text}
-use Rattle.firmware.specs.laws.JournalTextLaws.{packet_length, line_size, line_begins}
+use Rattle.journals.specs.Journals.{way_key}
+use Rattle.firmware.specs.Blocks.{own_in}
+use Rattle.firmware.specs.Calls.{list_left, line_left}
+use Rattle.firmware.specs.inner.JournalTexts.{kind_of, packet_text, end_of, other_of}
+use Rattle.firmware.specs.laws.JournalTextLaws.{line_begins, way_text, way_length, way_called}
 use Rattle.firmware.proofs.journal.leave_line.Goals as goal
-use Rattle.firmware.proofs.journal.leave_line.Goals.{After-put_line-n}
-
--- the scratch begins with the line
-module _ (l : After-put_line-n) where
-  abbrev text : List ℕ
-  text = packet_text l.args.key.now l.args.kind l.args.other l.args.number
-
-  room : length text ≤ 21
-  room =
-      let a = l.args in
-      omega (
-        arith,
-        packet_length a.key.now a.kind a.other a.number l.requires.1.0 l.requires.1.1 l.ranges.number.fits,
-        l.requires.0,
-      )
-
-  size : l.put_line-n.result ≡ length text
-  size = line_size text room l.put_line-n.ensures
-
-  begins : take l.put_line-n.result l.put_line-n.new.out ≡ text
-  begins = line_begins text room l.put_line-n.ensures
-
-pub slice_bounds-line-end : goal.slice_bounds-line-end
-slice_bounds-line-end c = let l = (goal.at.slice_bounds-line-end c).After-put_line-n in omega (arith, size l, room l)
-
-pub slice_bounds-leave_text-end : goal.slice_bounds-leave_text-end
-slice_bounds-leave_text-end c = let l = (goal.at.slice_bounds-leave_text-end c).After-put_line-n in size l ∙ sym (ap length (begins l))
 
 pub returns : goal.returns
-returns c = c.leave_text.ensures ∙ ap (λ (w : List ℕ). list_left (placed c.args.buffer.now 0 w)) (begins (goal.at.returns c).After-put_line-n)
+unfolding line_left
+returns c =
+    let a = c.args in
+    let q = part c.in_ok-p.field-0.packet c.in_ok-p.field-0.used in
+    let p = q.packet in
+    let block = c.in_ok-column_block.ensures.block in
+    let room = way_length a.way a.packet.now (λ i. (c.type_inv.packet i).fits) q c.in_ok-p.ensures in
+    let begins = line_begins (packet_text (way_key a.way) (kind_of p) (other_of a.way p) (number_of p)) room c.put_line-n.ensures in
+    let its_own : end_of a.way p ≡ own_in a.column.now = sym c.end_of.ensures ∙ c.if-end_of-from.false ∙ c.from.ensures ∙ c.own_in-own.ensures ∙ ap (λ (s : List ℕ). own_in s) block.1 in
+    rw (way_called, block.0, ← c.in_ok-p.ensures, eq-eqb (end_of a.way p) (own_in a.column.now) its_own)
+    (c.leave_text.ensures ∙ ap (λ (w : List ℕ). list_left (placed a.text.now 0 w)) (begins ∙ way_text a.way p))

@@ -1,54 +1,36 @@
 use Rattle.std.proofs.Common.{◌+◌, length, sym, ◌∙◌, le-leb, arith}
 use Rattle.std.proofs.lemmas.Bool.{lt-leb}
-use Rattle.journals.specs.Journals.{missing}
-use Rattle.journals.specs.inner.ReadJournals.{lines_in}
-use Rattle.journals.specs.laws.ReadJournalLaws.{as_many, missing_size}
+use Rattle.journals.specs.inner.ReadTexts.{lines_of, missing_of}
+use Rattle.journals.specs.laws.ReadJournalLaws.{missing_size}
 use Rattle.journals.specs.laws.MissingLength.{text_within}
 use Rattle.journals.proofs.comparison.has_room.Goals as goal
 
 pub returns-then-one-two : goal.returns-then-one-two
 returns-then-one-two c =
-    let a = c.args in
-    let first = missing a.a a.b (lines_in a.a a.one.now) (lines_in a.b a.two.now) in
-    let second = missing a.b a.a (lines_in a.b a.two.now) (lines_in a.a a.one.now) in
-    sym (le-leb (length first + length second) a.room
-    (omega (arith, c.if-one-two.true, text_within a.a a.b a.one.now (lines_in a.b a.two.now), text_within a.b a.a a.two.now (lines_in a.a a.one.now))))
-
-pub missing_length-first-requires : goal.missing_length-first-requires
-missing_length-first-requires c =
-    let p = c.requires in
-    (p.0.holds.below, p.0.few, as_many p.0.holds, p.1.placed_in)
+    let one = c.args.one.now.journal in
+    let two = c.args.two.now.journal in
+    sym (le-leb (length (missing_of one two) + length (missing_of two one)) c.args.room
+    (omega (arith, c.if-one-two.true, text_within one.owner two.owner one.text.now (lines_of two), text_within two.owner one.owner two.text.now (lines_of one))))
 
 pub returns-then-room-first : goal.returns-then-room-first
 returns-then-room-first c =
-    let a = c.args in
-    let p = c.requires in
-    let first = missing a.a a.b (lines_in a.a a.one.now) (lines_in a.b a.two.now) in
-    let second = missing a.b a.a (lines_in a.b a.two.now) (lines_in a.a a.one.now) in
-    let m = c.missing_length-first.ensures ∙ missing_size p.0.holds p.1.holds in
-    sym (lt-leb (length first + length second) a.room (omega (arith, c.if-room-first.true, m)))
-
-pub missing_length-second-requires : goal.missing_length-second-requires
-missing_length-second-requires c =
-    let p = c.requires in
-    (p.1.holds.below, p.1.few, as_many p.1.holds, p.0.placed_in)
+    let one = c.args.one.now.journal in
+    let two = c.args.two.now.journal in
+    let first = c.missing_length-first.ensures ∙ missing_size one.holds two.holds in
+    sym (lt-leb (length (missing_of one two) + length (missing_of two one)) c.args.room (omega (arith, c.if-room-first.true, first)))
 
 pub returns-then-room-first-2 : goal.returns-then-room-first-2
 returns-then-room-first-2 c =
-    let a = c.args in
-    let p = c.requires in
-    let first = missing a.a a.b (lines_in a.a a.one.now) (lines_in a.b a.two.now) in
-    let second = missing a.b a.a (lines_in a.b a.two.now) (lines_in a.a a.one.now) in
-    let m = c.missing_length-first.ensures ∙ missing_size p.0.holds p.1.holds in
-    let n = c.missing_length-second.ensures ∙ missing_size p.1.holds p.0.holds in
-    sym (lt-leb (length first + length second) a.room (omega (arith, c.if-room-first.false, c.if-room-first-2.true, m, n)))
+    let one = c.args.one.now.journal in
+    let two = c.args.two.now.journal in
+    let first = c.missing_length-first.ensures ∙ missing_size one.holds two.holds in
+    let second = c.missing_length-second.ensures ∙ missing_size two.holds one.holds in
+    sym (lt-leb (length (missing_of one two) + length (missing_of two one)) c.args.room (omega (arith, c.if-room-first.false, c.if-room-first-2.true, first, second)))
 
 pub returns : goal.returns
 returns c =
-    let a = c.args in
-    let p = c.requires in
-    let first = missing a.a a.b (lines_in a.a a.one.now) (lines_in a.b a.two.now) in
-    let second = missing a.b a.a (lines_in a.b a.two.now) (lines_in a.a a.one.now) in
-    let m = c.missing_length-first.ensures ∙ missing_size p.0.holds p.1.holds in
-    let n = c.missing_length-second.ensures ∙ missing_size p.1.holds p.0.holds in
-    sym (le-leb (length first + length second) a.room (omega (arith, c.if-room-first.false, c.if-room-first-2.false, m, n)))
+    let one = c.args.one.now.journal in
+    let two = c.args.two.now.journal in
+    let first = c.missing_length-first.ensures ∙ missing_size one.holds two.holds in
+    let second = c.missing_length-second.ensures ∙ missing_size two.holds one.holds in
+    sym (le-leb (length (missing_of one two) + length (missing_of two one)) c.args.room (omega (arith, c.if-room-first.false, c.if-room-first-2.false, first, second)))

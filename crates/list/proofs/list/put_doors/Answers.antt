@@ -1,43 +1,14 @@
-use Rattle.std.proofs.Common.{ℕ, ◌+◌, ◌/◌, ◌^◌, ◌≤◌, ◌<◌, ◌≡◌, refl, sym, div-one, arith}
+use Rattle.std.proofs.Common.{◌+◌, ◌^◌, ◌<◌, refl, sym, div-one, arith}
 use Rattle.text.specs.Text.{divided, next_text}
 use Rattle.text.specs.laws.WritingLaws.{puts_none, puts_more}
 use Rattle.list.specs.Closing.{doors_up_to}
-use Rattle.list.specs.laws.DoorLaws.{none_before, free, doors_none, doors_rest, door_within, doors_next, some_before, rest_next}
+use Rattle.list.specs.laws.DoorLaws.{none_before, free, doors_none, doors_rest, within, doors_next, some_before, rest_next}
 use Rattle.list.proofs.list.put_doors.Goals as goal
-
--- the next door is one of 64
-within : (doors door rest : ℕ) (is : rest ≡ doors / 2 ^ door) → doors < 2 ^ 64 → 0 < rest → door + (free doors door rest is + 1) ≤ 64
-within doors door rest is fits some = omega (arith, door_within doors door rest is fits some)
 
 pub loop-rest-init : goal.loop-rest-init
 loop-rest-init c =
     let a = c.args in
     rw (doors_none a.doors) (omega arith, sym (div-one a.doors), refl, puts_none a.out.now a.at)
-
-pub overflow_cast-free : goal.overflow_cast-free
-overflow_cast-free c =
-    let l = c.loop-rest in
-    omega (arith, within c.args.doors l.door l.rest l.invariant.1 (omega arith) (omega arith))
-
-pub overflow_add-door : goal.overflow_add-door
-overflow_add-door c =
-    let l = c.loop-rest in
-    omega (arith, within c.args.doors l.door l.rest l.invariant.1 (omega arith) (omega arith))
-
-pub overflow_add-door-in-loop-rest : goal.overflow_add-door-in-loop-rest
-overflow_add-door-in-loop-rest c =
-    let l = c.loop-rest in
-    omega (arith, within c.args.doors l.door l.rest l.invariant.1 (omega arith) (omega arith))
-
-pub overflow_shr-rest : goal.overflow_shr-rest
-overflow_shr-rest c =
-    let l = c.loop-rest in
-    omega (arith, within c.args.doors l.door l.rest l.invariant.1 (omega arith) (omega arith))
-
-pub loop-rest-smaller : goal.loop-rest-smaller
-loop-rest-smaller c =
-    let l = c.loop-rest in
-    omega (arith, within c.args.doors l.door l.rest l.invariant.1 (omega arith) (omega arith))
 
 pub loop-rest-preserved : goal.loop-rest-preserved
 loop-rest-preserved c =

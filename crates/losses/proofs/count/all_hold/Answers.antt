@@ -1,16 +1,13 @@
-use mathlib.Core.Path.{refl, ap, ◌∙◌}
-use native.Mathlib.Numerals.{add-one}
-use native.Mathlib.Omega.{arith}
-use Rattle.column.specs.Trees.{every}
+use Rattle.std.proofs.Common.{rules, tests, ◌∙◌, arith, not, ◌||◌, eqb, take}
+use Rattle.std.proofs.lemmas.Iterator.{YieldsList-from_slice}
+use Rattle.std.proofs.lemmas.Iterator.Search.{all_from_yields_List}
+use Rattle.column.specs.declared.state.Column.{Column}
+use Rattle.bank.specs.Banks.{no_column}
+use Rattle.losses.proofs.Taken.{every_taken}
 use Rattle.losses.proofs.count.all_hold.Goals as goal
 
-pub loop-i-init : goal.loop-i-init
-unfolding every
-loop-i-init c = (omega arith, refl)
-
-pub loop-i-preserved : goal.loop-i-preserved
-unfolding every
-loop-i-preserved c = (omega arith, rw (add-one c.loop-i.i, c.loop-i.invariant.1))
-
 pub returns : goal.returns
-returns c = c.loop-i.invariant.1 ∙ ap (every _) (omega arith)
+returns c =
+    let b = c.args.b in
+    all_from_yields_List (λ (x : Column). not x.running || eqb x.number c.args.number) _ _ c.all.result c.all.ensures.ran (YieldsList-from_slice (take b.tree.columns b.columns) cc) (λ x b q k. search (rules, tests))
+    ∙ every_taken (λ (x : Column). not x.running || eqb x.number c.args.number) b.columns no_column b.tree.columns (omega arith)

@@ -1,33 +1,27 @@
-use mathlib.Core.Path.{sym, ap, ◌∙◌}
-use native.Mathlib.Omega.{arith}
-use Rattle.text.specs.Text.{number_meant}
+use Rattle.std.proofs.Common.{sym, arith}
 use Rattle.script.specs.inner.Hexadecimals.{byte_read}
 use Rattle.script.specs.laws.HexadecimalLaws.{digit_is, digit_lt, digit_none}
 use Rattle.script.proofs.hexadecimal.byte.Goals as goal
 
-pub overflow_mul-value : goal.overflow_mul-value
-overflow_mul-value c = omega (arith, digit_lt _ _ (sym c.digit.ensures ∙ ap number_meant c.in-Is.is))
-
-pub overflow_add-value : goal.overflow_add-value
-overflow_add-value c =
-    omega
-    (arith, digit_lt _ _ (sym c.digit.ensures ∙ ap number_meant c.in-Is.is), digit_lt _ _ (sym c.digit-in-Is.ensures ∙ ap number_meant c.in-Is-digit.is))
-
-pub returns-in-Unread : goal.returns-in-Unread
+pub returns-in_err-digit : goal.returns-in_err-digit
 unfolding byte_read
-returns-in-Unread c = rw (digit_none c.args.high (sym c.digit.ensures ∙ ap number_meant c.in-Unread.is))
+returns-in_err-digit c = rw (c.from_residual.ensures, digit_none _ (sym c.in_err-digit.ensures))
 
-pub returns-in-Unread-digit : goal.returns-in-Unread-digit
-unfolding byte_read
-returns-in-Unread-digit c =
-    rw (
-      (digit_is _ _ (sym c.digit.ensures ∙ ap number_meant c.in-Is.is)).test,
-      digit_none c.args.low (sym c.digit-in-Is.ensures ∙ ap number_meant c.in-Unread-digit.is),
-    )
+pub overflow_mul-result : goal.overflow_mul-result
+overflow_mul-result c = omega (arith, digit_lt _ _ (sym c.in_ok-digit.ensures))
 
-pub returns-in-Is-digit : goal.returns-in-Is-digit
+pub returns-in_err-digit-2 : goal.returns-in_err-digit-2
 unfolding byte_read
-returns-in-Is-digit c =
-    let a = digit_is _ _ (sym c.digit.ensures ∙ ap number_meant c.in-Is.is) in
-    let b = digit_is _ _ (sym c.digit-in-Is.ensures ∙ ap number_meant c.in-Is-digit.is) in
+returns-in_err-digit-2 c =
+    rw (c.from_residual-in_err-digit-2.ensures, (digit_is _ _ (sym c.in_ok-digit.ensures)).test, digit_none _ (sym c.in_err-digit-2.ensures))
+
+pub overflow_add-result : goal.overflow_add-result
+overflow_add-result c =
+    omega (arith, digit_lt _ _ (sym c.in_ok-digit.ensures), digit_lt _ _ (sym c.in_ok-digit-2.ensures))
+
+pub returns : goal.returns
+unfolding byte_read
+returns c =
+    let a = digit_is _ _ (sym c.in_ok-digit.ensures) in
+    let b = digit_is _ _ (sym c.in_ok-digit-2.ensures) in
     rw (a.test, b.test, a.value, b.value)

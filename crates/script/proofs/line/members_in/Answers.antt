@@ -1,37 +1,25 @@
-use mathlib.Core.Path.{sym, ap, ◌∙◌}
-use native.Mathlib.Omega.{arith}
-use Rattle.text.specs.Pieces.{numerals}
-use Rattle.text.specs.Text.{number_meant}
-use Rattle.text.specs.laws.Cutting.{pieces_all, found}
-use Rattle.script.specs.Lines.{halt_after}
-use Rattle.script.specs.laws.LineLaws.{member_read, member_unread, members_read}
+use Rattle.std.proofs.Common.{rules, tests, eqb, sym}
+use Rattle.std.proofs.lemmas.List.{length_push}
+use Rattle.std.proofs.lemmas.Iterator.Splits.{YieldsList-from_slice_split}
+use Rattle.text.specs.Text.{comma}
+use Rattle.script.specs.laws.LineLaws.{piece_read, piece_unread, none_left}
+use Rattle.script.proofs.Splitting.{next_piece, no_piece}
 use Rattle.script.proofs.line.members_in.Goals as goal
 
-pub loop-from-init : goal.loop-from-init
-loop-from-init c =
-    let s = c.args.text.now in
-    (omega arith, ap (λ l. halt_after 0 (numerals l)) (sym (pieces_all s)))
+pub returns-in_err-read_numeral : goal.returns-in_err-read_numeral
+returns-in_err-read_numeral c =
+    let k = c.split-piece-items.ensures in
+    let p = next_piece _ _ c.args.text.now c.loop-piece.yielded c.loop-piece.yielded_by c.next.ensures.steps c.into_iter-piece-iterator.ensures.into_iter_gives (YieldsList-from_slice_split _ (λ b. eqb b comma) _ k.rest k.done k.closure (λ x b q h. search (rules, tests))) c.in-Some.is in
+    rw (c.from_residual.ensures, c.loop-piece.invariant, p) (sym (piece_unread _ _ _ (sym c.in_err-read_numeral.ensures)))
 
-pub returns-in-Unread : goal.returns-in-Unread
-returns-in-Unread c =
-    sym
-    (c.loop-from.invariant.1
-    ∙ member_unread c.loop-from.set c.args.text.now c.loop-from.from c.find-to.result
-    c.loop-from-test.true
-    (found _ _ _ _ c.find-to.ensures (omega arith))
-    (sym c.read_numeral.ensures ∙ ap number_meant c.in-Unread.is))
-
-pub loop-from-preserved : goal.loop-from-preserved
-loop-from-preserved c = (
-  omega arith,
-  rw c.with_member-set.ensures
-      (c.loop-from.invariant.1
-      ∙ member_read c.loop-from.set c.args.text.now c.loop-from.from c.find-to.result
-      c.loop-from-test.true
-      (found _ _ _ _ c.find-to.ensures (omega arith))
-      _
-      (sym c.read_numeral.ensures ∙ ap number_meant c.in-Is.is)),
-)
+pub loop-piece-preserved : goal.loop-piece-preserved
+loop-piece-preserved c =
+    let k = c.split-piece-items.ensures in
+    let p = next_piece _ _ c.args.text.now c.loop-piece.yielded c.loop-piece.yielded_by c.next.ensures.steps c.into_iter-piece-iterator.ensures.into_iter_gives (YieldsList-from_slice_split _ (λ b. eqb b comma) _ k.rest k.done k.closure (λ x b q h. search (rules, tests))) c.in-Some.is in
+    rw (c.loop-piece.invariant, p, length_push, c.with_member-set.ensures) (piece_read _ _ _ _ (sym c.in_ok-read_numeral.ensures))
 
 pub returns : goal.returns
-returns c = sym (c.loop-from.invariant.1 ∙ members_read c.loop-from.set c.args.text.now c.loop-from.from c.loop-from-test.false)
+returns c =
+    let k = c.split-piece-items.ensures in
+    let p = no_piece _ _ c.args.text.now c.loop-piece.yielded c.loop-piece.yielded_by c.next.ensures.steps c.into_iter-piece-iterator.ensures.into_iter_gives (YieldsList-from_slice_split _ (λ b. eqb b comma) _ k.rest k.done k.closure (λ x b q h. search (rules, tests))) c.in-None.is in
+    rw (c.loop-piece.invariant, p) (sym (none_left _))

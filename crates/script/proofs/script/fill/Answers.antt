@@ -9,7 +9,7 @@ use Rattle.script.proofs.script.fill.Goals as goal
 use Rattle.script.proofs.script.fill.Goals.{Start}
 
 abbrev progressed : Start → Progress
-progressed s = let a = s.args in progress_of a.r a.heads.now a.doors.now a.out.now
+progressed s = let a = s.args in progress_of a.r a.network.now.heads a.network.now.doors a.out.now
 
 pub returns-then-run : goal.returns-then-run
 returns-then-run c =
@@ -23,13 +23,13 @@ returns-then-run-2 c =
 
 pub returns-then-begun : goal.returns-then-begun
 returns-then-begun c =
-    let written = c.first-begun.ensures c.args.heads.now c.args.doors.now in
+    let written = c.first-begun.ensures c.args.network.now.heads c.args.network.now.doors in
     rw (fill_ends c.args.input.now (progressed (goal.at.returns-then-begun c).Start) c.if-run-2.false c.if-run.false written c.if-begun.true) written
 
 pub returns : goal.returns
 returns c =
     let input = c.args.input.now in
-    let written = c.first-begun.ensures c.args.heads.now c.args.doors.now in
+    let written = c.first-begun.ensures c.args.network.now.heads c.args.network.now.doors in
     let text = (table input (progressed (goal.at.returns c).Start)).text in
     rw (fill_goes_on input (progressed (goal.at.returns c).Start) c.if-run-2.false c.if-run.false written c.if-begun.false)
     (c.later-2.ensures c.args.out.now text (advanced_writes written) (search rules))

@@ -1,17 +1,11 @@
-use Prim.Native.Nat.{◌+◌, ◌-◌, ◌≤◌}
-use mathlib.Core.Path.{◌≡◌}
-use lib.ListN.{length}
+use Rattle.std.proofs.Common.{◌≡◌, length, drop}
 use Rattle.text.specs.Pieces.{pieces, numerals}
-use Rattle.text.specs.laws.Cutting.{pieces_from}
-use Rattle.table.specs.inner.NumberLists.{held}
+use Rattle.table.specs.inner.Held.{held}
+use Rattle.table.specs.inner.NumberLists.{list_of}
 use Rattle.table.specs.laws.NumberListLaws.{held_after}
 use Rattle.table.proofs.number_list.numbers_in.Given as goal
 
-abbrev pub invariant-loop-from : goal.invariant-loop-from
-invariant-loop-from l =
-    (l.list.count ≤ l.from)
-    × (l.from ≤ length l.text + 1)
-    × (held (numerals (pieces l.text)) ≡ held_after l.list (numerals (pieces_from l.text l.from)))
-
-abbrev pub decreases-loop-from : goal.decreases-loop-from
-decreases-loop-from l = length l.text + 1 - l.from
+abbrev pub invariant-loop-piece : goal.invariant-loop-piece
+invariant-loop-piece l =
+    (l.list.count ≡ length l.yielded)
+    × (held list_of (numerals (pieces l.text)) ≡ held_after l.list (numerals (drop (length l.yielded) (pieces l.text))))

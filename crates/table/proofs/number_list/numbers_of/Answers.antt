@@ -1,36 +1,17 @@
-use Prim.Native.Nat.{◌≤◌}
-use mathlib.Core.Path.{◌≡◌, sym, ◌∙◌}
-use mathlib.Core.Bool.{true}
-use lib.ListN.{length}
-use borrow.Author.Tests.{not-true, not-false}
-use borrow.Author.Rules.{rules}
-use Rattle.text.specs.Text.{starts_with}
+use Rattle.std.proofs.Common.{sym, ◌∙◌}
 use Rattle.text.specs.Pieces.{numbers_in}
-use Rattle.text.specs.laws.ReadingLaws.{starts_length, after_other, after_rest}
-use Rattle.table.specs.inner.NumberLists.{held}
+use Rattle.text.specs.laws.ReadingLaws.{cut_is, after_other, after_key_is}
 use Rattle.table.proofs.number_list.numbers_of.Goals as goal
-use Rattle.table.proofs.number_list.numbers_of.Goals.{Else-not-starts_with}
 
-starts : (c : Else-not-starts_with) → let a = c.args in starts_with a.key.now a.line.now ≡ true
-starts c = sym c.starts_with.ensures ∙ not-false _ c.if-not-starts_with.false-raw
-
-fits : (c : Else-not-starts_with) → let a = c.args in length a.key.now ≤ length a.line.now
-fits c = let a = c.args in starts_length a.key.now a.line.now (starts c)
-
-pub returns-then-not-starts_with : goal.returns-then-not-starts_with
-unfolding numbers_in held
-returns-then-not-starts_with c =
+pub returns-in_err-strip_prefix : goal.returns-in_err-strip_prefix
+unfolding numbers_in
+returns-in_err-strip_prefix c =
     let a = c.args in
-    rw (after_other a.key.now a.line.now (sym c.starts_with.ensures ∙ not-true _ c.if-not-starts_with.true-raw))
-
-pub slice_bounds-numbers_in-count : goal.slice_bounds-numbers_in-count
-slice_bounds-numbers_in-count c = let h = fits (goal.at.slice_bounds-numbers_in-count c).Else-not-starts_with in search (rules, h)
-
-pub slice_bounds-numbers_in-start : goal.slice_bounds-numbers_in-start
-slice_bounds-numbers_in-start c = let h = fits (goal.at.slice_bounds-numbers_in-start c).Else-not-starts_with in search (rules, h)
+    rw (after_other a.key.now a.line.now (sym (cut_is a.key.now a.line.now) ∙ c.in_err-strip_prefix.ensures.cases)) c.from_residual.ensures
 
 pub returns : goal.returns
 unfolding numbers_in
 returns c =
     let a = c.args in
-    rw (after_rest a.key.now a.line.now (starts (goal.at.returns c).Else-not-starts_with)) c.numbers_in.ensures
+    let cut = c.in_ok-strip_prefix.ensures.cases in
+    rw (after_key_is a.key.now a.line.now (sym (cut_is a.key.now a.line.now) ∙ cut.0), ← cut.1) c.numbers_in.ensures

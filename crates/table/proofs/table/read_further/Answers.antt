@@ -1,12 +1,20 @@
-use mathlib.Core.Path.{sym, ap, ◌∙◌}
-use Rattle.table.specs.laws.TableLaws.{further_of, further_is, further_both}
+use Rattle.table.specs.Tables.{sequence_line, further_in}
+use Rattle.table.specs.inner.HeldTables.{sequence_held}
+use Rattle.table.specs.laws.HeldLaws.{nothing_read}
+use Rattle.table.specs.laws.TableLaws.{both_lines, further_with}
 use Rattle.table.proofs.table.read_further.Goals as goal
 
-pub read_watch-w-requires : goal.read_watch-w-requires
-read_watch-w-requires c = c.read_sequence-s.ensures.1
+pub returns-in_err-sequence-clause-lines : goal.returns-in_err-sequence-clause-lines
+unfolding further_in
+returns-in_err-sequence-clause-lines c =
+    rw (nothing_read sequence_held (sequence_line c.args.rest.now) c.in_err-sequence.ensures.line) c.from_residual.ensures
 
-pub returns : goal.returns
-returns c =
-    let a = c.args in
-    further_both c.read_sequence-s.result c.read_watch-w.result a.input.now c.read_watch-w.ensures
-    ∙ ap (λ q. further_of q a.input.now) c.read_sequence-s.ensures.0 ∙ sym (further_is a.at a.input.now)
+pub returns-in_err-watch-clause-lines : goal.returns-in_err-watch-clause-lines
+unfolding both_lines
+returns-in_err-watch-clause-lines c =
+    rw (further_with c.args.rest.now c.in_ok-sequence.sequence c.in_ok-sequence.ensures.line, ← c.in_err-watch.ensures.line) c.from_residual-in_err-watch.ensures
+
+pub returns-clause-lines : goal.returns-clause-lines
+unfolding both_lines
+returns-clause-lines c =
+    rw (further_with c.args.rest.now c.in_ok-sequence.sequence c.in_ok-sequence.ensures.line, ← c.in_ok-watch.ensures.line)

@@ -1,68 +1,26 @@
-use mathlib.Core.Path.{sym, ◌∙◌}
-use borrow.Author.Rules.{rules}
-use Rattle.text.specs.laws.LineEndLaws.{as_rising}
-use Rattle.table.specs.laws.TableLaws.{table_fewer, table_found}
+use Rattle.std.proofs.Common.{◌≡◌, Some, None, sym, ◌∙◌, arith}
+use Rattle.std.proofs.lemmas.Result.{err_from_is_err_and}
+use Rattle.column.specs.declared.error.Refusal.TheVariants.{MalformedTable}
+use Rattle.table.specs.Tables.{table_of}
+use Rattle.table.specs.laws.TableLaws.{lines_refused, tree_given, tree_refused}
 use Rattle.table.proofs.table.read_table.Goals as goal
 
-pub slice_bounds-read_lines-end : goal.slice_bounds-read_lines-end
-slice_bounds-read_lines-end c =
-    let up = as_rising _ c.in-At.is c.find_three_lines.ensures.rising in
-    search (rules, up.0, up.1, up.2)
+pub returns-in_err-lines : goal.returns-in_err-lines
+returns-in_err-lines c =
+    let none : None ≡ c.read_lines.result = grind arith in
+    let p = err_from_is_err_and c.from_residual.result c.from_residual.ensures.1 in
+    let given = rw (← none) at c.in_err-lines.ensures.value in
+    let form : c.in_err-lines.field-0.0 ≡ MalformedTable = cc given in
+    rw (p.1, p.2, form, lines_refused (table_of c.args.input.now) (none ∙ c.read_lines.ensures))
 
-pub overflow_add-one : goal.overflow_add-one
-overflow_add-one c =
-    let up = as_rising _ c.in-At.is c.find_three_lines.ensures.rising in
-    search (rules, up.0, up.1, up.2)
+pub returns-in_err-check_counted : goal.returns-in_err-check_counted
+returns-in_err-check_counted c =
+    let some : Some c.in_ok-lines.lines ≡ c.read_lines.result = grind arith in
+    let p = err_from_is_err_and c.from_residual-in_err-check_counted.result c.from_residual-in_err-check_counted.ensures.1 in
+    rw (p.1, p.2, tree_refused (table_of c.args.input.now) c.in_ok-lines.lines (some ∙ c.read_lines.ensures) _ (rw (c.tree-tree.ensures, c.listed_count.ensures) at c.in_err-check_counted.ensures))
 
-pub slice_bounds-read_lines-count-in-At : goal.slice_bounds-read_lines-count-in-At
-slice_bounds-read_lines-count-in-At c =
-    let up = as_rising _ c.in-At.is c.find_three_lines.ensures.rising in
-    search (rules, up.0, up.1, up.2)
-
-pub slice_bounds-read_lines-start-in-At : goal.slice_bounds-read_lines-start-in-At
-slice_bounds-read_lines-start-in-At c =
-    let up = as_rising _ c.in-At.is c.find_three_lines.ensures.rising in
-    search (rules, up.0, up.1, up.2)
-
-pub slice_bounds-read_lines-end-in-At : goal.slice_bounds-read_lines-end-in-At
-slice_bounds-read_lines-end-in-At c =
-    let up = as_rising _ c.in-At.is c.find_three_lines.ensures.rising in
-    search (rules, up.0, up.1, up.2)
-
-pub overflow_add-two : goal.overflow_add-two
-overflow_add-two c =
-    let up = as_rising _ c.in-At.is c.find_three_lines.ensures.rising in
-    search (rules, up.0, up.1, up.2)
-
-pub slice_bounds-read_lines-count-in-At-2 : goal.slice_bounds-read_lines-count-in-At-2
-slice_bounds-read_lines-count-in-At-2 c =
-    let up = as_rising _ c.in-At.is c.find_three_lines.ensures.rising in
-    search (rules, up.0, up.1, up.2)
-
-pub slice_bounds-read_lines-start-in-At-2 : goal.slice_bounds-read_lines-start-in-At-2
-slice_bounds-read_lines-start-in-At-2 c =
-    let up = as_rising _ c.in-At.is c.find_three_lines.ensures.rising in
-    search (rules, up.0, up.1, up.2)
-
-pub slice_bounds-read_lines-end-in-At-2 : goal.slice_bounds-read_lines-end-in-At-2
-slice_bounds-read_lines-end-in-At-2 c =
-    let up = as_rising _ c.in-At.is c.find_three_lines.ensures.rising in
-    search (rules, up.0, up.1, up.2)
-
-pub overflow_add-three : goal.overflow_add-three
-overflow_add-three c =
-    let up = as_rising _ c.in-At.is c.find_three_lines.ensures.rising in
-    search (rules, up.0, up.1, up.2)
-
-pub read_lines-requires : goal.read_lines-requires
-read_lines-requires c =
-    let up = as_rising _ c.in-At.is c.find_three_lines.ensures.rising in
-    search (rules, up.0, up.1, up.2)
-
-pub returns-in-Fewer : goal.returns-in-Fewer
-returns-in-Fewer c = c.refused.ensures ∙ sym (table_fewer _ c.find_three_lines.ensures.input_value c.in-Fewer.is)
-
-pub returns-in-At : goal.returns-in-At
-returns-in-At c =
-    let k = c.find_three_lines.ensures in
-    c.read_lines.ensures ∙ sym (table_found _ k.input_value c.in-At.is k.rising)
+pub returns : goal.returns
+returns c =
+    let some : Some c.in_ok-lines.lines ≡ c.read_lines.result = grind arith in
+    rw c.tree-tree.ensures
+    (sym (tree_given (table_of c.args.input.now) c.in_ok-lines.lines (some ∙ c.read_lines.ensures) (rw (c.tree-tree.ensures, c.listed_count.ensures) at c.in_ok-check_counted.ensures)))

@@ -1,23 +1,15 @@
-use Rattle.std.proofs.Common.{sym, ◌∙◌, rules}
+use Rattle.std.proofs.Common.{sym, ◌∙◌}
 use Rattle.text.specs.Pieces.{numeral_in}
-use Rattle.text.specs.laws.ReadingLaws.{starts_length, after_other, after_rest}
+use Rattle.text.specs.laws.ReadingLaws.{cut_is, after_other, after_key_is}
 use Rattle.text.proofs.reading.keyed.Goals as goal
 
-pub returns-then-not-starts_with : goal.returns-then-not-starts_with
+pub returns-in_err-strip_prefix : goal.returns-in_err-strip_prefix
 unfolding numeral_in
-returns-then-not-starts_with c =
-    rw (after_other c.args.key.now c.args.line.now (sym c.starts_with.ensures ∙ c.if-not-starts_with.true))
-
-pub slice_bounds-numeral-count : goal.slice_bounds-numeral-count
-slice_bounds-numeral-count c =
-    starts_length c.args.key.now c.args.line.now (sym c.starts_with.ensures ∙ c.if-not-starts_with.false)
-
-pub slice_bounds-numeral-start : goal.slice_bounds-numeral-start
-slice_bounds-numeral-start c =
-    let fits = starts_length c.args.key.now c.args.line.now (sym c.starts_with.ensures ∙ c.if-not-starts_with.false) in
-    search (rules, fits)
+returns-in_err-strip_prefix c =
+    rw (after_other c.args.key.now c.args.line.now (sym (cut_is c.args.key.now c.args.line.now) ∙ c.in_err-strip_prefix.ensures.cases), c.from_residual.ensures)
 
 pub returns : goal.returns
 unfolding numeral_in
 returns c =
-    rw (after_rest c.args.key.now c.args.line.now (sym c.starts_with.ensures ∙ c.if-not-starts_with.false)) c.numeral.ensures
+    let cut = c.in_ok-strip_prefix.ensures.cases in
+    rw (after_key_is c.args.key.now c.args.line.now (sym (cut_is c.args.key.now c.args.line.now) ∙ cut.0), ← cut.1) c.numeral.ensures

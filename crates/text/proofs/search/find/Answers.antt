@@ -1,63 +1,81 @@
-use Rattle.std.proofs.Common.{ℕ, ◌+◌, ◌<◌, ◌≤◌, ◌≡◌, ◌≢◌, List, eqb, length, get_or, take, ◌∙◌, add-one, drop_of_length-le, length-take-le, eq-eqb, arith}
-use Rattle.std.proofs.Math.Seq.{drop-cons}
-use Rattle.std.proofs.lemmas.Bool.{ne_eqb, lt-leb, le-leb}
-use Rattle.std.proofs.lemmas.List.{get_or-take}
+use Rattle.std.proofs.Common.{ℕ, suc, ◌+◌, ◌-◌, ◌≤◌, ◌≡◌, Bool, true, false, cond, List, [], ◌∷◌, eqb, ltb, length, take, drop, Option, Some, None, refl, sym, ap, ◌∙◌, arith, rules, tests, ltb-false, length-take, length-drop}
+use Rattle.std.proofs.lemmas.Bool.{le-leb}
+use Rattle.std.proofs.lemmas.Iterator.{YieldsList-from_slice}
+use Rattle.std.proofs.lemmas.Iterator.Search.{position_from_yields_List}
+use Rattle.std.proofs.lemmas.List.{drop-take}
+use Rattle.std.proofs.lemmas.List.Recursion.{is_position_or_len}
+use Rattle.std.specs.List.{slice_range, position_or_len}
 use Rattle.text.specs.Search.{slice, index_after, index_of, place_of}
+use Rattle.text.proofs.search.find.Goals.{In-None, In-Some-position}
 use Rattle.text.proofs.search.find.Goals as goal
 
-module _ (byte : ℕ) (text : List ℕ) (to : ℕ) (within : to ≤ length text) where
-  -- one byte of a part
-  next : (at : ℕ) → at < to
-      → index_of byte (slice at to text) ≡ index_after (eqb (get_or text at 0) byte) (index_of byte (slice (at + 1) to text))
-  unfolding slice index_of
-  next at h =
-      let n : length (take to text) ≡ to = length-take-le to text within in
-      rw (drop-cons (take to text) at 0 (omega arith), get_or-take to text at 0 h, add-one at)
+-- the place that `index_of` counts is that of std
+index_is : (byte : ℕ) (l : List ℕ) → index_of byte l ≡ position_or_len (λ b. eqb b byte) l
+unfolding index_of index_after
+index_is byte = is_position_or_len (index_of byte) (λ b. eqb b byte) refl (λ x xs. step (index_of byte xs) (eqb x byte))
+  where
+    step : (k : ℕ) (t : Bool) → index_after t k ≡ cond t 0 (1 + k)
+    step k true = refl
+    step k false = omega arith
 
-  here : (at : ℕ) → at < to → get_or text at 0 ≡ byte → index_of byte (slice at to text) ≡ 0
-  unfolding index_after
-  here at h e = rw (next at h, eq-eqb (get_or text at 0) byte e)
+index_within : (byte : ℕ) (l : List ℕ) → index_of byte l ≤ length l
+unfolding index_of index_after
+index_within byte [] = omega arith
+index_within byte (b ∷ l) = step (eqb b byte) (index_within byte l)
+  where
+    step : (t : Bool) → index_of byte l ≤ length l → index_after t (index_of byte l) ≤ suc (length l)
+    step true h = omega arith
+    step false h = omega arith
 
-  further : (at : ℕ) → at < to → get_or text at 0 ≢ byte → at + index_of byte (slice at to text) ≡ at + 1 + index_of byte (slice (at + 1) to text)
-  unfolding index_after
-  further at h ne = rw (next at h, ne_eqb (get_or text at 0) byte ne) (omega arith)
+-- a part of the text, as std cuts it
+module _ (byte from to : ℕ) (text : List ℕ) (h : from ≤ to) (k : to ≤ length text) where
+  abbrev part : List ℕ
+  part = slice_range text from to
 
-  -- nothing is left of a part
-  done : index_of byte (slice to to text) ≡ 0
-  unfolding slice index_of
-  done =
-      let n : length (take to text) ≡ to = length-take-le to text within in
-      rw (drop_of_length-le (take to text) {i = to} (omega arith))
+  cut : slice from to text ≡ part
+  unfolding slice
+  cut =
+      let e : from + (to - from) ≡ to = omega arith in
+      ap (λ n. drop from (take n text)) (sym e) ∙ drop-take from (to - from) text
 
--- the part is one of the text
-of_part : (byte from to : ℕ) (text : List ℕ) → from ≤ to → to ≤ length text → from + index_of byte (slice from to text) ≡ place_of byte from to text
-of_part byte from to text h k = rw (le-leb from to h, le-leb to (length text) k)
+  place : place_of byte from to text ≡ from + index_of byte part
+  place = rw (le-leb from to h, le-leb to (length text) k) (ap (λ l. from + index_of byte l) cut)
 
-pub returns-then-to-from : goal.returns-then-to-from
-returns-then-to-from c = (rw (lt-leb c.args.from c.args.to c.if-to-from.true), omega arith)
+  size : length part ≡ to - from
+  size = simp (length-take, length-drop) (omega arith)
 
-pub returns-then-text-to : goal.returns-then-text-to
-returns-then-text-to c =
-    let n = c.args.text.now in
-    (rw (le-leb c.args.from c.args.to c.if-to-from.false, lt-leb c.args.to (length n) c.if-text-to.true), omega arith)
+  at_some : (at : ℕ) → cond (ltb (index_of byte part) (length part)) (Some (index_of byte part)) None ≡ Some at
+      → (from + at ≡ place_of byte from to text) × (from + at ≤ to)
+  at_some at e = go (ltb (index_of byte part) (length part)) e
+    where
+      go : (t : Bool) → cond t (Some (index_of byte part)) None ≡ Some at → (from + at ≡ place_of byte from to text) × (from + at ≤ to)
+      go true e = let s : index_of byte part ≡ at = cc in (omega (arith, place), omega (arith, index_within byte part, size))
+      go false e = absurd (cc)
 
-pub returns-then-text-at : goal.returns-then-text-at
-returns-then-text-at c =
+  at_none : cond (ltb (index_of byte part) (length part)) (Some (index_of byte part)) None ≡ None
+      → (to ≡ place_of byte from to text) × (to ≤ to)
+  at_none e = go (ltb (index_of byte part) (length part)) refl e
+    where
+      go : (t : Bool) → ltb (index_of byte part) (length part) ≡ t → cond t (Some (index_of byte part)) None ≡ None → (to ≡ place_of byte from to text) × (to ≤ to)
+      go true d e = absurd (cc)
+      go false d e = (omega (arith, place, index_within byte part, size, ltb-false (index_of byte part) (length part) d), omega arith)
+
+  -- what std answers of the part
+  found : (r : Option ℕ) (p : List ℕ) → p ≡ part
+      → r ≡ cond (ltb (position_or_len (λ b. eqb b byte) p) (length p)) (Some (position_or_len (λ b. eqb b byte) p)) None
+      → r ≡ cond (ltb (index_of byte part) (length part)) (Some (index_of byte part)) None
+  found r p e f = rw (e, ← index_is byte part) at f
+
+pub returns-in-Some-position : goal.returns-in-Some-position
+returns-in-Some-position c =
     let a = c.args in
-    let e = here a.byte a.text.now a.to c.if-text-to.false c.loop-at.at (omega arith) c.if-text-at.true in
-    let place : c.loop-at.at ≡ a.from + index_of a.byte (slice a.from a.to a.text.now) = omega arith in
-    (place ∙ of_part a.byte a.from a.to a.text.now c.if-to-from.false c.if-text-to.false, omega arith)
+    let h = c.in-Some.ensures.lookup.0 in
+    let answer = position_from_yields_List (λ b. eqb b a.byte) _ _ c.position.result c.position.ensures.ran (YieldsList-from_slice _ c.iter.ensures.rest) (λ x b q k. search (rules, tests)) in
+    at_some a.byte a.from a.to a.text.now h.0 h.1 c.in-Some-position.at (sym (found a.byte a.from a.to a.text.now h.0 h.1 _ _ h.2 answer) ∙ c.in-Some-position.is)
 
-pub loop-at-preserved : goal.loop-at-preserved
-loop-at-preserved c =
+pub returns-in-None : goal.returns-in-None
+returns-in-None c =
     let a = c.args in
-    (omega arith, c.loop-at.invariant.1 ∙ further a.byte a.text.now a.to c.if-text-to.false c.loop-at.at (omega arith) c.if-text-at.false)
-
-pub returns : goal.returns
-returns c =
-    let a = c.args in
-    let place : c.loop-at.at ≡ a.to = omega arith in
-    let e = done a.byte a.text.now a.to c.if-text-to.false in
-    let kept = rw place at c.loop-at.invariant.1 in
-    let all : a.to ≡ a.from + index_of a.byte (slice a.from a.to a.text.now) = omega arith in
-    (all ∙ of_part a.byte a.from a.to a.text.now c.if-to-from.false c.if-text-to.false, omega arith)
+    let h = c.in-Some.ensures.lookup.0 in
+    let answer = position_from_yields_List (λ b. eqb b a.byte) _ _ c.position.result c.position.ensures.ran (YieldsList-from_slice _ c.iter.ensures.rest) (λ x b q k. search (rules, tests)) in
+    at_none a.byte a.from a.to a.text.now h.0 h.1 (sym (found a.byte a.from a.to a.text.now h.0 h.1 _ _ h.2 answer) ∙ c.in-None.is)

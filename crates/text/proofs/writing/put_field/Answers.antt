@@ -1,5 +1,5 @@
-use Rattle.std.proofs.Common.{ℕ, ◌+◌, ◌≤◌, ◌≡◌, Bool, true, leb, List, [], ◌∷◌, ◌++◌, length, take, sym, ◌∙◌, length-append, leb-true, take_all, rules, arith}
-use Rattle.text.specs.Text.{newline, decimal, field, Writes}
+use Rattle.std.proofs.Common.{ℕ, ◌+◌, ◌≤◌, ◌≡◌, Bool, true, leb, [], ◌∷◌, ◌++◌, length, sym, ◌∙◌, length-append, leb-true, rules, arith}
+use Rattle.text.specs.Text.{newline, decimal, field}
 use Rattle.text.specs.laws.DecimalLaws.{decimal_short}
 use Rattle.text.specs.laws.WritingLaws.{writes_byte, writes_more, writes_puts}
 use Rattle.text.proofs.writing.put_field.Goals as goal
@@ -7,21 +7,17 @@ use Rattle.text.proofs.writing.put_field.Goals as goal
 room : {t : Bool} (n size : ℕ) → t ≡ leb n size → t ≡ true → n ≤ size
 room n size e f = leb-true n size (sym e ∙ f)
 
--- the key
-keyed : {r at : ℕ} {new old : List ℕ} (key : List ℕ) → Writes r new old at (take (length key) key) → Writes r new old at key
-keyed key h = rw (take_all (length key) key (omega arith)) at h
-
 -- the end of the line has room
 pub bounds-out-end : goal.bounds-out-end
 bounds-out-end c =
     let has = room _ _ c.has_room.ensures c.if-not-has_room.false in
-    let key = keyed c.args.key.now c.copy-value.ensures in
+    let key = c.copy-value.ensures in
     omega (arith, has, key.place, decimal_short c.args.n c.if-n-ge100.false)
 
 pub overflow_add-result : goal.overflow_add-result
 overflow_add-result c =
     let has = room _ _ c.has_room.ensures c.if-not-has_room.false in
-    let key = keyed c.args.key.now c.copy-value.ensures in
+    let key = c.copy-value.ensures in
     let short = decimal_short c.args.n c.if-n-ge100.false in
     search (rules, has, key.place, short)
 
@@ -30,7 +26,7 @@ returns c =
     let key = c.args.key.now in
     let digits = decimal c.args.n in
     let has = room (c.args.at + (length key + 3)) (length c.args.out.now) c.has_room.ensures c.if-not-has_room.false in
-    let first = keyed key c.copy-value.ensures in
+    let first = c.copy-value.ensures in
     let short = decimal_short c.args.n c.if-n-ge100.false in
     let ended = length-append digits (newline ∷ []) in
     let whole = length-append key (digits ++ (newline ∷ [])) in

@@ -1,16 +1,13 @@
-use Rattle.std.proofs.Common.{ℕ, ◌+◌, ◌/◌, ◌%◌, List, [], ◌∷◌}
-use Rattle.text.specs.laws.DecimalLaws.{decimal_one, decimal_two}
-use Rattle.text.specs.laws.WritingLaws.{puts_more}
+use Rattle.std.proofs.Common.{◌≡◌, ◌∙◌, take}
+use Rattle.text.specs.Text.{decimal}
+use Rattle.text.specs.laws.DecimalLaws.{few_digits, digits_decimal}
 use Rattle.text.proofs.writing.put_number.Goals as goal
 
-abbrev digit : ℕ → List ℕ
-digit d = (48 + d) ∷ []
-
-pub returns-then-n-lt10 : goal.returns-then-n-lt10
-returns-then-n-lt10 c = rw (decimal_one c.args.n c.if-n-lt10.true) c.put_byte.ensures
-
+-- the first bytes of the small array are the digits
 pub returns : goal.returns
 returns c =
-    let n = c.args.n in
-    rw (decimal_two n c.if-n-lt10.false c.if-n-ge100.false)
-    (puts_more (digit (n / 10)) (digit (n % 10)) c.put_byte-units.ensures c.put_byte-2.ensures)
+    let k = c.decimal-k.result in
+    let e = c.decimal-k.ensures in
+    let few = few_digits c.args.n k c.ranges.n.fits e.len in
+    let spelt : take k c.decimal-k.new.out ≡ decimal c.args.n = e.digits ∙ digits_decimal 20 k c.args.n few e.len in
+    rw (← spelt) c.put_all.ensures

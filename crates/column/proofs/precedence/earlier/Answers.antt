@@ -1,8 +1,0 @@
-use borrow.Author.Tests.{eq-eqb, ne_eqb}
-use Rattle.column.proofs.precedence.earlier.Goals as goal
-
-pub returns-then-n-ne0 : goal.returns-then-n-ne0
-returns-then-n-ne0 c = rw (ne_eqb c.args.n 0 c.if-n-ne0.true)
-
-pub returns : goal.returns
-returns c = rw (eq-eqb c.args.n 0 c.if-n-ne0.false)

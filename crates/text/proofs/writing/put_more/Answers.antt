@@ -1,7 +1,0 @@
-use Rattle.std.proofs.Common.{[], ◌∷◌}
-use Rattle.text.specs.Text.{comma, decimal}
-use Rattle.text.specs.laws.WritingLaws.{puts_more}
-use Rattle.text.proofs.writing.put_more.Goals as goal
-
-pub returns : goal.returns
-returns c = puts_more (comma ∷ []) (decimal c.args.n) c.put_byte-number.ensures c.put_number.ensures
