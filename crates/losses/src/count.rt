@@ -12,6 +12,7 @@ use bank::bank::{Bank, Network, fresh};
 use bank::dispatch::dispatch;
 use bank::step::{halt, order};
 use column::error::Refusal;
+use column::packet::CAPACITY;
 use column::topology::check_tree;
 use column::tree::Tree;
 
@@ -83,19 +84,20 @@ fn dispatched(b: Bank, steps: usize, network: &mut Network) -> Bank
     }
 }
 
-// The bank with a set halted, at rest. The network is by value: each set is halted in the same bank.
-fn ended(b: Bank, set: u32, mut network: Network) -> Bank
-    ensures { result ≡ (ended (state b network.heads network.doors) set).bank }
+// The bank with a set halted, at rest. The network is copied: each set is halted in the same bank.
+fn ended(b: Bank, set: u32, network: &Network) -> Bank
+    ensures { result ≡ (ended (state b network.now.heads network.now.doors) set).bank }
 {
+    let mut network = *network;
     let halted = halt(b, set, &mut network).unwrap_or(b);
     dispatched(halted, TO_REST, &mut network)
 }
 
 // The counts over every set, the empty one too.
 #[tactic(auto, unfolding(crate::specs::Losses::counted))]
-fn count(b: Bank, network: Network) -> Losses
+fn count(b: Bank, network: &Network) -> Losses
     requires { b.tree.columns ≤ 8 }
-    ensures { result ≡ counted_of (state b network.heads network.doors) }
+    ensures { result ≡ counted_of (state b network.now.heads network.now.doors) }
 {
     let mut l = Losses {
         kept: 0,
@@ -113,9 +115,13 @@ pub fn count_losses(t: Tree, steps: usize) -> Result<Losses, Refusal>
     ensures { meant result ≡ losses_given t steps }
 {
     check_losses(t)?;
-    let mut network = Network::EMPTY;
+    // Written out: of the constant the compiler would make a copy more on the stack.
+    let mut network = Network {
+        heads: [0; CAPACITY],
+        doors: [0; CAPACITY],
+    };
     let first = fresh(t)?;
     let ordered = order(first, 0, &mut network).unwrap_or(first);
     let begun = dispatched(ordered, steps, &mut network);
-    Ok(count(begun, network))
+    Ok(count(begun, &network))
 }

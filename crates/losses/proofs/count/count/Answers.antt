@@ -1,5 +1,5 @@
 -- No count is above the sets before this one, of which there are fewer than 256.
-use Rattle.std.proofs.Common.{ℕ, ◌^◌, ◌%◌, ◌*◌, ◌≤◌, ◌<◌, ◌≡◌, Bool, arith, pow_mono, subst, sym}
+use Rattle.std.proofs.Common.{ℕ, ◌≤◌, ◌<◌, Bool, arith, pow_mono, subst, sym}
 use Rattle.std.proofs.lemmas.Nat.{one_shl}
 use Rattle.column.specs.declared.tree.Tree.{Tree}
 use Rattle.losses.specs.Losses.{counted}
